@@ -1,0 +1,40 @@
+ghost use Rattle.std.specs.Prelude.{◌≡◌, ℕ, ◌≤◌, List, Option};
+ghost use Rattle.pb_outside.specs.Shelf.{Files, IsContent, FaultsOf, TakenOf};
+
+use std::alloc::{AllocError, Global};
+
+/// The most bytes that any file may have.
+pub const FILE_LIMIT: u64 = 100_663_296;
+
+/// What taking a file gives.
+#[derive(Drop)]
+pub enum Take {
+    /// All its bytes.
+    Got(Vec<u8>),
+    /// It is longer than the limit.
+    Long,
+    /// No such file is there.
+    Missing,
+    /// It couldn't be read.
+    Failed,
+}
+
+/// Where files are taken from.
+pub trait Shelf {
+    /// The files by name, where they are told.
+    ghost files: { Self → Option Files };
+
+    /// How often a file couldn't be read; it stands still at its type's end.
+    ghost faults: { Self → ℕ };
+
+    /// How many bytes were read; it stands still at its type's end.
+    ghost taken: { Self → ℕ };
+
+    /// Takes a file of at most `limit` bytes.
+    fn take(&mut self, alloc: Global, name: &str, limit: u64) -> Result<Take, AllocError>
+        requires { limit ≤ FILE_LIMIT }
+        ensures content { IsContent (files self.old) name.now limit result }
+        ensures faults { FaultsOf result (faults self.old) (faults self.new) }
+        ensures taken { TakenOf limit result (taken self.old) (taken self.new) }
+        ensures stays { files self.new ≡ files self.old };
+}
