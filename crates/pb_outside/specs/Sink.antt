@@ -12,7 +12,7 @@ abbrev pub Puts : List ℕ → Result ℕ Refused → Option (List ℕ) → Opti
 Puts piece (Ok count) before now = (0 < count) × (count ≤ length piece) × (now ≡ appended (take count piece) before)
 Puts piece (Err refused) before now = now ≡ before
 
--- the count of faults never falls, and rises where nothing is put
+-- the count of faults rises in a put that is refused, and in no other
 abbrev pub FaultsOf : Result ℕ Refused → ℕ → ℕ → Type 0
-FaultsOf (Ok count) before now = before ≤ now
+FaultsOf (Ok count) before now = now ≡ before
 FaultsOf (Err refused) before now = RoseBy 1 before now

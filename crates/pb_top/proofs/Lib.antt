@@ -1,0 +1,9 @@
+pub mod TokenLemmas
+pub mod ProgramLemmas
+pub mod FrameLemmas
+pub mod SinkLemmas
+pub mod SumLemmas
+pub mod RunLemmas
+pub mod FileLemmas
+pub mod AnswerLemmas
+pub mod EndLemmas

@@ -1,0 +1,11 @@
+pub mod Sinks
+pub mod Texts
+pub mod Reply
+pub mod Tokens
+pub mod Program
+pub mod Found
+pub mod OneRule
+pub mod Answer
+pub mod Ends
+pub mod Sums
+pub mod Working

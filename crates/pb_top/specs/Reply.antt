@@ -1,0 +1,25 @@
+-- What a command answers: its status, and the bytes for each sink.
+use Rattle.std.specs.Prelude.{ℕ, List, []}
+use Rattle.pb_top.specs.Texts.{no_file_line, file_too_long_line, not_built_line}
+
+pub record Reply : Type 0 where
+  pub status : ℕ
+  pub out : List ℕ
+  pub err : List ℕ
+
+-- status 0 with a text for `out`
+abbrev pub done : List ℕ → Reply
+done text = record { status = 0; out = text; err = [] }
+
+-- another status with a line for `err`
+abbrev pub refused : ℕ → List ℕ → Reply
+refused status line = record { status = status; out = []; err = line }
+
+abbrev pub no_file : List ℕ → Reply
+no_file word = refused 14 (no_file_line word)
+
+abbrev pub file_too_long : List ℕ → Reply
+file_too_long word = refused 14 (file_too_long_line word)
+
+abbrev pub not_built : Reply
+not_built = refused 12 not_built_line

@@ -1,0 +1,50 @@
+-- What a call does to a sink and to a shelf.
+use Rattle.std.specs.Prelude.{◌≡◌, ℕ, ◌<◌, List, length, take, Option, Result, Ok, Err}
+use Rattle.pb_outside.specs.Count.{RoseBy}
+use Rattle.pb_outside.specs.Shelf.{Files}
+use Rattle.pb_outside.specs.Sink.{appended}
+use Rattle.pb_outside.specs.declared.sink.Refused.{Refused}
+
+-- a sink before and after a call: its bytes, where they are told, and its count of faults
+pub record SinkChange : Type 0 where
+  pub before : Option (List ℕ)
+  pub now : Option (List ℕ)
+  pub faults_before : ℕ
+  pub faults_now : ℕ
+
+-- a shelf before and after a call: its files, where they are told, and its count of faults
+pub record ShelfChange : Type 0 where
+  pub before : Option Files
+  pub now : Option Files
+  pub faults_before : ℕ
+  pub faults_now : ℕ
+
+-- the change of a sink whose type has these meanings
+abbrev pub sink_change : {S : Type 0} → (S → Option (List ℕ)) → (S → ℕ) → S → S → SinkChange
+sink_change written faults old new =
+    record { before = written old; now = written new; faults_before = faults old; faults_now = faults new }
+
+-- the change of a shelf whose type has these meanings
+abbrev pub shelf_change : {S : Type 0} → (S → Option Files) → (S → ℕ) → S → S → ShelfChange
+shelf_change files faults old new =
+    record { before = files old; now = files new; faults_before = faults old; faults_now = faults new }
+
+-- the sink gained just this text
+abbrev pub Gains : List ℕ → SinkChange → Type 0
+Gains text sink = sink.now ≡ appended text sink.before
+
+-- the sink gained nothing
+abbrev pub Stays : SinkChange → Type 0
+Stays sink = sink.now ≡ sink.before
+
+-- a put of the text was refused: the sink gained what came before it
+pub record Breaks (text : List ℕ) (sink : SinkChange) : Type 0 where
+  pub cause : RoseBy 1 sink.faults_before sink.faults_now
+  pub put : ℕ
+  pub short : put < length text
+  pub gained : Gains (take put text) sink
+
+-- the whole text was put, or a put of it was refused
+abbrev pub PutsAll : List ℕ → Result (Unit {0}) Refused → SinkChange → Type 0
+PutsAll text (Ok done) sink = Gains text sink × (sink.faults_now ≡ sink.faults_before)
+PutsAll text (Err refused) sink = Breaks text sink

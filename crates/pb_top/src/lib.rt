@@ -1,0 +1,16 @@
+//! The top call: from the words of the command line and the files of a shelf to the bytes on two sinks.
+//!
+//! In: words, a shelf, two sinks. Out: the status, and the text of the answer on one of the sinks. The one
+//! theorem is the clause `ends` of `pb_command`, and `pb_alone` has the same: `specs/Ends.antt` says how a call
+//! ends, over `specs/Answer.antt`, which says what words and files have for an answer.
+#![tactic(auto)]
+
+mod answer;
+mod command;
+mod files;
+mod one_rule;
+mod program;
+mod put;
+mod tokens;
+
+pub use command::{pb_alone, pb_command};
