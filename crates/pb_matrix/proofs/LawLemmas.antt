@@ -1,0 +1,169 @@
+-- The text that is written spells its matrix.
+use Rattle.std.proofs.Common.{◌≡◌, ℕ, zero, suc, ◌-◌, ◌*◌, ◌^◌, ◌<◌, ◌≤◌, Bool, true, false, ◌==◌, List, [], ◌∷◌, ◌++◌, length, get_or, take, drop, map, flat_map, codes, decimal, ℤ, pos, negsuc, neg_ℤ, Ok, IsTrue, All, ◌⊎◌, lit<, inl, inr, refl, sym, ap, ◌∙◌, subst, arith, rules}
+use Rattle.std.specs.Fmt.{signed_decimal}
+use Rattle.std.specs.List.{AllByRecursion, AllZip, join_with_byte, slice_split}
+use Rattle.std.specs.Str.Lines.{lines}
+use Rattle.std.specs.Str.Parse.{AllDigits}
+use Rattle.std.proofs.lemmas.Bool.{ltb-true, ne_eqb}
+use Rattle.std.proofs.lemmas.Bool.Decides.{nat_tests}
+use Rattle.std.proofs.lemmas.Fmt.{decimal_is_IsNumeral, decimal_digit, first_decimal}
+use Rattle.std.proofs.lemmas.List.{append_assoc, take-append-drop, map-append, length-drop, nil_from_length}
+use Rattle.std.proofs.lemmas.List.Elements.{All-from_recursion, recursion_from_All, All-weaker, All-map, All-take, All-drop}
+use Rattle.std.proofs.lemmas.List.Splits.{slice_split_none, slice_split_at}
+use Rattle.std.proofs.lemmas.Str.Parse.{digit_from_value}
+use Rattle.pb_values.specs.declared.shape.Shape.{Shape}
+use Rattle.pb_values.specs.Checked.{fits_i64}
+use Rattle.pb_matrix.specs.Words.{is_blank, is_gap, is_line_end, has_bytes, words}
+use Rattle.pb_matrix.specs.Header.{IsMatrixShape, cell_count}
+use Rattle.pb_matrix.specs.declared.header.TheConstants.{MAX_CELLS}
+use Rattle.pb_matrix.specs.Reading.{matrix_read}
+use Rattle.pb_matrix.specs.Spelling.{SpellsNumber, SpellsSide, SpellsShape, LinesSpell, header}
+use Rattle.pb_matrix.specs.Text.{header_words, rows, matrix_rows, row_text, matrix_text}
+use Rattle.pb_matrix.proofs.LineLemmas.{body_words}
+use Rattle.pb_matrix.proofs.SpellLemmas.{spelled_lines}
+use Rattle.pb_matrix.proofs.WordLemmas.{words-append, first_part}
+
+-- bytes that are no gap, at least one
+record IsWord (w : List ℕ) : Type 0 where
+  bytes : AllByRecursion (λ b. 32 < b) w
+  some : has_bytes w ≡ true
+
+no_blank : (b : ℕ) → 32 < b → is_blank b ≡ false
+no_blank b h = grind (arith, nat_tests)
+
+no_gap : (b : ℕ) → 32 < b → is_gap b ≡ false
+no_gap b h = grind (arith, nat_tests)
+
+module _ (p : ℕ → Bool) (passes_over : (b : ℕ) → 32 < b → p b ≡ false) where
+  one_word : (w : List ℕ) → IsWord w → words p w ≡ w ∷ []
+  one_word w word =
+      let whole : slice_split p w ≡ w ∷ [] = slice_split_none p w (All-weaker (λ b. 32 < b) (λ b. p b ≡ false) passes_over w (All-from_recursion (λ b. 32 < b) w word.bytes)) in
+      rw (whole, word.some) refl
+
+  -- words with single blanks between them
+  words_joined : p 32 ≡ true → (ws : List (List ℕ)) → AllByRecursion IsWord ws → words p (join_with_byte 32 ws) ≡ ws
+  words_joined cut [] all = refl
+  words_joined cut (w ∷ []) all = one_word w all.0
+  words_joined cut (w ∷ v ∷ vs) all = words-append p w (join_with_byte 32 (v ∷ vs)) 32 cut ∙ rw (one_word w all.0, words_joined cut (v ∷ vs) all.1) refl
+
+-- a line of words has no LF, and no CR at its end
+above_append : (xs ys : List ℕ) → AllByRecursion (λ b. 31 < b) xs → AllByRecursion (λ b. 31 < b) ys → AllByRecursion (λ b. 31 < b) (xs ++ ys)
+above_append [] ys h k = k
+above_append (x ∷ xs) ys h k = (h.0, above_append xs ys h.1 k)
+
+word_above : (w : List ℕ) → AllByRecursion (λ b. 32 < b) w → AllByRecursion (λ b. 31 < b) w
+word_above [] h = tt
+word_above (x ∷ xs) h = (omega (arith, h.0), word_above xs h.1)
+
+joined_above : (ws : List (List ℕ)) → AllByRecursion IsWord ws → AllByRecursion (λ b. 31 < b) (join_with_byte 32 ws)
+joined_above [] all = tt
+joined_above (w ∷ []) all = word_above w all.0.bytes
+joined_above (w ∷ v ∷ vs) all = above_append w (32 ∷ join_with_byte 32 (v ∷ vs)) (word_above w all.0.bytes) (omega arith, joined_above (v ∷ vs) all.1)
+
+no_return : (l : List ℕ) (k : ℕ) → AllByRecursion (λ b. 31 < b) l → get_or l k 0 ≡ 13 → ⊥
+no_return [] k h e = absurd (cc)
+no_return (x ∷ xs) zero h e = omega (arith, h.0, e)
+no_return (x ∷ xs) (suc k) h e = no_return xs k h.1 e
+
+not_line_end : (b : ℕ) → 31 < b → is_line_end b ≡ false
+not_line_end b h = grind (arith, nat_tests)
+
+-- a line, and what follows it
+first_of_lines : (l rest : List ℕ) → AllByRecursion (λ b. 31 < b) l → lines ((l ++ 10 ∷ []) ++ rest) ≡ l ∷ lines rest
+first_of_lines l rest above =
+    let parts : slice_split is_line_end (l ++ 10 ∷ rest) ≡ l ∷ slice_split is_line_end rest =
+    slice_split_at is_line_end l 10 rest (All-weaker (λ b. 31 < b) (λ b. is_line_end b ≡ false) not_line_end l (All-from_recursion (λ b. 31 < b) l above)) refl in
+    let plain : (get_or l (length l - 1) 0 == 13) ≡ false = ne_eqb (get_or l (length l - 1) 0) 13 (no_return l (length l - 1) above) in
+    rw (append_assoc l (10 ∷ []) rest, parts, first_part is_line_end rest, plain) refl
+
+-- numbers
+digit_bytes : (ds : List ℕ) → AllDigits 10 ds → AllByRecursion (λ b. 32 < b) ds
+digit_bytes [] h = tt
+digit_bytes (c ∷ cs) h = let digit = digit_from_value c h.0 in (omega arith, digit_bytes cs h.1)
+
+some_bytes : (ds : List ℕ) → 0 < length ds → has_bytes ds ≡ true
+some_bytes [] h = absurd (omega arith)
+some_bytes (_ ∷ _) h = refl
+
+decimal_word : (n : ℕ) → n < 2 ^ 64 → IsWord (decimal n)
+decimal_word n h = let numeral = (decimal_is_IsNumeral n h).0 in record { bytes = digit_bytes (decimal n) numeral.1; some = some_bytes (decimal n) numeral.0 }
+
+cell_word : (z : ℤ) → IsTrue (fits_i64 z) → IsWord (signed_decimal z)
+cell_word (pos n) fits = decimal_word n (omega (arith, ltb-true n (2 ^ 63) fits))
+cell_word (negsuc n) fits =
+    let digits = decimal_word (suc n) (omega (arith, ltb-true n (2 ^ 63) fits)) in
+    record { bytes = (omega arith, digits.bytes); some = refl }
+
+cell_spelled : (z : ℤ) → IsTrue (fits_i64 z) → SpellsNumber (signed_decimal z) z
+cell_spelled (pos n) fits =
+    let is = decimal_is_IsNumeral n (omega (arith, ltb-true n (2 ^ 63) fits)) in
+    (inl (is.0, ap pos (sym is.1)), fits)
+cell_spelled (negsuc n) fits =
+    let is = decimal_is_IsNumeral (suc n) (omega (arith, ltb-true n (2 ^ 63) fits)) in
+    (inr (decimal (suc n), refl, is.0, sym (ap (λ m. neg_ℤ (pos m)) is.1)), fits)
+
+cells_spelled : (cells : List ℤ) → AllByRecursion (λ z. IsTrue (fits_i64 z)) cells → AllZip SpellsNumber (map signed_decimal cells) cells
+cells_spelled [] fits = tt
+cells_spelled (z ∷ zs) fits = (cell_spelled z fits.0, cells_spelled zs fits.1)
+
+-- rows
+row_words : (row : List ℤ) → All (λ z. IsTrue (fits_i64 z)) row → AllByRecursion IsWord (map signed_decimal row)
+row_words row fits = recursion_from_All IsWord (map signed_decimal row) (All-map IsWord signed_decimal row (All-weaker (λ z. IsTrue (fits_i64 z)) (λ z. IsWord (signed_decimal z)) cell_word row fits))
+
+rows_words : (h w : ℕ) (cells : List ℤ) → length cells ≡ h * w → All (λ z. IsTrue (fits_i64 z)) cells → words is_gap (flat_map row_text (rows h w cells)) ≡ map signed_decimal cells
+rows_words zero w cells count fits = rw (nil_from_length cells (omega (arith, count))) refl
+rows_words (suc h) w cells count fits =
+    let row = map signed_decimal (take w cells) in
+    let behind = flat_map row_text (rows h w (drop w cells)) in
+    let later = rows_words h w (drop w cells) (omega (arith, length-drop w cells, count)) (All-drop (λ z. IsTrue (fits_i64 z)) w cells fits) in
+    ap (words is_gap) (append_assoc (join_with_byte 32 row) (10 ∷ []) behind) ∙ words-append is_gap (join_with_byte 32 row) behind 10 refl
+    ∙ rw (words_joined is_gap no_gap refl row (row_words (take w cells) (All-take (λ z. IsTrue (fits_i64 z)) w cells fits)), later)
+    (sym (map-append signed_decimal (take w cells) (drop w cells)) ∙ ap (map signed_decimal) (take-append-drop w cells))
+
+matrix_words : (s : Shape) (cells : List ℤ) → length cells ≡ cell_count s → All (λ z. IsTrue (fits_i64 z)) cells → words is_gap (flat_map row_text (matrix_rows s cells)) ≡ map signed_decimal cells
+matrix_words s [] count fits = refl
+matrix_words s (c ∷ cs) count fits = rows_words s.h s.w (c ∷ cs) (omega (arith, count)) fits
+
+-- the header
+side_written : (n : ℕ) → n ≤ MAX_CELLS → SpellsSide (decimal n) n
+side_written n most =
+    let is = decimal_is_IsNumeral n (omega arith) in
+    record { digits = is.0; plain = plain n (omega arith); value = is.1; most = most }
+  where
+    plain : (n : ℕ) → n < 2 ^ 64 → get_or (decimal n) 0 0 ≡ 48 → length (decimal n) ≡ 1
+    plain zero fits e = ap length (decimal_digit 0 (lit< tt))
+    plain (suc n) fits e = absurd (omega (arith, first_decimal (suc n) (omega arith) fits, e))
+
+record Written (s : Shape) : Type 0 where
+  words : AllByRecursion IsWord (header_words s)
+  shape : SpellsShape (header_words s) s
+
+header_written : (s : Shape) → IsMatrixShape s → Written s
+header_written s is = by_dims is.dims
+  where
+    name : IsWord (codes "matrix")
+    name = record { bytes = search rules; some = refl }
+
+    width : IsWord (decimal s.w)
+    width = decimal_word s.w (omega (arith, is.width))
+
+    by_dims : ((s.dims ≡ 1) × (s.h ≡ 1)) ⊎ (s.dims ≡ 2) → Written s
+    by_dims (inl (one, high)) =
+        let ws : header_words s ≡ codes "matrix" ∷ decimal s.w ∷ [] = rw one refl in
+        record { words = subst (λ list. AllByRecursion IsWord list) (sym ws) (name, (width, tt)); shape = subst (λ list. SpellsShape list s) (sym ws) (refl, side_written s.w is.width, one, high) }
+    by_dims (inr two) =
+        let ws : header_words s ≡ codes "matrix" ∷ decimal s.w ∷ decimal s.h ∷ [] = rw two refl in
+        record { words = subst (λ list. AllByRecursion IsWord list) (sym ws) (name, (width, (decimal_word s.h (omega (arith, is.height)), tt))); shape = subst (λ list. SpellsShape list s) (sym ws) (refl, side_written s.w is.width, side_written s.h is.height, two, is.cells) }
+
+pub read_again : (s : Shape) (cells : List ℤ) → IsMatrixShape s → length cells ≡ cell_count s → All (λ z. IsTrue (fits_i64 z)) cells
+    → matrix_read (matrix_text s cells) ≡ Ok (record { shape = s; cells = cells })
+read_again s cells is count fits =
+    let written = header_written s is in
+    let line = join_with_byte 32 (header_words s) in
+    let body = flat_map row_text (matrix_rows s cells) in
+    let named : words is_blank line ≡ header_words s = words_joined is_blank no_blank refl (header_words s) written.words in
+    let numbers : flat_map (words is_gap) (lines body) ≡ map signed_decimal cells = body_words body ∙ matrix_words s cells count fits in
+    let spelled : LinesSpell (line ∷ lines body) (record { shape = s; cells = cells }) =
+    header (subst (λ ws. SpellsShape ws s) (sym named) written.shape)
+    (subst (λ ws. AllZip SpellsNumber ws cells) (sym numbers) (cells_spelled cells (recursion_from_All (λ z. IsTrue (fits_i64 z)) cells fits))) count in
+    spelled_lines (subst (λ ls. LinesSpell ls (record { shape = s; cells = cells })) (sym (first_of_lines line body (joined_above (header_words s) written.words))) spelled)
