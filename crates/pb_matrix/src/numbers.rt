@@ -52,13 +52,6 @@ pub(crate) fn read_number(word: &[u8]) -> Option<i64>
             let value = read_digits(digits)?;
             Some(negated(value))
         }
-        digits => {
-            let value = read_digits(digits)?;
-            if value == MOST {
-                None
-            } else {
-                Some(value as i64)
-            }
-        }
+        digits => i64::try_from(read_digits(digits)?).ok(),
     }
 }

@@ -22,7 +22,7 @@ fn write_header(text: &mut Vec<u8>, shape: &Shape) -> Result<(), AllocError>
         text.push(b' ')?;
         text.extend_from_slice(buffer.format(shape.h).as_bytes())?;
     }
-    text.push(b'\n')?;
+    text.extend_from_slice(b"\n")?;
     Ok(())
 }
 
