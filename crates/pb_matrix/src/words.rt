@@ -17,7 +17,8 @@ pub(crate) fn cuts(cut: Cut, byte: u8) -> bool
 {
     match cut {
         Cut::AtBlanks => matches!(byte, b' ' | b'\t'),
-        Cut::AtGaps => matches!(byte, b' ' | b'\t' | b'\r' | b'\n'),
+        // One test suffices for the bytes of a number.
+        Cut::AtGaps => byte <= b' ' && matches!(byte, b' ' | b'\t' | b'\r' | b'\n'),
         Cut::AtLineEnds => byte == b'\n',
     }
 }
