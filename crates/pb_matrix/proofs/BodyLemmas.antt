@@ -17,7 +17,7 @@ read_on s cells [] = if nat_lt (length cells) (cell_count s) then Err (TooFew (c
 read_on s cells (w ∷ ws) = if length cells == cell_count s then Err (TooMany (cell_count s)) else elim (cell_number w) as (λ _. Result MatrixValue MatrixRefusal)
     [ Some z ↦ read_on s (cells ++ z ∷ []) ws | None ↦ Err (BadNumber (length cells)) ]
 
-abbrev is_faulty : List ℕ → Bool
+abbrev pub is_faulty : List ℕ → Bool
 is_faulty word = is_none (cell_number word)
 
 -- among words that are numbers none is faulty
@@ -45,7 +45,7 @@ numbers_done (w ∷ ws) (z ∷ zs) e =
     let number : cell_number w ≡ Some z = cc in
     rw number (ap (λ rest. z ∷ rest) (numbers_done ws zs (cc)))
 
-same_length : (done : List (List ℕ)) (cells : List ℤ) → map cell_number done ≡ map Some cells → length done ≡ length cells
+pub same_length : (done : List (List ℕ)) (cells : List ℤ) → map cell_number done ≡ map Some cells → length done ≡ length cells
 same_length done cells e = sym (length-map done cell_number) ∙ ap length e ∙ length-map cells Some
 
 take_past : (done : List (List ℕ)) (w : List ℕ) (ws : List (List ℕ)) (n m : ℕ) → n ≡ length done + suc m → take n (done ++ w ∷ ws) ≡ done ++ w ∷ take m ws

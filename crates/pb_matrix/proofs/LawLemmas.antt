@@ -1,23 +1,24 @@
 -- The text that is written spells its matrix.
-use Rattle.std.proofs.Common.{◌≡◌, ℕ, zero, suc, ◌-◌, ◌*◌, ◌^◌, ◌<◌, ◌≤◌, Bool, true, false, ◌==◌, List, [], ◌∷◌, ◌++◌, length, get_or, take, drop, map, flat_map, codes, decimal, ℤ, pos, negsuc, neg_ℤ, Ok, IsTrue, All, ◌⊎◌, lit<, inl, inr, refl, sym, ap, ◌∙◌, subst, arith, rules}
+use Rattle.std.proofs.Common.{◌≡◌, ℕ, zero, suc, ◌-◌, ◌*◌, ◌^◌, ◌<◌, ◌≤◌, Bool, true, false, ◌==◌, List, [], ◌∷◌, ◌++◌, length, get_or, take, drop, map, flat_map, codes, decimal, ℤ, pos, negsuc, Some, Ok, IsTrue, All, ◌⊎◌, lit<, inl, inr, refl, sym, ap, ◌∙◌, subst, arith, rules}
 use Rattle.std.specs.Fmt.{signed_decimal}
-use Rattle.std.specs.List.{AllByRecursion, AllZip, join_with_byte, slice_split}
+use Rattle.std.specs.List.{AllByRecursion, join_with_byte, slice_split}
+use Rattle.std.specs.Str.{all_ascii_digits}
 use Rattle.std.specs.Str.Lines.{lines}
-use Rattle.std.specs.Str.Parse.{AllDigits}
-use Rattle.std.proofs.lemmas.Bool.{ltb-true, ne_eqb}
+use Rattle.std.specs.Str.Parse.{IsNumeral, AllDigits, digits_value}
+use Rattle.std.proofs.lemmas.Bool.{ltb-true, le-leb, ne_eqb}
 use Rattle.std.proofs.lemmas.Bool.Decides.{nat_tests}
 use Rattle.std.proofs.lemmas.Fmt.{decimal_is_IsNumeral, decimal_digit, first_decimal}
 use Rattle.std.proofs.lemmas.List.{append_assoc, take-append-drop, map-append, length-drop, nil_from_length}
 use Rattle.std.proofs.lemmas.List.Elements.{All-from_recursion, recursion_from_All, All-weaker, All-map, All-take, All-drop}
 use Rattle.std.proofs.lemmas.List.Splits.{slice_split_none, slice_split_at}
-use Rattle.std.proofs.lemmas.Str.Parse.{digit_from_value}
+use Rattle.std.proofs.lemmas.Str.Parse.{digit_from_value, numerals_by_value, tells_all_ascii_digits}
 use Rattle.pb_values.specs.declared.shape.Shape.{Shape}
 use Rattle.pb_values.specs.Checked.{fits_i64}
-use Rattle.pb_matrix.specs.Words.{is_blank, is_gap, is_line_end, has_bytes, words}
-use Rattle.pb_matrix.specs.Header.{IsMatrixShape, cell_count}
+use Rattle.pb_matrix.specs.Words.{is_blank, is_gap, is_line_end, has_bytes, words, is_digits, in_cell, cell_number}
+use Rattle.pb_matrix.specs.Header.{has_leading_zero, side, header_shape, IsMatrixShape, cell_count}
 use Rattle.pb_matrix.specs.declared.header.TheConstants.{MAX_CELLS}
 use Rattle.pb_matrix.specs.Reading.{matrix_read}
-use Rattle.pb_matrix.specs.Spelling.{SpellsNumber, SpellsSide, SpellsShape, LinesSpell, header}
+use Rattle.pb_matrix.specs.Spelling.{LinesSpell, header}
 use Rattle.pb_matrix.specs.Text.{header_words, rows, matrix_rows, row_text, matrix_text}
 use Rattle.pb_matrix.proofs.LineLemmas.{body_words}
 use Rattle.pb_matrix.proofs.SpellLemmas.{spelled_lines}
@@ -94,17 +95,30 @@ cell_word (negsuc n) fits =
     let digits = decimal_word (suc n) (omega (arith, ltb-true n (2 ^ 63) fits)) in
     record { bytes = (omega arith, digits.bytes); some = refl }
 
-cell_spelled : (z : ℤ) → IsTrue (fits_i64 z) → SpellsNumber (signed_decimal z) z
-cell_spelled (pos n) fits =
-    let is = decimal_is_IsNumeral n (omega (arith, ltb-true n (2 ^ 63) fits)) in
-    (inl (is.0, ap pos (sym is.1)), fits)
-cell_spelled (negsuc n) fits =
-    let is = decimal_is_IsNumeral (suc n) (omega (arith, ltb-true n (2 ^ 63) fits)) in
-    (inr (decimal (suc n), refl, is.0, sym (ap (λ m. neg_ℤ (pos m)) is.1)), fits)
+digits_from : (ds : List ℕ) → IsNumeral 10 ds → is_digits ds ≡ true
+digits_from [] n = absurd (omega arith)
+digits_from (c ∷ cs) n = (numerals_by_value (λ ds. all_ascii_digits ds ≡ true) tells_all_ascii_digits).from (c ∷ cs) n.1
 
-cells_spelled : (cells : List ℤ) → AllByRecursion (λ z. IsTrue (fits_i64 z)) cells → AllZip SpellsNumber (map signed_decimal cells) cells
-cells_spelled [] fits = tt
-cells_spelled (z ∷ zs) fits = (cell_spelled z fits.0, cells_spelled zs fits.1)
+in_cell_fits : (ds : List ℕ) (z : ℤ) → IsNumeral 10 ds → IsTrue (fits_i64 z) → in_cell ds z ≡ Some z
+in_cell_fits ds z n fits = rw (digits_from ds n, fits) refl
+
+plain_number : (ds : List ℕ) → IsNumeral 10 ds → IsTrue (fits_i64 (pos (digits_value 10 ds))) → cell_number ds ≡ Some (pos (digits_value 10 ds))
+plain_number [] n fits = absurd (omega arith)
+plain_number (c ∷ cs) n fits =
+    let digit = digit_from_value c n.1.0 in
+    rw (ne_eqb c 45 (λ e. omega arith)) (in_cell_fits (c ∷ cs) (pos (digits_value 10 (c ∷ cs))) n fits)
+
+number_written : (z : ℤ) → IsTrue (fits_i64 z) → cell_number (signed_decimal z) ≡ Some z
+number_written (pos n) fits =
+    let is = decimal_is_IsNumeral n (omega (arith, ltb-true n (2 ^ 63) fits)) in
+    rw is.1 at (plain_number (decimal n) is.0 (rw is.1 fits))
+number_written (negsuc n) fits =
+    let is = decimal_is_IsNumeral (suc n) (omega (arith, ltb-true n (2 ^ 63) fits)) in
+    rw is.1 (in_cell_fits (decimal (suc n)) (negsuc n) is.0 fits)
+
+numbers_written : (cells : List ℤ) → AllByRecursion (λ z. IsTrue (fits_i64 z)) cells → map cell_number (map signed_decimal cells) ≡ map Some cells
+numbers_written [] fits = refl
+numbers_written (z ∷ zs) fits = rw (number_written z fits.0, numbers_written zs fits.1) refl
 
 -- rows
 row_words : (row : List ℤ) → All (λ z. IsTrue (fits_i64 z)) row → AllByRecursion IsWord (map signed_decimal row)
@@ -125,18 +139,26 @@ matrix_words s [] count fits = refl
 matrix_words s (c ∷ cs) count fits = rows_words s.h s.w (c ∷ cs) (omega (arith, count)) fits
 
 -- the header
-side_written : (n : ℕ) → n ≤ MAX_CELLS → SpellsSide (decimal n) n
+no_zero : (ds : List ℕ) → 48 < get_or ds 0 0 → has_leading_zero ds ≡ false
+no_zero [] h = refl
+no_zero (c ∷ []) h = refl
+no_zero (c ∷ d ∷ ds) h = ne_eqb c 48 (λ e. omega arith)
+
+plain_decimal : (n : ℕ) → n < 2 ^ 64 → has_leading_zero (decimal n) ≡ false
+plain_decimal zero h = rw (decimal_digit 0 (lit< tt)) refl
+plain_decimal (suc n) h = no_zero (decimal (suc n)) (first_decimal (suc n) (omega arith) h)
+
+side_written : (n : ℕ) → n ≤ MAX_CELLS → side (decimal n) ≡ Some n
 side_written n most =
     let is = decimal_is_IsNumeral n (omega arith) in
-    record { digits = is.0; plain = plain n (omega arith); value = is.1; most = most }
-  where
-    plain : (n : ℕ) → n < 2 ^ 64 → get_or (decimal n) 0 0 ≡ 48 → length (decimal n) ≡ 1
-    plain zero fits e = ap length (decimal_digit 0 (lit< tt))
-    plain (suc n) fits e = absurd (omega (arith, first_decimal (suc n) (omega arith) fits, e))
+    rw (digits_from (decimal n) is.0, plain_decimal n (omega arith), is.1, le-leb n MAX_CELLS most) refl
+
+same_shape : (s : Shape) (d h : ℕ) → s.dims ≡ d → s.h ≡ h → record { dims = d; w = s.w; h = h } ≡ s
+same_shape s d h e f = rw (← e, ← f) refl
 
 record Written (s : Shape) : Type 0 where
   words : AllByRecursion IsWord (header_words s)
-  shape : SpellsShape (header_words s) s
+  shape : header_shape (header_words s) ≡ Some s
 
 header_written : (s : Shape) → IsMatrixShape s → Written s
 header_written s is = by_dims is.dims
@@ -150,10 +172,10 @@ header_written s is = by_dims is.dims
     by_dims : ((s.dims ≡ 1) × (s.h ≡ 1)) ⊎ (s.dims ≡ 2) → Written s
     by_dims (inl (one, high)) =
         let ws : header_words s ≡ codes "matrix" ∷ decimal s.w ∷ [] = rw one refl in
-        record { words = subst (λ list. AllByRecursion IsWord list) (sym ws) (name, (width, tt)); shape = subst (λ list. SpellsShape list s) (sym ws) (refl, side_written s.w is.width, one, high) }
+        record { words = subst (λ list. AllByRecursion IsWord list) (sym ws) (name, (width, tt)); shape = rw (ws, side_written s.w is.width) (ap Some (same_shape s 1 1 one high)) }
     by_dims (inr two) =
         let ws : header_words s ≡ codes "matrix" ∷ decimal s.w ∷ decimal s.h ∷ [] = rw two refl in
-        record { words = subst (λ list. AllByRecursion IsWord list) (sym ws) (name, (width, (decimal_word s.h (omega (arith, is.height)), tt))); shape = subst (λ list. SpellsShape list s) (sym ws) (refl, side_written s.w is.width, side_written s.h is.height, two, is.cells) }
+        record { words = subst (λ list. AllByRecursion IsWord list) (sym ws) (name, (width, (decimal_word s.h (omega (arith, is.height)), tt))); shape = rw (ws, side_written s.w is.width, side_written s.h is.height, le-leb (s.w * s.h) MAX_CELLS is.cells) (ap Some (same_shape s 2 s.h two refl)) }
 
 pub read_again : (s : Shape) (cells : List ℤ) → IsMatrixShape s → length cells ≡ cell_count s → All (λ z. IsTrue (fits_i64 z)) cells
     → matrix_read (matrix_text s cells) ≡ Ok (record { shape = s; cells = cells })
@@ -164,6 +186,5 @@ read_again s cells is count fits =
     let named : words is_blank line ≡ header_words s = words_joined is_blank no_blank refl (header_words s) written.words in
     let numbers : flat_map (words is_gap) (lines body) ≡ map signed_decimal cells = body_words body ∙ matrix_words s cells count fits in
     let spelled : LinesSpell (line ∷ lines body) (record { shape = s; cells = cells }) =
-    header (subst (λ ws. SpellsShape ws s) (sym named) written.shape)
-    (subst (λ ws. AllZip SpellsNumber ws cells) (sym numbers) (cells_spelled cells (recursion_from_All (λ z. IsTrue (fits_i64 z)) cells fits))) count in
+    header (ap header_shape named ∙ written.shape) (ap (map cell_number) numbers ∙ numbers_written cells (recursion_from_All (λ z. IsTrue (fits_i64 z)) cells fits)) count in
     spelled_lines (subst (λ ls. LinesSpell ls (record { shape = s; cells = cells })) (sym (first_of_lines line body (joined_above (header_words s) written.words))) spelled)

@@ -2,7 +2,7 @@ ghost use Rattle.std.specs.Prelude.{◌≡◌, ◌≤◌, ◌<◌, ◌∷◌, le
 ghost use Rattle.std.specs.List.{list_all};
 ghost use Rattle.std.specs.Option.{ForSome};
 ghost use Rattle.std.specs.Str.Lines.{lines, strip_carriage_return};
-ghost use Rattle.pb_matrix.specs.Header.{side, header_shape, cell_count, one_side, two_sides};
+ghost use Rattle.pb_matrix.specs.Header.{side, header_shape, one_side, two_sides, IsMatrixShape};
 ghost use Rattle.pb_matrix.specs.Words.{is_blank, is_gap, words};
 ghost use Rattle.pb_matrix.specs.Reading.{matrix_read, behind_header};
 
@@ -28,15 +28,17 @@ fn read_side(word: &[u8]) -> Option<u64>
 fn one_side(width: Option<u64>) -> Option<Shape>
     requires { ForSome width (λ w. w ≤ MAX_CELLS) }
     ensures shape { result ≡ one_side width }
-    ensures most { IfSome result (λ shape. cell_count shape ≤ MAX_CELLS) }
+    ensures most { IfSome result IsMatrixShape }
 {
     let w = width?;
     Some(Shape { dims: 1, w, h: 1 })
 }
 
 fn two_sides(width: Option<u64>, height: Option<u64>) -> Option<Shape>
+    requires width { ForSome width (λ w. w ≤ MAX_CELLS) }
+    requires height { ForSome height (λ h. h ≤ MAX_CELLS) }
     ensures shape { result ≡ two_sides width height }
-    ensures most { IfSome result (λ shape. cell_count shape ≤ MAX_CELLS) }
+    ensures most { IfSome result IsMatrixShape }
 {
     let w = width?;
     let h = height?;
@@ -50,7 +52,7 @@ fn two_sides(width: Option<u64>, height: Option<u64>) -> Option<Shape>
 #[tactic(auto, using(crate::proofs::HeaderLemmas::other_name))]
 pub(crate) fn read_header(line: &[u8]) -> Option<Shape>
     ensures named { result ≡ header_shape (words is_blank line.now) }
-    ensures most { IfSome result (λ shape. cell_count shape ≤ MAX_CELLS) }
+    ensures most { IfSome result IsMatrixShape }
 {
     let (name, rest) = next_word(Cut::AtBlanks, line)?;
     let (width, rest) = next_word(Cut::AtBlanks, rest)?;

@@ -5,7 +5,7 @@ ghost use Rattle.pb_matrix.specs.Header.{IsMatrixShape, cell_count};
 ghost use Rattle.pb_matrix.specs.Reading.{matrix_read, body_read, Reads};
 ghost use Rattle.pb_matrix.specs.Spelling.{Spells};
 
-use crate::header::{MAX_CELLS, read_header, split_header};
+use crate::header::{read_header, split_header};
 use crate::matrix::{Matrix, MatrixRefusal};
 use crate::numbers::read_number;
 use crate::words::{Cut, next_word};
@@ -15,8 +15,10 @@ use std::alloc::Global;
 // Reads the cells; takes memory for no more than can stand in the text.
 #[tactic(auto, using(crate::proofs::BodyLemmas::read_whole))]
 fn read_body(alloc: Global, shape: Shape, text: &[u8]) -> Result<Matrix, MatrixRefusal>
-    requires { cell_count shape ≤ MAX_CELLS }
-    ensures { Reads result (body_read shape (words is_gap text.now)) }
+    requires { IsMatrixShape shape }
+    ensures reads { Reads result (body_read shape (words is_gap text.now)) }
+    ensures shape { IfOk result (λ matrix. IsMatrixShape matrix.shape) }
+    ensures cells { IfOk result (λ matrix. length matrix.cells ≡ cell_count matrix.shape) }
 {
     let wanted = shape.w * shape.h;
     let mut cells = Vec::with_capacity(alloc, (text.len() / 2 + 1).min(wanted as usize))?;
@@ -40,7 +42,9 @@ fn read_body(alloc: Global, shape: Shape, text: &[u8]) -> Result<Matrix, MatrixR
 }
 
 fn read_text(alloc: Global, bytes: &[u8]) -> Result<Matrix, MatrixRefusal>
-    ensures { Reads result (matrix_read bytes.now) }
+    ensures reads { Reads result (matrix_read bytes.now) }
+    ensures shape { IfOk result (λ matrix. IsMatrixShape matrix.shape) }
+    ensures cells { IfOk result (λ matrix. length matrix.cells ≡ cell_count matrix.shape) }
 {
     let Some((line, body)) = split_header(bytes) else {
         return Err(MatrixRefusal::BadHeader);
