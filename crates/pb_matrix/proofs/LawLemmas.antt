@@ -22,7 +22,7 @@ use Rattle.pb_matrix.specs.Spelling.{LinesSpell, header}
 use Rattle.pb_matrix.specs.Text.{header_words, rows, matrix_rows, row_text, matrix_text}
 use Rattle.pb_matrix.proofs.LineLemmas.{body_words}
 use Rattle.pb_matrix.proofs.SpellLemmas.{spelled_lines}
-use Rattle.pb_matrix.proofs.WordLemmas.{words-append, first_part}
+use Rattle.pb_matrix.proofs.WordLemmas.{some_bytes, words-append, first_part}
 
 -- bytes that are no gap, at least one
 record IsWord (w : List ℕ) : Type 0 where
@@ -36,16 +36,16 @@ no_gap : (b : ℕ) → 32 < b → is_gap b ≡ false
 no_gap b h = grind (arith, nat_tests)
 
 module _ (p : ℕ → Bool) (passes_over : (b : ℕ) → 32 < b → p b ≡ false) where
-  one_word : (w : List ℕ) → IsWord w → words p w ≡ w ∷ []
-  one_word w word =
+  word_alone : (w : List ℕ) → IsWord w → words p w ≡ w ∷ []
+  word_alone w word =
       let whole : slice_split p w ≡ w ∷ [] = slice_split_none p w (All-weaker (λ b. 32 < b) (λ b. p b ≡ false) passes_over w (All-from_recursion (λ b. 32 < b) w word.bytes)) in
       rw (whole, word.some) refl
 
   -- words with single blanks between them
   words_joined : p 32 ≡ true → (ws : List (List ℕ)) → AllByRecursion IsWord ws → words p (join_with_byte 32 ws) ≡ ws
   words_joined cut [] all = refl
-  words_joined cut (w ∷ []) all = one_word w all.0
-  words_joined cut (w ∷ v ∷ vs) all = words-append p w (join_with_byte 32 (v ∷ vs)) 32 cut ∙ rw (one_word w all.0, words_joined cut (v ∷ vs) all.1) refl
+  words_joined cut (w ∷ []) all = word_alone w all.0
+  words_joined cut (w ∷ v ∷ vs) all = words-append p w (join_with_byte 32 (v ∷ vs)) 32 cut ∙ rw (word_alone w all.0, words_joined cut (v ∷ vs) all.1) refl
 
 -- a line of words has no LF, and no CR at its end
 above_append : (xs ys : List ℕ) → AllByRecursion (λ b. 31 < b) xs → AllByRecursion (λ b. 31 < b) ys → AllByRecursion (λ b. 31 < b) (xs ++ ys)
@@ -82,9 +82,6 @@ digit_bytes : (ds : List ℕ) → AllDigits 10 ds → AllByRecursion (λ b. 32 <
 digit_bytes [] h = tt
 digit_bytes (c ∷ cs) h = let digit = digit_from_value c h.0 in (omega arith, digit_bytes cs h.1)
 
-some_bytes : (ds : List ℕ) → 0 < length ds → has_bytes ds ≡ true
-some_bytes [] h = absurd (omega arith)
-some_bytes (_ ∷ _) h = refl
 
 decimal_word : (n : ℕ) → n < 2 ^ 64 → IsWord (decimal n)
 decimal_word n h = let numeral = (decimal_is_IsNumeral n h).0 in record { bytes = digit_bytes (decimal n) numeral.1; some = some_bytes (decimal n) numeral.0 }

@@ -1,31 +1,37 @@
 -- The lines of a text, one at a time, and the words of all lines.
-use Rattle.std.proofs.Common.{◌≡◌, ℕ, ◌+◌, ◌-◌, ◌<◌, Bool, true, false, List, [], ◌∷◌, ◌++◌, length, get_or, take, drop, flat_map, ◌==◌, if◌then◌else◌, refl, sym, ap, ◌∙◌, arith}
-use Rattle.std.specs.List.{slice_split, position_or_len, join_with_byte, list_all}
+use Rattle.std.proofs.Common.{◌≡◌, ℕ, ◌+◌, ◌-◌, ◌<◌, Bool, true, false, not, List, [], ◌∷◌, ◌++◌, length, get_or, take, drop, flat_map, ◌==◌, if◌then◌else◌, refl, sym, ap, ◌∙◌, arith}
+use Rattle.std.specs.List.{slice_split, position_or_len, before_first, after_first, join_with_byte, list_all}
 use Rattle.std.specs.Str.Lines.{lines, lines_of_parts, strip_carriage_return}
-use Rattle.std.proofs.lemmas.List.{drop_more, take_all, drop_all, append-nil, take-append-drop}
+use Rattle.std.proofs.lemmas.List.{drop_more, take_all, drop_all, append-nil, take-append-drop, length-take-le}
 use Rattle.std.proofs.lemmas.List.Splits.{join_with_byte-slice_split}
+use Rattle.std.proofs.lemmas.List.Sums.{prefix_len-le-length}
 use Rattle.std.proofs.lemmas.Bool.Decides.{nat_tests}
 use Rattle.pb_matrix.specs.Words.{is_line_end, is_blank, is_gap, words}
 use Rattle.pb_matrix.specs.Header.{header_shape}
 use Rattle.pb_matrix.specs.Reading.{matrix_read, behind_header}
 use Rattle.pb_matrix.proofs.WordLemmas.{rest_parts, first_part, words-append}
 
--- a line that an LF ends
-pub ended_line : (text : List ℕ) (n : ℕ) → n ≡ position_or_len is_line_end text → n < length text → lines text ≡ strip_carriage_return (take n text) ∷ lines (drop (n + 1) text)
-ended_line text n e h =
-    let parts : slice_split is_line_end text ≡ take n text ∷ rest_parts is_line_end (drop n text) = rw e (first_part is_line_end text) in
-    let cut : drop n text ≡ get_or text n 0 ∷ drop (n + 1) text = drop_more text n 0 h in
-    rw (parts, cut, first_part is_line_end (drop (n + 1) text)) refl
-
 not_zero : (n : ℕ) → 0 < n → (n == 0) ≡ false
 not_zero n h = grind (arith, nat_tests)
 
+-- a line that an LF ends
+pub ended_line : (text line rest : List ℕ) → line ≡ before_first is_line_end text → rest ≡ after_first is_line_end text → (length line ≡ length text → ⊥)
+    → lines text ≡ strip_carriage_return line ∷ lines rest
+ended_line text line rest l r ended =
+    let n = position_or_len is_line_end text in
+    let most = prefix_len-le-length (λ b. not (is_line_end b)) text in
+    let whole : length line ≡ n = rw l (length-take-le n text most) in
+    let cut : drop n text ≡ get_or text n 0 ∷ drop (n + 1) text = drop_more text n 0 (omega (arith, most)) in
+    rw (l, r, first_part is_line_end text, cut, first_part is_line_end (after_first is_line_end text)) refl
+
 -- the last line, where no LF ends it
-pub last_line : (text : List ℕ) (n : ℕ) → n ≡ position_or_len is_line_end text → n ≡ length text → 0 < length text → lines text ≡ text ∷ lines []
-last_line [] n e h some = absurd (omega arith)
-last_line (x ∷ xs) n e h some =
-    let parts : slice_split is_line_end (x ∷ xs) ≡ take n (x ∷ xs) ∷ rest_parts is_line_end (drop n (x ∷ xs)) = rw e (first_part is_line_end (x ∷ xs)) in
-    rw (parts, take_all n (x ∷ xs) (omega arith), drop_all n (x ∷ xs) (omega arith), not_zero (length (x ∷ xs)) some) refl
+pub last_line : (text line rest : List ℕ) → line ≡ before_first is_line_end text → rest ≡ after_first is_line_end text → length line ≡ length text → 0 < length text
+    → lines text ≡ line ∷ lines rest
+last_line text line rest l r unended some =
+    let n = position_or_len is_line_end text in
+    let whole : length line ≡ n = rw l (length-take-le n text (prefix_len-le-length (λ b. not (is_line_end b)) text)) in
+    let here : before_first is_line_end text ≡ text = take_all n text (omega arith) in
+    rw (l, r, first_part is_line_end text, drop_all n text (omega arith), drop_all (n + 1) text (omega arith), here, not_zero (length text) some) refl
 
 -- a CR at the end of a line is no part of a word
 stripped_step : (line : List ℕ) (k : ℕ) → k + 1 ≡ length line → (b : Bool) → (get_or line k 0 == 13) ≡ b → words is_gap (if get_or line k 0 == 13 then take k line else line) ≡ words is_gap line

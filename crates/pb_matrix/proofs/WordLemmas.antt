@@ -1,7 +1,8 @@
 -- How the words of a text follow from its first word, and from its parts.
-use Rattle.std.proofs.Common.{◌≡◌, ℕ, ◌+◌, ◌<◌, Bool, true, false, List, [], ◌∷◌, ◌++◌, take, drop, refl, sym, ◌∙◌, arith}
-use Rattle.std.specs.List.{slice_split, prefix_len, position_or_len, filter}
+use Rattle.std.proofs.Common.{◌≡◌, ℕ, ◌+◌, ◌<◌, Bool, true, false, List, [], ◌∷◌, ◌++◌, length, take, drop, refl, sym, ap, ◌∙◌, arith}
+use Rattle.std.specs.List.{slice_split, position_or_len, before_first, after_first, filter}
 use Rattle.std.proofs.Math.Numerals.{one-add}
+use Rattle.std.proofs.lemmas.List.{drop-drop, nil_from_length}
 use Rattle.std.proofs.lemmas.List.Elements.{filter-append}
 use Rattle.pb_matrix.specs.Words.{has_bytes, words}
 
@@ -9,6 +10,10 @@ use Rattle.pb_matrix.specs.Words.{has_bytes, words}
 abbrev pub rest_parts : (ℕ → Bool) → List ℕ → List (List ℕ)
 rest_parts p [] = []
 rest_parts p (_ ∷ more) = slice_split p more
+
+pub some_bytes : (ds : List ℕ) → 0 < length ds → has_bytes ds ≡ true
+some_bytes [] h = absurd (omega arith)
+some_bytes (_ ∷ _) h = refl
 
 module _ (p : ℕ → Bool) where
   pub first_part : (xs : List ℕ) → slice_split p xs ≡ take (position_or_len p xs) xs ∷ rest_parts p (drop (position_or_len p xs) xs)
@@ -20,44 +25,21 @@ module _ (p : ℕ → Bool) where
       step true e h = rw e refl
       step false e h = rw (e, h, one-add) refl
 
-  -- the words behind the first part
-  rest_words : (xs : List ℕ) → filter has_bytes (rest_parts p (drop (position_or_len p xs) xs)) ≡ words p (drop (position_or_len p xs) xs)
+  rest_words : (xs : List ℕ) → filter has_bytes (rest_parts p xs) ≡ words p (drop 1 xs)
   rest_words [] = refl
-  rest_words (x ∷ xs) = step (p x) refl (rest_words xs)
-    where
-      step : (b : Bool) → p x ≡ b → filter has_bytes (rest_parts p (drop (position_or_len p xs) xs)) ≡ words p (drop (position_or_len p xs) xs)
-          → filter has_bytes (rest_parts p (drop (position_or_len p (x ∷ xs)) (x ∷ xs))) ≡ words p (drop (position_or_len p (x ∷ xs)) (x ∷ xs))
-      step true e h = rw e (rw e refl)
-      step false e h = rw (e, one-add) h
+  rest_words (_ ∷ _) = refl
 
-  has_bytes-take : (xs : List ℕ) → 0 < position_or_len p xs → has_bytes (take (position_or_len p xs) xs) ≡ true
-  has_bytes-take [] h = absurd (omega arith)
-  has_bytes-take (x ∷ xs) h = step (p x) refl h
-    where
-      step : (b : Bool) → p x ≡ b → 0 < position_or_len p (x ∷ xs) → has_bytes (take (position_or_len p (x ∷ xs)) (x ∷ xs)) ≡ true
-      step true e h = let none : 0 < 0 = rw e at h in absurd (omega arith)
-      step false e h = rw (e, one-add) refl
+  -- the words behind the first part
+  behind_words : (xs : List ℕ) → filter has_bytes (rest_parts p (drop (position_or_len p xs) xs)) ≡ words p (after_first p xs)
+  behind_words xs = rest_words (drop (position_or_len p xs) xs) ∙ ap (words p) (drop-drop 1 (position_or_len p xs) xs)
 
-  -- a text that begins with a word: the word, and the words behind it
-  pub first_word : (xs : List ℕ) → 0 < position_or_len p xs → words p xs ≡ take (position_or_len p xs) xs ∷ words p (drop (position_or_len p xs) xs)
-  first_word xs h = rw (first_part xs, has_bytes-take xs h, rest_words xs) refl
+  -- where the first part has bytes, it is a word
+  pub one_word : (xs word behind : List ℕ) → word ≡ before_first p xs → behind ≡ after_first p xs → 0 < length word → words p xs ≡ word ∷ words p behind
+  one_word xs word behind w b some = let bytes : has_bytes (before_first p xs) ≡ true = rw w at (some_bytes word some) in rw (w, b, first_part xs, bytes, behind_words xs) refl
 
-  -- what stands before the first word
-  pub skipped_gap : (xs : List ℕ) → words p (drop (prefix_len p xs) xs) ≡ words p xs
-  skipped_gap [] = refl
-  skipped_gap (x ∷ xs) = step (p x) refl (skipped_gap xs)
-    where
-      step : (b : Bool) → p x ≡ b → words p (drop (prefix_len p xs) xs) ≡ words p xs → words p (drop (prefix_len p (x ∷ xs)) (x ∷ xs)) ≡ words p (x ∷ xs)
-      step true e h = rw (e, one-add) h
-      step false e h = rw e (rw e refl)
-
-  pub no_word : (xs : List ℕ) → position_or_len p (drop (prefix_len p xs) xs) ≡ 0 → words p xs ≡ []
-  no_word [] h = refl
-  no_word (x ∷ xs) h = step (p x) refl (no_word xs) h
-    where
-      step : (b : Bool) → p x ≡ b → (position_or_len p (drop (prefix_len p xs) xs) ≡ 0 → words p xs ≡ []) → position_or_len p (drop (prefix_len p (x ∷ xs)) (x ∷ xs)) ≡ 0 → words p (x ∷ xs) ≡ []
-      step true e rest h = rw e (rest (rw (e, one-add) at h))
-      step false e rest h = let some : 1 + position_or_len p xs ≡ 0 = rw (e, e) at h in absurd (omega arith)
+  -- and else there is none before the cut
+  pub no_word : (xs word behind : List ℕ) → word ≡ before_first p xs → behind ≡ after_first p xs → length word ≡ 0 → words p xs ≡ words p behind
+  no_word xs word behind w b none = let empty : before_first p xs ≡ [] = sym w ∙ nil_from_length word none in rw (b, first_part xs, empty, behind_words xs) refl
 
   -- a text cut at a byte that passes
   slice_split-append : (xs ys : List ℕ) (s : ℕ) → p s ≡ true → slice_split p (xs ++ s ∷ ys) ≡ slice_split p xs ++ slice_split p ys
@@ -70,10 +52,3 @@ module _ (p : ℕ → Bool) where
 
   pub words-append : (xs ys : List ℕ) (s : ℕ) → p s ≡ true → words p (xs ++ s ∷ ys) ≡ words p xs ++ words p ys
   words-append xs ys s e = rw (slice_split-append xs ys s e, filter-append) refl
-
-  -- one step of reading: what stands before a word, the word and the rest
-  pub word_found : (text behind word rest : List ℕ) (gap end : ℕ) → gap ≡ prefix_len p text → behind ≡ drop gap text → end ≡ position_or_len p behind → (end ≡ 0 → ⊥)
-      → word ≡ take end behind → rest ≡ drop end behind → words p text ≡ word ∷ words p rest
-  word_found text behind word rest gap end g b e some w r =
-      let start : 0 < position_or_len p (drop (prefix_len p text) text) = rw (b, g) at (rw e at (let positive : 0 < end = omega arith in positive)) in
-      rw (w, r, e, b, g) (sym (skipped_gap text) ∙ first_word (drop (prefix_len p text) text) start)

@@ -8,7 +8,7 @@ ghost use Rattle.pb_matrix.specs.Reading.{matrix_read, behind_header};
 
 use crate::matrix::MatrixRefusal;
 use crate::numbers::read_digits;
-use crate::words::{Cut, cuts, length_to_cut, next_word};
+use crate::words::{Cut, cuts, next_word, split_first};
 use pb_values::Shape;
 
 /// The most that a side of a matrix may be, and the most cells of a matrix.
@@ -84,22 +84,21 @@ fn is_blank_line(line: &[u8]) -> bool
 }
 
 // The first line, without its end, and what follows it.
+#[tactic(auto, using(crate::proofs::LineLemmas::ended_line, crate::proofs::LineLemmas::last_line))]
 fn split_line(text: &[u8]) -> (&[u8], &[u8])
     requires { 0 < length text.now }
     ensures first { lines text.now ≡ result.0.now ∷ lines result.1.now }
     ensures shorter { length result.1.now < length text.now }
 {
-    let end = length_to_cut(Cut::AtLineEnds, text);
-    if end == text.len() {
-        return (text, &[]);
+    let (line, rest) = split_first(Cut::AtLineEnds, text);
+    if line.len() == text.len() {
+        return (line, rest);
     }
-    let (line, _) = text.split_at(end);
-    let (_, rest) = text.split_at(end + 1);
     (strip_carriage_return(line), rest)
 }
 
-#[tactic(auto, using(crate::proofs::LineLemmas::blank_line, crate::proofs::LineLemmas::header_line))]
 /// The first line that isn't blank, without its end, and what follows it.
+#[tactic(auto, using(crate::proofs::LineLemmas::blank_line, crate::proofs::LineLemmas::header_line))]
 pub(crate) fn split_header(text: &[u8]) -> Option<(&[u8], &[u8])>
     ensures { MatchOption result (matrix_read text.now ≡ Err MatrixRefusal.BadHeader)
         (λ found. matrix_read text.now ≡ behind_header (header_shape (words is_blank found.0.now)) (words is_gap found.1.now)) }

@@ -1,5 +1,5 @@
 ghost use Rattle.std.specs.Prelude.{◌≡◌, ◌+◌, ◌<◌, ◌≤◌, [], ◌∷◌, length, take, drop, MatchOption, IfSome};
-ghost use Rattle.std.specs.List.{prefix_len, position_or_len};
+ghost use Rattle.std.specs.List.{before_first, after_first};
 ghost use Rattle.pb_matrix.specs.Words.{cuts, words};
 
 /// Where a text is cut: a line at its blanks and tabs, a text at CR and LF too, or at LF alone.
@@ -23,43 +23,36 @@ pub(crate) fn cuts(cut: Cut, byte: u8) -> bool
     }
 }
 
+/// What stands before the first cut, and what behind it; the whole and nothing where there is none.
 #[inline]
-fn gap_length(cut: Cut, text: &[u8]) -> usize
-    ensures gap { result ≡ prefix_len (cuts cut) text.now }
-    ensures within { result ≤ length text.now }
-{
-    for (i, byte) in text.iter().enumerate() {
-        if !cuts(cut, *byte) {
-            return i;
-        }
-    }
-    text.len()
-}
-
-#[inline]
-pub(crate) fn length_to_cut(cut: Cut, text: &[u8]) -> usize
-    ensures word { result ≡ position_or_len (cuts cut) text.now }
-    ensures within { result ≤ length text.now }
+pub(crate) fn split_first(cut: Cut, text: &[u8]) -> (&[u8], &[u8])
+    ensures front { result.0.now ≡ before_first (cuts cut) text.now }
+    ensures behind { result.1.now ≡ after_first (cuts cut) text.now }
+    ensures shorter { 0 < length text.now → length result.1.now < length text.now }
 {
     for (i, byte) in text.iter().enumerate() {
         if cuts(cut, *byte) {
-            return i;
+            return (&text[..i], &text[i + 1..]);
         }
     }
-    text.len()
+    (text, &[])
 }
 
-/// The first word of a text and what follows it, if there is a word.
+/// The first word of a text and what stands behind it, if there is a word.
 #[inline]
+#[tactic(auto, using(crate::proofs::WordLemmas::one_word, crate::proofs::WordLemmas::no_word))]
 pub(crate) fn next_word(cut: Cut, text: &[u8]) -> Option<(&[u8], &[u8])>
     ensures words { MatchOption result (words (cuts cut) text.now ≡ [])
         (λ found. words (cuts cut) text.now ≡ found.0.now ∷ words (cuts cut) found.1.now) }
     ensures shorter { IfSome result (λ found. length found.1.now < length text.now) }
 {
-    let (_, from_word) = text.split_at(gap_length(cut, text));
-    let end = length_to_cut(cut, from_word);
-    if end == 0 {
-        return None;
+    let mut rest = text;
+    while !rest.is_empty() {
+        let (word, behind) = split_first(cut, rest);
+        if !word.is_empty() {
+            return Some((word, behind));
+        }
+        rest = behind;
     }
-    Some(from_word.split_at(end))
+    None
 }
