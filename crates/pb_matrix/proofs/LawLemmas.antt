@@ -1,15 +1,15 @@
 -- The text that is written spells its matrix.
-use Rattle.std.proofs.Common.{◌≡◌, ℕ, zero, suc, ◌-◌, ◌*◌, ◌^◌, ◌<◌, ◌≤◌, Bool, true, false, ◌==◌, List, [], ◌∷◌, ◌++◌, length, get_or, take, drop, map, flat_map, codes, decimal, ℤ, pos, negsuc, Some, Ok, IsTrue, All, ◌⊎◌, lit<, inl, inr, refl, sym, ap, ◌∙◌, subst, arith, rules}
+use Rattle.std.proofs.Common.{◌≡◌, ℕ, zero, suc, ◌-◌, ◌*◌, ◌^◌, ◌<◌, ◌≤◌, Bool, true, false, nat_lt, ◌==◌, List, [], ◌∷◌, ◌++◌, length, get_or, take, drop, map, flat_map, codes, decimal, ℤ, pos, negsuc, Some, Ok, IsTrue, All, ◌⊎◌, lit<, inl, inr, refl, sym, ap, ◌∙◌, subst, arith, rules}
 use Rattle.std.specs.Fmt.{signed_decimal}
 use Rattle.std.specs.List.{AllByRecursion, join_with_byte, slice_split}
 use Rattle.std.specs.Str.{all_ascii_digits}
 use Rattle.std.specs.Str.Lines.{lines}
 use Rattle.std.specs.Str.Parse.{IsNumeral, AllDigits, digits_value}
-use Rattle.std.proofs.lemmas.Bool.{ltb-true, le-leb, ne_eqb}
+use Rattle.std.proofs.lemmas.Bool.{and_right, cases_lt, ltb-true, le-leb, ne_eqb}
 use Rattle.std.proofs.lemmas.Bool.Decides.{nat_tests}
 use Rattle.std.proofs.lemmas.Fmt.{decimal_is_IsNumeral, decimal_digit, first_decimal}
-use Rattle.std.proofs.lemmas.List.{append_assoc, take-append-drop, map-append, length-drop, nil_from_length}
-use Rattle.std.proofs.lemmas.List.Elements.{All-from_recursion, recursion_from_All, All-weaker, All-map, All-take, All-drop}
+use Rattle.std.proofs.lemmas.List.{append_assoc, take-append-drop, map-append, length-drop, nil_from_length, get_or_past}
+use Rattle.std.proofs.lemmas.List.Elements.{All-from_recursion, recursion_from_All, All-nil, All-cons, All-append, All-weaker, All-map, All-take, All-drop}
 use Rattle.std.proofs.lemmas.List.Splits.{slice_split_none, slice_split_at}
 use Rattle.std.proofs.lemmas.Str.Parse.{digit_from_value, numerals_by_value, tells_all_ascii_digits}
 use Rattle.pb_values.specs.declared.shape.Shape.{Shape}
@@ -26,7 +26,7 @@ use Rattle.pb_matrix.proofs.WordLemmas.{some_bytes, words-append, first_part}
 
 -- bytes that are no gap, at least one
 record IsWord (w : List ℕ) : Type 0 where
-  bytes : AllByRecursion (λ b. 32 < b) w
+  bytes : All (λ b. 32 < b) w
   some : has_bytes w ≡ true
 
 no_blank : (b : ℕ) → 32 < b → is_blank b ≡ false
@@ -35,11 +35,12 @@ no_blank b h = grind (arith, nat_tests)
 no_gap : (b : ℕ) → 32 < b → is_gap b ≡ false
 no_gap b h = grind (arith, nat_tests)
 
+no_line_end : (b : ℕ) → 31 < b → is_line_end b ≡ false
+no_line_end b h = grind (arith, nat_tests)
+
 module _ (p : ℕ → Bool) (passes_over : (b : ℕ) → 32 < b → p b ≡ false) where
   word_alone : (w : List ℕ) → IsWord w → words p w ≡ w ∷ []
-  word_alone w word =
-      let whole : slice_split p w ≡ w ∷ [] = slice_split_none p w (All-weaker (λ b. 32 < b) (λ b. p b ≡ false) passes_over w (All-from_recursion (λ b. 32 < b) w word.bytes)) in
-      rw (whole, word.some) refl
+  word_alone w word = rw (slice_split_none p w (All-weaker (λ b. 32 < b) (λ b. p b ≡ false) passes_over w word.bytes), word.some) refl
 
   -- words with single blanks between them
   words_joined : p 32 ≡ true → (ws : List (List ℕ)) → AllByRecursion IsWord ws → words p (join_with_byte 32 ws) ≡ ws
@@ -48,40 +49,28 @@ module _ (p : ℕ → Bool) (passes_over : (b : ℕ) → 32 < b → p b ≡ fals
   words_joined cut (w ∷ v ∷ vs) all = words-append p w (join_with_byte 32 (v ∷ vs)) 32 cut ∙ rw (word_alone w all.0, words_joined cut (v ∷ vs) all.1) refl
 
 -- a line of words has no LF, and no CR at its end
-above_append : (xs ys : List ℕ) → AllByRecursion (λ b. 31 < b) xs → AllByRecursion (λ b. 31 < b) ys → AllByRecursion (λ b. 31 < b) (xs ++ ys)
-above_append [] ys h k = k
-above_append (x ∷ xs) ys h k = (h.0, above_append xs ys h.1 k)
+joined_above : (ws : List (List ℕ)) → AllByRecursion IsWord ws → All (λ b. 31 < b) (join_with_byte 32 ws)
+joined_above [] all = All-nil (λ b. 31 < b)
+joined_above (w ∷ []) all = All-weaker (λ b. 32 < b) (λ b. 31 < b) (λ b h. omega arith) w all.0.bytes
+joined_above (w ∷ v ∷ vs) all =
+    All-append (λ b. 31 < b) w (32 ∷ join_with_byte 32 (v ∷ vs)) (All-weaker (λ b. 32 < b) (λ b. 31 < b) (λ b h. omega arith) w all.0.bytes)
+    (All-cons (λ b. 31 < b) 32 (join_with_byte 32 (v ∷ vs)) (omega arith) (joined_above (v ∷ vs) all.1))
 
-word_above : (w : List ℕ) → AllByRecursion (λ b. 32 < b) w → AllByRecursion (λ b. 31 < b) w
-word_above [] h = tt
-word_above (x ∷ xs) h = (omega (arith, h.0), word_above xs h.1)
-
-joined_above : (ws : List (List ℕ)) → AllByRecursion IsWord ws → AllByRecursion (λ b. 31 < b) (join_with_byte 32 ws)
-joined_above [] all = tt
-joined_above (w ∷ []) all = word_above w all.0.bytes
-joined_above (w ∷ v ∷ vs) all = above_append w (32 ∷ join_with_byte 32 (v ∷ vs)) (word_above w all.0.bytes) (omega arith, joined_above (v ∷ vs) all.1)
-
-no_return : (l : List ℕ) (k : ℕ) → AllByRecursion (λ b. 31 < b) l → get_or l k 0 ≡ 13 → ⊥
-no_return [] k h e = absurd (cc)
-no_return (x ∷ xs) zero h e = omega (arith, h.0, e)
-no_return (x ∷ xs) (suc k) h e = no_return xs k h.1 e
-
-not_line_end : (b : ℕ) → 31 < b → is_line_end b ≡ false
-not_line_end b h = grind (arith, nat_tests)
+no_return : (l : List ℕ) (k : ℕ) → All (λ b. 31 < b) l → get_or l k 0 ≡ 13 → ⊥
+no_return l k above e = elim (cases_lt k (length l)) [ inl within ↦ omega (arith, above k 0 within, e) | inr past ↦ omega (arith, get_or_past l k 0 past, e) ]
 
 -- a line, and what follows it
-first_of_lines : (l rest : List ℕ) → AllByRecursion (λ b. 31 < b) l → lines ((l ++ 10 ∷ []) ++ rest) ≡ l ∷ lines rest
+first_of_lines : (l rest : List ℕ) → All (λ b. 31 < b) l → lines ((l ++ 10 ∷ []) ++ rest) ≡ l ∷ lines rest
 first_of_lines l rest above =
     let parts : slice_split is_line_end (l ++ 10 ∷ rest) ≡ l ∷ slice_split is_line_end rest =
-    slice_split_at is_line_end l 10 rest (All-weaker (λ b. 31 < b) (λ b. is_line_end b ≡ false) not_line_end l (All-from_recursion (λ b. 31 < b) l above)) refl in
+    slice_split_at is_line_end l 10 rest (All-weaker (λ b. 31 < b) (λ b. is_line_end b ≡ false) no_line_end l above) refl in
     let plain : (get_or l (length l - 1) 0 == 13) ≡ false = ne_eqb (get_or l (length l - 1) 0) 13 (no_return l (length l - 1) above) in
     rw (append_assoc l (10 ∷ []) rest, parts, first_part is_line_end rest, plain) refl
 
 -- numbers
-digit_bytes : (ds : List ℕ) → AllDigits 10 ds → AllByRecursion (λ b. 32 < b) ds
-digit_bytes [] h = tt
-digit_bytes (c ∷ cs) h = let digit = digit_from_value c h.0 in (omega arith, digit_bytes cs h.1)
-
+digit_bytes : (ds : List ℕ) → AllDigits 10 ds → All (λ b. 32 < b) ds
+digit_bytes [] h = All-nil (λ b. 32 < b)
+digit_bytes (c ∷ cs) h = let digit = digit_from_value c h.0 in All-cons (λ b. 32 < b) c cs (omega arith) (digit_bytes cs h.1)
 
 decimal_word : (n : ℕ) → n < 2 ^ 64 → IsWord (decimal n)
 decimal_word n h = let numeral = (decimal_is_IsNumeral n h).0 in record { bytes = digit_bytes (decimal n) numeral.1; some = some_bytes (decimal n) numeral.0 }
@@ -90,7 +79,7 @@ cell_word : (z : ℤ) → IsTrue (fits_i64 z) → IsWord (signed_decimal z)
 cell_word (pos n) fits = decimal_word n (omega (arith, ltb-true n (2 ^ 63) fits))
 cell_word (negsuc n) fits =
     let digits = decimal_word (suc n) (omega (arith, ltb-true n (2 ^ 63) fits)) in
-    record { bytes = (omega arith, digits.bytes); some = refl }
+    record { bytes = All-cons (λ b. 32 < b) 45 (decimal (suc n)) (omega arith) digits.bytes; some = refl }
 
 digits_from : (ds : List ℕ) → IsNumeral 10 ds → is_digits ds ≡ true
 digits_from [] n = absurd (omega arith)
@@ -136,14 +125,11 @@ matrix_words s [] count fits = refl
 matrix_words s (c ∷ cs) count fits = rows_words s.h s.w (c ∷ cs) (omega (arith, count)) fits
 
 -- the header
-no_zero : (ds : List ℕ) → 48 < get_or ds 0 0 → has_leading_zero ds ≡ false
-no_zero [] h = refl
-no_zero (c ∷ []) h = refl
-no_zero (c ∷ d ∷ ds) h = ne_eqb c 48 (λ e. omega arith)
-
 plain_decimal : (n : ℕ) → n < 2 ^ 64 → has_leading_zero (decimal n) ≡ false
 plain_decimal zero h = rw (decimal_digit 0 (lit< tt)) refl
-plain_decimal (suc n) h = no_zero (decimal (suc n)) (first_decimal (suc n) (omega arith) h)
+plain_decimal (suc n) h =
+    let first : 48 < get_or (decimal (suc n)) 0 0 = first_decimal (suc n) (omega arith) h in
+    and_right (nat_lt 1 (length (decimal (suc n)))) (get_or (decimal (suc n)) 0 0 == 48) (ne_eqb (get_or (decimal (suc n)) 0 0) 48 (λ e. omega arith))
 
 side_written : (n : ℕ) → n ≤ MAX_CELLS → side (decimal n) ≡ Some n
 side_written n most =
@@ -161,7 +147,7 @@ header_written : (s : Shape) → IsMatrixShape s → Written s
 header_written s is = by_dims is.dims
   where
     name : IsWord (codes "matrix")
-    name = record { bytes = search rules; some = refl }
+    name = record { bytes = All-from_recursion (λ b. 32 < b) (codes "matrix") (search rules); some = refl }
 
     width : IsWord (decimal s.w)
     width = decimal_word s.w (omega (arith, is.width))

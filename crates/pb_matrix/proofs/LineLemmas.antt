@@ -9,7 +9,7 @@ use Rattle.std.proofs.lemmas.Bool.Decides.{nat_tests}
 use Rattle.pb_matrix.specs.Words.{is_line_end, is_blank, is_gap, words}
 use Rattle.pb_matrix.specs.Header.{header_shape}
 use Rattle.pb_matrix.specs.Reading.{matrix_read, behind_header}
-use Rattle.pb_matrix.proofs.WordLemmas.{rest_parts, first_part, words-append}
+use Rattle.pb_matrix.proofs.WordLemmas.{first_part, words-append}
 
 not_zero : (n : ℕ) → 0 < n → (n == 0) ≡ false
 not_zero n h = grind (arith, nat_tests)

@@ -1,15 +1,13 @@
 -- The header of a matrix text, and the shapes that it can name.
-use Rattle.std.specs.Prelude.{◌≡◌, ℕ, ◌*◌, ◌≤◌, Bool, false, not, ◌&&◌, ◌==◌, nat_le, ◌⊎◌, List, [], ◌∷◌, Option, Some, None, codes, bytes_eq, if◌then◌else◌}
+use Rattle.std.specs.Prelude.{◌≡◌, ℕ, ◌*◌, ◌≤◌, Bool, not, ◌&&◌, ◌==◌, nat_le, nat_lt, length, slice_index, ◌⊎◌, List, [], ◌∷◌, Option, Some, None, codes, bytes_eq, if◌then◌else◌}
 use Rattle.std.specs.Str.Parse.{digits_value}
 use Rattle.pb_values.specs.declared.shape.Shape.{Shape}
 use Rattle.pb_matrix.specs.Words.{is_digits}
 use Rattle.pb_matrix.specs.declared.header.TheConstants.{MAX_CELLS}
 
--- more than one byte, and the first is 0
+-- a 0, and more behind it
 abbrev pub has_leading_zero : List ℕ → Bool
-has_leading_zero [] = false
-has_leading_zero (_ ∷ []) = false
-has_leading_zero (c ∷ _ ∷ _) = c == 48
+has_leading_zero word = nat_lt 1 (length word) && slice_index word 0 == 48
 
 -- a side of a matrix: digits without a leading zero, and at most so many cells
 abbrev pub side : List ℕ → Option ℕ
