@@ -1,10 +1,10 @@
 -- Reading the words of a body from left to right is what the body says.
-use Rattle.std.proofs.Common.{◌≡◌, ℕ, ◌+◌, ◌-◌, ◌<◌, ◌≤◌, Bool, true, false, List, [], ◌∷◌, ◌++◌, length, take, map, filter_map, ℤ, Option, Some, None, is_none, suc, zero-le, Result, Ok, Err, nat_lt, ◌==◌, if◌then◌else◌, refl, sym, ap, ◌∙◌, arith}
+use Rattle.std.proofs.Common.{◌≡◌, ℕ, ◌+◌, ◌-◌, ◌<◌, ◌≤◌, Bool, true, false, List, [], ◌∷◌, ◌++◌, length, take, map, filter_map, ℤ, Option, Some, None, suc, zero-le, Result, Ok, Err, nat_lt, ◌==◌, if◌then◌else◌, refl, sym, ap, ◌∙◌, arith}
 use Rattle.std.specs.List.{position_from}
 use Rattle.std.proofs.lemmas.List.{append-nil, append_assoc, take_all, take_at, length-append, length-map, map_push}
 use Rattle.std.proofs.lemmas.Bool.Decides.{nat_tests}
 use Rattle.pb_values.specs.declared.shape.Shape.{Shape}
-use Rattle.pb_matrix.specs.Words.{cell_number}
+use Rattle.pb_matrix.specs.Words.{cell_number, is_faulty}
 use Rattle.pb_matrix.specs.Header.{cell_count}
 use Rattle.pb_matrix.specs.Value.{MatrixValue}
 use Rattle.pb_matrix.specs.Reading.{body_read}
@@ -16,9 +16,6 @@ abbrev pub read_on : Shape → List ℤ → List (List ℕ) → Result MatrixVal
 read_on s cells [] = if nat_lt (length cells) (cell_count s) then Err (TooFew (cell_count s) (length cells)) else Ok (record { shape = s; cells = cells })
 read_on s cells (w ∷ ws) = if length cells == cell_count s then Err (TooMany (cell_count s)) else elim (cell_number w) as (λ _. Result MatrixValue MatrixRefusal)
     [ Some z ↦ read_on s (cells ++ z ∷ []) ws | None ↦ Err (BadNumber (length cells)) ]
-
-abbrev pub is_faulty : List ℕ → Bool
-is_faulty word = is_none (cell_number word)
 
 -- among words that are numbers none is faulty
 none_faulty : (done : List (List ℕ)) (cells : List ℤ) (i : ℕ) → map cell_number done ≡ map Some cells → position_from is_faulty i done ≡ None

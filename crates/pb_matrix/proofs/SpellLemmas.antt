@@ -5,12 +5,12 @@ use Rattle.std.specs.Str.Lines.{lines}
 use Rattle.std.proofs.lemmas.Bool.{and_parts, le-ltb, ltb-false, false_from_ne_true}
 use Rattle.std.proofs.lemmas.List.{take_all}
 use Rattle.pb_values.specs.declared.shape.Shape.{Shape}
-use Rattle.pb_matrix.specs.Words.{is_blank, is_gap, words, cell_number}
+use Rattle.pb_matrix.specs.Words.{is_blank, is_gap, words, cell_number, is_faulty}
 use Rattle.pb_matrix.specs.Header.{header_shape, cell_count}
 use Rattle.pb_matrix.specs.Value.{MatrixValue}
 use Rattle.pb_matrix.specs.Reading.{body_read, behind_header, lines_read, matrix_read, Reads}
 use Rattle.pb_matrix.specs.Spelling.{LinesSpell, blank, header, Spells}
-use Rattle.pb_matrix.proofs.BodyLemmas.{is_faulty, same_length, at_end}
+use Rattle.pb_matrix.proofs.BodyLemmas.{same_length, at_end}
 use Rattle.pb_matrix.specs.declared.matrix.MatrixRefusal.{MatrixRefusal}
 use Rattle.pb_matrix.specs.declared.matrix.MatrixRefusal.TheVariants.{BadNumber, TooFew, TooMany}
 

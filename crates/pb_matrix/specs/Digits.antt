@@ -6,7 +6,9 @@ use Rattle.pb_matrix.specs.Words.{has_bytes}
 
 -- the value of digits that follow those of n, if it is at most 2^63
 abbrev pub magnitude_after : ℕ → List ℕ → Option ℕ
-magnitude_after n ds = if all_ascii_digits ds && nat_le (digits_value_after 10 n ds) (2 ^ 63) then Some (digits_value_after 10 n ds) else None
+magnitude_after n ds =
+    if all_ascii_digits ds && nat_le (digits_value_after 10 n ds) (2 ^ 63) then Some (digits_value_after 10 n ds)
+    else None
 
 -- the value of one digit or more
 abbrev pub magnitude : List ℕ → Option ℕ

@@ -11,7 +11,9 @@ has_leading_zero word = nat_lt 1 (length word) && slice_index word 0 == 48
 
 -- a side of a matrix: digits without a leading zero, and at most so many cells
 abbrev pub side : List ℕ → Option ℕ
-side word = if (is_digits word && not (has_leading_zero word)) && nat_le (digits_value 10 word) MAX_CELLS then Some (digits_value 10 word) else None
+side word =
+    if (is_digits word && not (has_leading_zero word)) && nat_le (digits_value 10 word) MAX_CELLS then Some (digits_value 10 word)
+    else None
 
 abbrev pub one_side : Option ℕ → Option Shape
 one_side (Some w) = Some (record { dims = 1; w = w; h = 1 })

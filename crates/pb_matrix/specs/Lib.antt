@@ -1,7 +1,8 @@
-pub mod Text
+pub mod Cuts
 pub mod Digits
-pub mod Words
 pub mod Header
-pub mod Value
 pub mod Reading
 pub mod Spelling
+pub mod Text
+pub mod Value
+pub mod Words

@@ -6,11 +6,17 @@ use Rattle.pb_matrix.specs.Words.{is_blank, is_gap, words, cell_number}
 use Rattle.pb_matrix.specs.Header.{header_shape, cell_count}
 use Rattle.pb_matrix.specs.Value.{MatrixValue}
 
--- blank lines, a header that names the shape, and behind it just the words that spell the cells, as many as the shape has
+-- blank lines may stand first; behind the header, which names the shape, stand just the words that spell the cells
 pub data LinesSpell : List (List ℕ) → MatrixValue → Type 0 where
-  blank : {line : List ℕ} {rest : List (List ℕ)} {matrix : MatrixValue} → IsTrue (list_all is_blank line) → LinesSpell rest matrix → LinesSpell (line ∷ rest) matrix
-  header : {line : List ℕ} {rest : List (List ℕ)} {matrix : MatrixValue} → header_shape (words is_blank line) ≡ Some matrix.shape
-      → map cell_number (flat_map (words is_gap) rest) ≡ map Some matrix.cells → length matrix.cells ≡ cell_count matrix.shape → LinesSpell (line ∷ rest) matrix
+  blank : {line : List ℕ} {rest : List (List ℕ)} {matrix : MatrixValue}
+      → IsTrue (list_all is_blank line)
+      → LinesSpell rest matrix → LinesSpell (line ∷ rest) matrix
+  header : {line : List ℕ} {rest : List (List ℕ)} {matrix : MatrixValue}
+      → header_shape (words is_blank line) ≡ Some matrix.shape
+      → map cell_number (flat_map (words is_gap) rest) ≡ map Some matrix.cells
+      → length matrix.cells ≡ cell_count matrix.shape
+      → LinesSpell (line ∷ rest) matrix
 
+-- the text spells the matrix
 abbrev pub Spells : List ℕ → MatrixValue → Type 0
 Spells text matrix = LinesSpell (lines text) matrix

@@ -1,11 +1,9 @@
 -- The words of a text, and what a word says as a number.
-use Rattle.std.specs.Prelude.{ℕ, Bool, true, false, ◌&&◌, ◌||◌, ◌==◌, List, [], ◌∷◌, filter, Option, Some, None, ℤ, pos, neg_ℤ, if◌then◌else◌}
+use Rattle.std.specs.Prelude.{ℕ, Bool, true, false, ◌&&◌, ◌||◌, ◌==◌, List, [], ◌∷◌, filter, Option, Some, None, is_none, ℤ, pos, neg_ℤ, if◌then◌else◌}
 use Rattle.std.specs.List.{slice_split}
 use Rattle.std.specs.Str.{all_ascii_digits}
 use Rattle.std.specs.Str.Parse.{digits_value}
 use Rattle.pb_values.specs.Checked.{fits_i64}
-use Rattle.pb_matrix.specs.declared.words.Cut.{Cut}
-use Rattle.pb_matrix.specs.declared.words.Cut.TheVariants.{AtBlanks, AtGaps, AtLineEnds}
 
 -- a blank or a tab
 abbrev pub is_blank : ℕ → Bool
@@ -18,12 +16,6 @@ is_gap b = is_blank b || (b == 13 || b == 10)
 -- the end of a line
 abbrev pub is_line_end : ℕ → Bool
 is_line_end b = b == 10
-
--- the bytes at which a text is cut
-abbrev pub cuts : Cut → ℕ → Bool
-cuts AtBlanks = is_blank
-cuts AtGaps = is_gap
-cuts AtLineEnds = is_line_end
 
 abbrev pub has_bytes : List ℕ → Bool
 has_bytes [] = false
@@ -44,4 +36,10 @@ in_cell ds z = if is_digits ds && fits_i64 z then Some z else None
 -- the number that a word spells: digits, maybe behind a `-`
 abbrev pub cell_number : List ℕ → Option ℤ
 cell_number [] = None
-cell_number (c ∷ cs) = if c == 45 then in_cell cs (neg_ℤ (pos (digits_value 10 cs))) else in_cell (c ∷ cs) (pos (digits_value 10 (c ∷ cs)))
+cell_number (c ∷ cs) =
+    if c == 45 then in_cell cs (neg_ℤ (pos (digits_value 10 cs)))
+    else in_cell (c ∷ cs) (pos (digits_value 10 (c ∷ cs)))
+
+-- a word that spells no number
+abbrev pub is_faulty : List ℕ → Bool
+is_faulty word = is_none (cell_number word)

@@ -1,6 +1,7 @@
 ghost use Rattle.std.specs.Prelude.{◌≡◌, ◌+◌, ◌<◌, ◌≤◌, [], ◌∷◌, length, take, drop, MatchOption, IfSome};
 ghost use Rattle.std.specs.List.{before_first, after_first};
-ghost use Rattle.pb_matrix.specs.Words.{cuts, words};
+ghost use Rattle.pb_matrix.specs.Cuts.{cuts};
+ghost use Rattle.pb_matrix.specs.Words.{words};
 
 /// Where a text is cut: a line at its blanks and tabs, a text at CR and LF too, or at LF alone.
 #[derive(Clone, Copy)]

@@ -1,5 +1,6 @@
 use Rattle.std.proofs.Common.{◌≡◌, ◌≤◌, length}
-use Rattle.pb_matrix.specs.Words.{cuts, words}
+use Rattle.pb_matrix.specs.Cuts.{cuts}
+use Rattle.pb_matrix.specs.Words.{words}
 use Rattle.pb_matrix.proofs.words.next_word.Given as goal
 
 abbrev pub invariant-loop-rest : goal.invariant-loop-rest

@@ -1,6 +1,6 @@
 use Rattle.std.proofs.Common.{◌≡◌, ◌+◌, drop}
 use Rattle.std.specs.List.{position_or_len}
-use Rattle.pb_matrix.specs.Words.{cuts}
+use Rattle.pb_matrix.specs.Cuts.{cuts}
 use Rattle.pb_matrix.proofs.words.split_first.Given as goal
 
 abbrev pub invariant-loop-i : goal.invariant-loop-i
