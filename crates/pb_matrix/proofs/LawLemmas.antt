@@ -18,11 +18,15 @@ use Rattle.pb_matrix.specs.Words.{is_blank, is_gap, is_line_end, has_bytes, word
 use Rattle.pb_matrix.specs.Header.{has_leading_zero, side, header_shape, IsMatrixShape, cell_count}
 use Rattle.pb_matrix.specs.declared.header.TheConstants.{MAX_CELLS}
 use Rattle.pb_matrix.specs.Reading.{matrix_read}
-use Rattle.pb_matrix.specs.Spelling.{LinesSpell, header}
+use Rattle.pb_matrix.specs.Spelling.{SpellsCells, LinesSpell, header}
 use Rattle.pb_matrix.specs.Text.{header_words, rows, matrix_rows, row_text, matrix_text}
 use Rattle.pb_matrix.proofs.LineLemmas.{body_words}
 use Rattle.pb_matrix.proofs.SpellLemmas.{spelled_lines}
 use Rattle.pb_matrix.proofs.WordLemmas.{some_bytes, words-append, first_part}
+
+-- numbers of 64 bits
+abbrev AllFit : List ℤ → Type 0
+AllFit cells = All (λ z. IsTrue (fits_i64 z)) cells
 
 -- bytes that are no gap, at least one
 record IsWord (w : List ℕ) : Type 0 where
@@ -102,15 +106,15 @@ number_written (negsuc n) fits =
     let is = decimal_is_IsNumeral (suc n) (omega (arith, ltb-true n (2 ^ 63) fits)) in
     rw is.1 (in_cell_fits (decimal (suc n)) (negsuc n) is.0 fits)
 
-numbers_written : (cells : List ℤ) → AllByRecursion (λ z. IsTrue (fits_i64 z)) cells → map cell_number (map signed_decimal cells) ≡ map Some cells
+numbers_written : (cells : List ℤ) → AllByRecursion (λ z. IsTrue (fits_i64 z)) cells → SpellsCells (map signed_decimal cells) cells
 numbers_written [] fits = refl
 numbers_written (z ∷ zs) fits = rw (number_written z fits.0, numbers_written zs fits.1) refl
 
 -- rows
-row_words : (row : List ℤ) → All (λ z. IsTrue (fits_i64 z)) row → AllByRecursion IsWord (map signed_decimal row)
+row_words : (row : List ℤ) → AllFit row → AllByRecursion IsWord (map signed_decimal row)
 row_words row fits = recursion_from_All IsWord (map signed_decimal row) (All-map IsWord signed_decimal row (All-weaker (λ z. IsTrue (fits_i64 z)) (λ z. IsWord (signed_decimal z)) cell_word row fits))
 
-rows_words : (h w : ℕ) (cells : List ℤ) → length cells ≡ h * w → All (λ z. IsTrue (fits_i64 z)) cells → words is_gap (flat_map row_text (rows h w cells)) ≡ map signed_decimal cells
+rows_words : (h w : ℕ) (cells : List ℤ) → length cells ≡ h * w → AllFit cells → words is_gap (flat_map row_text (rows h w cells)) ≡ map signed_decimal cells
 rows_words zero w cells count fits = rw (nil_from_length cells (omega (arith, count))) refl
 rows_words (suc h) w cells count fits =
     let row = map signed_decimal (take w cells) in
@@ -120,7 +124,7 @@ rows_words (suc h) w cells count fits =
     ∙ rw (words_joined is_gap no_gap refl row (row_words (take w cells) (All-take (λ z. IsTrue (fits_i64 z)) w cells fits)), later)
     (sym (map-append signed_decimal (take w cells) (drop w cells)) ∙ ap (map signed_decimal) (take-append-drop w cells))
 
-matrix_words : (s : Shape) (cells : List ℤ) → length cells ≡ cell_count s → All (λ z. IsTrue (fits_i64 z)) cells → words is_gap (flat_map row_text (matrix_rows s cells)) ≡ map signed_decimal cells
+matrix_words : (s : Shape) (cells : List ℤ) → length cells ≡ cell_count s → AllFit cells → words is_gap (flat_map row_text (matrix_rows s cells)) ≡ map signed_decimal cells
 matrix_words s [] count fits = refl
 matrix_words s (c ∷ cs) count fits = rows_words s.h s.w (c ∷ cs) (omega (arith, count)) fits
 
@@ -160,7 +164,7 @@ header_written s is = by_dims is.dims
         let ws : header_words s ≡ codes "matrix" ∷ decimal s.w ∷ decimal s.h ∷ [] = rw two refl in
         record { words = subst (λ list. AllByRecursion IsWord list) (sym ws) (name, (width, (decimal_word s.h (omega (arith, is.height)), tt))); shape = rw (ws, side_written s.w is.width, side_written s.h is.height, le-leb (s.w * s.h) MAX_CELLS is.cells) (ap Some (same_shape s 2 s.h two refl)) }
 
-pub read_again : (s : Shape) (cells : List ℤ) → IsMatrixShape s → length cells ≡ cell_count s → All (λ z. IsTrue (fits_i64 z)) cells
+pub read_again : (s : Shape) (cells : List ℤ) → IsMatrixShape s → length cells ≡ cell_count s → AllFit cells
     → matrix_read (matrix_text s cells) ≡ Ok (record { shape = s; cells = cells })
 read_again s cells is count fits =
     let written = header_written s is in

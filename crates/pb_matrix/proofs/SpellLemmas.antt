@@ -1,5 +1,5 @@
 -- What is read is what is spelled, and the other way round.
-use Rattle.std.proofs.Common.{◌≡◌, ℕ, ◌+◌, Bool, true, false, nat_lt, List, [], ◌∷◌, length, take, map, filter_map, flat_map, ℤ, Option, Some, None, Result, Ok, Err, IfOk, refl, sym, ap, ◌∙◌, subst, arith}
+use Rattle.std.proofs.Common.{◌≡◌, ℕ, ◌+◌, Bool, true, false, nat_lt, List, [], ◌∷◌, length, take, filter_map, flat_map, ℤ, Option, Some, None, Result, Ok, Err, IfOk, refl, sym, ap, ◌∙◌, subst, arith}
 use Rattle.std.specs.List.{position_from, list_all}
 use Rattle.std.specs.Str.Lines.{lines}
 use Rattle.std.proofs.lemmas.Bool.{and_parts, le-ltb, ltb-false, false_from_ne_true}
@@ -9,25 +9,25 @@ use Rattle.pb_matrix.specs.Words.{is_blank, is_gap, words, cell_number, is_fault
 use Rattle.pb_matrix.specs.Header.{header_shape, cell_count}
 use Rattle.pb_matrix.specs.Value.{MatrixValue}
 use Rattle.pb_matrix.specs.Reading.{body_read, behind_header, lines_read, matrix_read, Reads}
-use Rattle.pb_matrix.specs.Spelling.{LinesSpell, blank, header, Spells}
+use Rattle.pb_matrix.specs.Spelling.{SpellsCells, LinesSpell, blank, header, Spells}
 use Rattle.pb_matrix.proofs.BodyLemmas.{same_length, at_end}
 use Rattle.pb_matrix.specs.declared.matrix.MatrixRefusal.{MatrixRefusal}
 use Rattle.pb_matrix.specs.declared.matrix.MatrixRefusal.TheVariants.{BadNumber, TooFew, TooMany}
 
 -- where no word is faulty, each is a number
-all_numbers : (ws : List (List ℕ)) (i : ℕ) → position_from is_faulty i ws ≡ None → map cell_number ws ≡ map Some (filter_map cell_number ws)
+all_numbers : (ws : List (List ℕ)) (i : ℕ) → position_from is_faulty i ws ≡ None → SpellsCells ws (filter_map cell_number ws)
 all_numbers [] i e = refl
 all_numbers (w ∷ ws) i e = step (cell_number w) refl (all_numbers ws (i + 1))
   where
-    step : (o : Option ℤ) → cell_number w ≡ o → (position_from is_faulty (i + 1) ws ≡ None → map cell_number ws ≡ map Some (filter_map cell_number ws))
-        → map cell_number (w ∷ ws) ≡ map Some (filter_map cell_number (w ∷ ws))
+    step : (o : Option ℤ) → cell_number w ≡ o → (position_from is_faulty (i + 1) ws ≡ None → SpellsCells ws (filter_map cell_number ws))
+        → SpellsCells (w ∷ ws) (filter_map cell_number (w ∷ ws))
     step None none rest = let some : Some i ≡ None = rw none at e in absurd (cc)
     step (Some z) number rest = rw (number, rest (rw number at e)) refl
 
 -- what a body must be to be read
 record BodySpells (s : Shape) (ws : List (List ℕ)) (matrix : MatrixValue) : Type 0 where
   shape : matrix.shape ≡ s
-  numbers : map cell_number ws ≡ map Some matrix.cells
+  numbers : SpellsCells ws matrix.cells
   count : length matrix.cells ≡ cell_count s
 
 module _ (s : Shape) (ws : List (List ℕ)) (matrix : MatrixValue) where
@@ -55,7 +55,7 @@ module _ (s : Shape) (ws : List (List ℕ)) (matrix : MatrixValue) where
       by_fault (Some k) fault = let some : Err (BadNumber k) ≡ Ok matrix = rw fault at e in absurd (cc)
       by_fault None none = no_fault e none
 
-spelled_body : (ws : List (List ℕ)) (matrix : MatrixValue) → map cell_number ws ≡ map Some matrix.cells → length matrix.cells ≡ cell_count matrix.shape → body_read matrix.shape ws ≡ Ok matrix
+spelled_body : (ws : List (List ℕ)) (matrix : MatrixValue) → SpellsCells ws matrix.cells → length matrix.cells ≡ cell_count matrix.shape → body_read matrix.shape ws ≡ Ok matrix
 spelled_body ws matrix numbers count =
     sym (at_end matrix.shape ws matrix.cells numbers (omega arith)) ∙ rw (le-ltb (length matrix.cells) (cell_count matrix.shape) (omega arith)) refl
 
