@@ -159,10 +159,18 @@ header_written s is = by_dims is.dims
     by_dims : ((s.dims ≡ 1) × (s.h ≡ 1)) ⊎ (s.dims ≡ 2) → Written s
     by_dims (inl (one, high)) =
         let ws : header_words s ≡ codes "matrix" ∷ decimal s.w ∷ [] = rw one refl in
-        record { words = subst (λ list. AllByRecursion IsWord list) (sym ws) (name, (width, tt)); shape = rw (ws, side_written s.w is.width) (ap Some (same_shape s 1 1 one high)) }
+        record {
+          words = subst (λ list. AllByRecursion IsWord list) (sym ws) (name, (width, tt));
+          shape = rw (ws, side_written s.w is.width) (ap Some (same_shape s 1 1 one high));
+        }
     by_dims (inr two) =
         let ws : header_words s ≡ codes "matrix" ∷ decimal s.w ∷ decimal s.h ∷ [] = rw two refl in
-        record { words = subst (λ list. AllByRecursion IsWord list) (sym ws) (name, (width, (decimal_word s.h (omega (arith, is.height)), tt))); shape = rw (ws, side_written s.w is.width, side_written s.h is.height, le-leb (s.w * s.h) MAX_CELLS is.cells) (ap Some (same_shape s 2 s.h two refl)) }
+        let height : IsWord (decimal s.h) = decimal_word s.h (omega (arith, is.height)) in
+        record {
+          words = subst (λ list. AllByRecursion IsWord list) (sym ws) (name, (width, (height, tt)));
+          shape = rw (ws, side_written s.w is.width, side_written s.h is.height, le-leb (s.w * s.h) MAX_CELLS is.cells)
+              (ap Some (same_shape s 2 s.h two refl));
+        }
 
 pub read_again : (s : Shape) (cells : List ℤ) → IsMatrixShape s → length cells ≡ cell_count s → AllFit cells
     → matrix_read (matrix_text s cells) ≡ Ok (record { shape = s; cells = cells })
