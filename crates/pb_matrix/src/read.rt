@@ -1,0 +1,73 @@
+ghost use Rattle.std.specs.Prelude.{◌≡◌, ◌*◌, ◌≤◌, Ok, Err, IfOk, length};
+ghost use Rattle.pb_matrix.specs.Value.{MatrixValue};
+ghost use Rattle.pb_matrix.specs.Words.{is_gap, words};
+ghost use Rattle.pb_matrix.specs.Header.{IsMatrixShape, cell_count};
+ghost use Rattle.pb_matrix.specs.Reading.{matrix_read, body_read, Reads};
+ghost use Rattle.pb_matrix.specs.Spelling.{Spells};
+
+use crate::header::{read_header, split_header};
+use crate::matrix::{Matrix, MatrixRefusal};
+use crate::numbers::read_number;
+use crate::words::{Cut, next_word};
+use pb_values::Shape;
+use std::alloc::Global;
+
+// Reads the cells; takes memory for no more than can stand in the text.
+#[tactic(auto, using(crate::proofs::BodyLemmas::read_whole))]
+fn read_body(alloc: Global, shape: Shape, text: &[u8]) -> Result<Matrix, MatrixRefusal>
+    requires { IsMatrixShape shape }
+    ensures reads { Reads result (body_read shape (words is_gap text.now)) }
+    ensures shape { IfOk result (λ matrix. IsMatrixShape matrix.shape) }
+    ensures cells { IfOk result (λ matrix. length matrix.cells ≡ cell_count matrix.shape) }
+{
+    let wanted = shape.w * shape.h;
+    let mut cells = Vec::with_capacity(alloc, (text.len() / 2 + 1).min(wanted as usize))?;
+    let mut rest = text;
+    while let Some((word, after)) = next_word(Cut::AtGaps, rest) {
+        let place = cells.len() as u64;
+        if place == wanted {
+            return Err(MatrixRefusal::TooMany { wanted });
+        }
+        let Some(cell) = read_number(word) else {
+            return Err(MatrixRefusal::BadNumber { word: place });
+        };
+        cells.push(cell)?;
+        rest = after;
+    }
+    let found = cells.len() as u64;
+    if found < wanted {
+        return Err(MatrixRefusal::TooFew { wanted, found });
+    }
+    Ok(Matrix { shape, cells })
+}
+
+fn read_text(alloc: Global, bytes: &[u8]) -> Result<Matrix, MatrixRefusal>
+    ensures reads { Reads result (matrix_read bytes.now) }
+    ensures shape { IfOk result (λ matrix. IsMatrixShape matrix.shape) }
+    ensures cells { IfOk result (λ matrix. length matrix.cells ≡ cell_count matrix.shape) }
+{
+    let Some((line, body)) = split_header(bytes) else {
+        return Err(MatrixRefusal::BadHeader);
+    };
+    match read_header(line) {
+        Some(shape) => read_body(alloc, shape, body),
+        None => Err(MatrixRefusal::BadHeader),
+    }
+}
+
+/// The matrix that a text spells. The header is the first line that isn't blank: `matrix` and the width, or the
+/// width and the height, each and their product at most `MAX_CELLS`. Behind it stand as many numbers of 64 bits.
+///
+/// Refuses with the first fault: of the header, then of a word among those that are wanted, then too few or too many.
+pub fn read_matrix(alloc: Global, bytes: &[u8]) -> Result<Matrix, MatrixRefusal>
+    ensures reads { Reads result (matrix_read bytes.now) }
+
+    // What is accepted is spelled so, and what is spelled so is accepted unless memory runs out.
+    ensures spelled { IfOk result (λ matrix. Spells bytes.now matrix) }
+    ensures accepted { (matrix : MatrixValue) → Spells bytes.now matrix → Reads result (Ok matrix) }
+
+    ensures shape { IfOk result (λ matrix. IsMatrixShape matrix.shape) }
+    ensures cells { IfOk result (λ matrix. length matrix.cells ≡ cell_count matrix.shape) }
+{
+    read_text(alloc, bytes)
+}
