@@ -1,0 +1,10 @@
+//! Rows that go through the top call, by exact bytes: words, files and failing devices, and what the two
+//! sinks hold in the end.
+#![tactic(auto)]
+
+#[cfg(test)]
+mod devices;
+#[cfg(test)]
+mod first_path;
+#[cfg(test)]
+mod run;
