@@ -42,7 +42,7 @@ fn two_sides(width: Option<u64>, height: Option<u64>) -> Option<Shape>
 {
     let w = width?;
     let h = height?;
-    if w.checked_mul(h)? > MAX_CELLS {
+    if w * h > MAX_CELLS {
         return None;
     }
     Some(Shape { dims: 2, w, h })
