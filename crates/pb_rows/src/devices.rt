@@ -1,64 +1,75 @@
-use std::test::Fail;
-use std::{env, fs, io};
-
+use crate::first_path::DOUBLE;
+use crate::run::{Row, holds};
 use pb_outside::{FILE_LIMIT, FileShelf, Shelf, Sink, StdSink, Take};
-
-use crate::run::{ROOM, run, shelf, sink};
-
-const DOUBLE: &str =
-    "transform Double from A[n] to B[n] { to (B.cell(i) b) from (A.cell(i) a) { b = a + a; } }";
-
-const WORDS: &str = "run --pool serial p - Double a";
+use std::test::Fail;
+use std::{env, fs};
 
 const INPUT: &str = "matrix 3\n1 2 3\n";
 
-const WRITTEN: &str = "matrix 3\n2 4 6\n";
+const FILES: &[(&str, &str)] = &[("p", DOUBLE), ("a", INPUT)];
 
-#[test]
-fn files_that_fail_or_are_missing_are_named(rt: HostRuntime) -> Result<(), Fail> {
-    let rows: [(&[(&str, &str)], &[u64], u8, &str); 4] = [
-        (&[("p", DOUBLE), ("a", INPUT)], &[0], 9, "R ReadFault: p\n"),
-        (&[("p", DOUBLE), ("a", INPUT)], &[1], 9, "R ReadFault: a\n"),
-        (&[("p", DOUBLE)], &[], 14, "I1 NoFile: a\n"),
-        (&[("a", INPUT)], &[1], 14, "I1 NoFile: p\n"),
-    ];
-    for (files, fail, status, line) in rows {
-        let alloc = rt.alloc();
-        let files = shelf(alloc, files, fail)?;
-        let ran = run(&rt, alloc, WORDS, files, sink(alloc, ROOM, &[])?, sink(alloc, ROOM, &[])?)?;
-        assert_eq!(rt; ran.status, status, "{line}");
-        assert!(rt; ran.out.is_empty());
-        assert_eq!(rt; ran.err.as_slice(), line.as_bytes());
+fn failing_file(
+    files: &'static [(&'static str, &'static str)],
+    failing_takes: &'static [u64],
+    status: u8,
+    err: &'static str,
+) -> Row {
+    Row {
+        words: "run --pool serial p - Double a",
+        files,
+        failing_takes,
+        failing_puts: &[],
+        most: 4096,
+        status,
+        out: "",
+        err,
     }
-    Ok(())
+}
+
+// Each put takes 4 bytes.
+fn failing_put(
+    files: &'static [(&'static str, &'static str)],
+    failing_puts: &'static [u64],
+    out: &'static str,
+    err: &'static str,
+) -> Row {
+    Row {
+        words: "run --pool serial p - Double a",
+        files,
+        failing_takes: &[],
+        failing_puts,
+        most: 4,
+        status: 10,
+        out,
+        err,
+    }
+}
+
+fn rows() -> [Row; 9] {
+    [
+        failing_file(FILES, &[0], 9, "R ReadFault: p\n"),
+        failing_file(FILES, &[1], 9, "R ReadFault: a\n"),
+        failing_file(&[("p", DOUBLE)], &[], 14, "I1 NoFile: a\n"),
+        failing_file(&[("a", INPUT)], &[1], 14, "I1 NoFile: p\n"),
+        failing_put(FILES, &[0], "", ""),
+        failing_put(FILES, &[1], "matr", ""),
+        failing_put(FILES, &[2], "matrix 3", ""),
+        failing_put(FILES, &[3], "matrix 3\n2 4", ""),
+        failing_put(&[("p", DOUBLE)], &[1], "", "I1 N"),
+    ]
 }
 
 #[test]
-fn a_sink_that_fails_holds_what_came_before(rt: HostRuntime) -> Result<(), Fail> {
-    // Each put takes 4 bytes, and the text has 15.
-    for failing in 0..4usize {
-        let alloc = rt.alloc();
-        let files = shelf(alloc, &[("p", DOUBLE), ("a", INPUT)], &[])?;
-        let out = sink(alloc, 4, &[failing as u64])?;
-        let ran = run(&rt, alloc, WORDS, files, out, sink(alloc, ROOM, &[])?)?;
-        assert_eq!(rt; ran.status, 10, "put {failing}");
-        assert_eq!(rt; ran.out.as_slice(), &WRITTEN.as_bytes()[..4 * failing], "put {failing}");
-        assert!(rt; ran.err.is_empty());
+fn failing_devices_have_their_causes(rt: HostRuntime) -> Result<(), Fail> {
+    for row in rows() {
+        holds(&rt, rt.alloc(), &row)?;
     }
-    let alloc = rt.alloc();
-    let files = shelf(alloc, &[("p", DOUBLE)], &[])?;
-    let err = sink(alloc, 4, &[1])?;
-    let ran = run(&rt, alloc, WORDS, files, sink(alloc, ROOM, &[])?, err)?;
-    assert_eq!(rt; ran.status, 10);
-    assert!(rt; ran.out.is_empty());
-    assert_eq!(rt; ran.err.as_slice(), b"I1 N".as_slice());
     Ok(())
 }
 
 #[test]
 fn real_files_are_taken_whole(rt: HostRuntime) -> Result<(), Fail> {
-    let folder = env::temp_dir(&rt)?;
-    let path = folder.join(rt.alloc(), "pb_rows_file_shelf")?;
+    let path = env::temp_dir(&rt)?.join(rt.alloc(), "pb_rows_file_shelf")?;
     let name = path.to_str().ok_or("the folder's name is no text")?;
     fs::write(&rt, name, INPUT)?;
     let mut files = FileShelf::new(&rt);
@@ -66,10 +77,7 @@ fn real_files_are_taken_whole(rt: HostRuntime) -> Result<(), Fail> {
     let long = files.take(rt.alloc(), name, 14)?;
     fs::remove_file(&rt, name)?;
     let missing = files.take(rt.alloc(), name, FILE_LIMIT)?;
-    let Take::Got(bytes) = taken else {
-        return Err(Fail::from("the file wasn't taken"));
-    };
-    assert_eq!(rt; bytes.as_slice(), INPUT.as_bytes());
+    assert!(rt; matches!(&taken, Take::Got(bytes) if bytes.as_slice() == INPUT.as_bytes()));
     assert!(rt; matches!(&long, Take::Long));
     assert!(rt; matches!(&missing, Take::Failed));
     Ok(())

@@ -1,12 +1,15 @@
-use std::test::Fail;
-
 use crate::run::{Row, holds};
+use std::test::Fail;
 
 /// The program of the first run.
 pub const DOUBLE: &str =
     "transform Double from A[n] to B[n] { to (B.cell(i) b) from (A.cell(i) a) { b = a + a; } }";
 
-fn done(words: &'static str, files: &'static [(&'static str, &'static str)], out: &'static str) -> Row {
+fn done(
+    words: &'static str,
+    files: &'static [(&'static str, &'static str)],
+    out: &'static str,
+) -> Row {
     Row {
         words,
         files,
@@ -51,7 +54,10 @@ fn written_rows() -> [Row; 3] {
         done(
             "run --pool serial p - T a",
             &[
-                ("p", "transform T from A[n] to B[n]{to(B.cell(i)b)from(A.cell(i)a){b=a-a+a;}}"),
+                (
+                    "p",
+                    "transform T from A[n] to B[n]{to(B.cell(i)b)from(A.cell(i)a){b=a-a+a;}}",
+                ),
                 ("a", "matrix 1\n-9223372036854775808"),
             ],
             "matrix 1\n-9223372036854775808\n",
@@ -71,16 +77,103 @@ const WORDS: &str = "run --pool serial p - Double a";
 
 const INPUT: (&str, &str) = ("a", "matrix 2\n1 2\n");
 
-fn unbuilt_inputs() -> [Row; 6] {
-    let past = ("a", "matrix 1\n9223372036854775807\n");
-    let back =
-        "transform Double from A[n] to B[n] { to (B.cell(i) b) from (A.cell(i) a) { b = a + a - a; } }";
+const PAST: (&str, &str) = ("a", "matrix 1\n9223372036854775807\n");
+
+fn unbuilt_rows() -> [Row; 11] {
     [
-        unbuilt(WORDS, &[("p", DOUBLE), ("a", "matrix 1\n9223372036854775807\n")]),
-        unbuilt(WORDS, &[("p", BACK), ("a", "matrix 1\n9223372036854775807\n")]),
+        unbuilt(WORDS, &[("p", DOUBLE), PAST]),
+        unbuilt(
+            WORDS,
+            &[
+                (
+                    "p",
+                    "transform Double from A[n] to B[n] { to (B.cell(i) b) from (A.cell(i) a) { b = a + a - a; } }",
+                ),
+                PAST,
+            ],
+        ),
         unbuilt(WORDS, &[("p", DOUBLE), ("a", "matrix 2 1\n1 2\n")]),
         unbuilt(WORDS, &[("p", DOUBLE), ("a", "matrix 0\n")]),
         unbuilt(WORDS, &[("p", DOUBLE), ("a", "no matrix\n")]),
         unbuilt("run --pool serial p - Triple a", &[("p", DOUBLE), INPUT]),
+        // A comment, a keyword as a name, a function as a name, a name that stands twice, and nothing.
+        unbuilt(
+            WORDS,
+            &[
+                (
+                    "p",
+                    "transform Double from A[n] to B[n] { /**/ to (B.cell(i) b) from (A.cell(i) a) { b = a; } }",
+                ),
+                INPUT,
+            ],
+        ),
+        unbuilt(
+            WORDS,
+            &[
+                (
+                    "p",
+                    "transform Double from A[n] to B[n] { to (B.cell(i) let) from (A.cell(i) a) { let = a; } }",
+                ),
+                INPUT,
+            ],
+        ),
+        unbuilt(
+            WORDS,
+            &[
+                (
+                    "p",
+                    "transform Double from A[n] to B[n] { to (B.cell(i) b) from (A.cell(i) sum) { b = sum; } }",
+                ),
+                INPUT,
+            ],
+        ),
+        unbuilt(
+            WORDS,
+            &[
+                (
+                    "p",
+                    "transform Double from A[n] to A[n] { to (A.cell(i) b) from (A.cell(i) a) { b = a; } }",
+                ),
+                INPUT,
+            ],
+        ),
+        unbuilt(WORDS, &[("p", ""), INPUT]),
     ]
+}
+
+#[test]
+fn what_is_not_built_is_named(rt: HostRuntime) -> Result<(), Fail> {
+    for row in unbuilt_rows() {
+        holds(&rt, rt.alloc(), &row)?;
+    }
+    Ok(())
+}
+
+// The first take would fail, so no file is taken.
+fn other_words(words: &'static str) -> Row {
+    Row {
+        words,
+        files: &[],
+        failing_takes: &[0],
+        failing_puts: &[],
+        most: 4096,
+        status: 12,
+        out: "",
+        err: "N1 NotBuilt\n",
+    }
+}
+
+#[test]
+fn other_words_take_no_file(rt: HostRuntime) -> Result<(), Fail> {
+    let rows = [
+        other_words(""),
+        other_words("check p"),
+        other_words("run --pool locked p - Double a"),
+        other_words("run --pool serial p c Double a"),
+        other_words("run --pool serial p - Double a a"),
+    ];
+    for row in rows {
+        holds(&rt, rt.alloc(), &row)?;
+    }
+    Ok(())
 }

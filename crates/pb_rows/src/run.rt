@@ -1,17 +1,17 @@
 ghost use Rattle.std.specs.Prelude.{◌<◌};
 
+use pb_outside::{MemShelf, MemSink};
+use pb_top::pb_command;
 use std::alloc::{AllocError, Global};
 use std::process::Abort;
 use std::sync::Wait;
 use std::test::Fail;
 use std::thread::Threads;
 
-use pb_outside::{MemShelf, MemSink};
-use pb_top::pb_command;
-
 /// A call of the top call in memory: words in one text with single blanks between them, the files, the
 /// calls of the shelf that fail, the puts on `out` that fail and the most bytes of each; then the status and
 /// what the sinks hold in the end.
+#[derive(Drop)]
 pub struct Row {
     pub words: &'static str,
     pub files: &'static [(&'static str, &'static str)],
@@ -35,7 +35,12 @@ fn shelf(alloc: Global, row: &Row) -> Result<MemShelf, AllocError> {
 }
 
 fn sink(alloc: Global, row: &Row) -> Result<MemSink, AllocError> {
-    MemSink::new(alloc, 4096, row.most, Vec::from_slice(alloc, row.failing_puts)?)
+    MemSink::new(
+        alloc,
+        4096,
+        row.most,
+        Vec::from_slice(alloc, row.failing_puts)?,
+    )
 }
 
 fn words(alloc: Global, row: &Row) -> Result<Vec<String>, AllocError> {
@@ -47,11 +52,22 @@ fn words(alloc: Global, row: &Row) -> Result<Vec<String>, AllocError> {
 }
 
 /// Runs a row and asserts its answer.
-pub fn holds<R: Threads + Wait + Sync + Abort>(rt: &R, alloc: Global, row: &Row) -> Result<(), Fail> {
+pub fn holds<R: Threads + Wait + Sync + Abort>(
+    rt: &R,
+    alloc: Global,
+    row: &Row,
+) -> Result<(), Fail> {
     let mut files = shelf(alloc, row)?;
     let mut out = sink(alloc, row)?;
     let mut err = sink(alloc, row)?;
-    let status = pb_command(rt, alloc, &words(alloc, row)?, &mut files, &mut out, &mut err);
+    let status = pb_command(
+        rt,
+        alloc,
+        &words(alloc, row)?,
+        &mut files,
+        &mut out,
+        &mut err,
+    );
     assert_eq!(rt; status, row.status, "{}", row.words);
     assert_eq!(rt; out.written(), row.out.as_bytes(), "{}", row.words);
     assert_eq!(rt; err.written(), row.err.as_bytes(), "{}", row.words);
