@@ -1,0 +1,5 @@
+pub mod Integers
+pub mod Periods
+pub mod Parts
+pub mod SizesLemmas
+pub mod Values

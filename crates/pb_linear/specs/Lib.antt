@@ -1,0 +1,5 @@
+pub mod Limits
+pub mod Sizes
+pub mod Numbers
+pub mod Form
+pub mod Most
