@@ -1,5 +1,6 @@
 pub mod Integers
 pub mod Periods
 pub mod Parts
+pub mod Rows
 pub mod SizesLemmas
 pub mod Values

@@ -2,4 +2,5 @@ pub mod Limits
 pub mod Sizes
 pub mod Numbers
 pub mod Form
+pub mod VForm
 pub mod Most

@@ -4,6 +4,9 @@ ghost use Rattle.pb_linear.specs.Limits.{is_number};
 
 use crate::sizes::{SIZE_TOP, Sizes};
 
+/// The greatest absolute value of a form's constant and of its coefficients.
+pub(crate) const NUMBER_TOP: i128 = 1 << 26;
+
 /// A linear form over at most 8 size variables: a constant, and for each variable the coefficients of the variable itself,
 /// of its half, of its third and of its quarter, each rounded down. Every number is at most 2^26 in absolute value.
 #[derive(Clone, Copy, PartialEq, Eq, Debug)]

@@ -4,6 +4,8 @@
 mod form;
 mod most;
 mod sizes;
+mod vform;
 
 pub use form::{Form, OverLimit};
 pub use sizes::{Ranges, SIZE_TOP, Sizes};
+pub use vform::{SymBox, VForm};

@@ -1,0 +1,50 @@
+-- Rows of coefficients: sums, multiples, and the first number over the limit.
+use Rattle.std.proofs.Common.{◌≡◌, ℕ, zero, suc, ◌+◌, ◌<◌, ◌≤◌, Bool, true, false, IsTrue, List, [], ◌∷◌, map, length, get_or, Option, Some, None, ℤ, pos, ◌+ℤ◌, ◌*ℤ◌, refl, sym, ap, ◌∙◌, arith}
+use Rattle.std.specs.List.{list_all}
+use Rattle.std.proofs.Math.IntN.{*ℤ-zero, +ℤ_idl, +ℤ_idr}
+use Rattle.std.proofs.lemmas.Int.{ints}
+use Rattle.std.proofs.lemmas.List.{length-map}
+use Rattle.pb_linear.specs.Limits.{is_number}
+use Rattle.pb_linear.specs.Numbers.{row_sum, row_multiple, row_combination, first_over}
+use Rattle.pb_linear.specs.declared.form.OverLimit.{OverLimit}
+
+-- ---- a coefficient of a sum and of a multiple
+pub row_sum-at : (xs ys : List ℤ) (i : ℕ) → get_or (row_sum xs ys) i (pos 0) ≡ get_or xs i (pos 0) +ℤ get_or ys i (pos 0)
+row_sum-at [] ys i = sym (+ℤ_idl (get_or ys i (pos 0)))
+row_sum-at (x ∷ xs) [] i = sym (+ℤ_idr (get_or (x ∷ xs) i (pos 0)))
+row_sum-at (x ∷ xs) (y ∷ ys) zero = refl
+row_sum-at (x ∷ xs) (y ∷ ys) (suc i) = row_sum-at xs ys i
+
+pub row_multiple-at : (k : ℤ) (xs : List ℤ) (i : ℕ) → get_or (row_multiple k xs) i (pos 0) ≡ k *ℤ get_or xs i (pos 0)
+row_multiple-at k [] i = sym (*ℤ-zero k)
+row_multiple-at k (x ∷ xs) zero = refl
+row_multiple-at k (x ∷ xs) (suc i) = row_multiple-at k xs i
+
+pub row_combination-at : (base : List ℤ) (x : ℤ) (first : List ℤ) (y : ℤ) (second : List ℤ) (i : ℕ) → get_or (row_combination base x first y second) i (pos 0) ≡ get_or base i (pos 0) +ℤ (x *ℤ get_or first i (pos 0) +ℤ y *ℤ get_or second i (pos 0))
+row_combination-at base x first y second i = simp (row_sum-at, row_multiple-at)
+
+length-row_sum : (xs ys : List ℤ) → length xs ≡ length ys → length (row_sum xs ys) ≡ length xs
+length-row_sum [] ys e = sym e
+length-row_sum (x ∷ xs) [] e = refl
+length-row_sum (x ∷ xs) (y ∷ ys) e = ap suc (length-row_sum xs ys (omega arith))
+
+pub length-row_combination : (base : List ℤ) (x : ℤ) (first : List ℤ) (y : ℤ) (second : List ℤ) → length base ≡ 8 → length first ≡ 8 → length second ≡ 8 → length (row_combination base x first y second) ≡ 8
+length-row_combination base x first y second a b c =
+    let one : length (row_multiple x first) ≡ 8 = rw length-map b in
+    let two : length (row_multiple y second) ≡ 8 = rw length-map c in
+    let both = length-row_sum (row_multiple x first) (row_multiple y second) (omega arith) in
+    omega (arith, length-row_sum base (row_sum (row_multiple x first) (row_multiple y second)) (omega arith))
+
+-- ---- the first number over the limit
+pub first_over-at : (zs : List ℤ) (i : ℕ) (e : OverLimit) → i < length zs → ((k : ℕ) → k < i → IsTrue (is_number (get_or zs k (pos 0)))) → Some e ≡ first_over (get_or zs i (pos 0) ∷ []) → Some e ≡ first_over zs
+first_over-at [] i e below small over = absurd (omega arith)
+first_over-at (z ∷ zs) zero e below small over = grind arith
+first_over-at (z ∷ zs) (suc i) e below small over = let here : is_number z ≡ true = small 0 (omega arith) in rw here (first_over-at zs i e (omega arith) (λ k h. small (suc k) (omega arith)) over)
+
+pub first_over-none : (zs : List ℤ) → ((k : ℕ) → k < length zs → IsTrue (is_number (get_or zs k (pos 0)))) → None ≡ first_over zs
+first_over-none [] small = refl
+first_over-none (z ∷ zs) small = let here : is_number z ≡ true = small 0 (omega arith) in rw here (first_over-none zs (λ k h. small (suc k) (omega arith)))
+
+pub list_all-from : (zs : List ℤ) → ((k : ℕ) → k < length zs → IsTrue (is_number (get_or zs k (pos 0)))) → IsTrue (list_all is_number zs)
+list_all-from [] small = refl
+list_all-from (z ∷ zs) small = let here : is_number z ≡ true = small 0 (omega arith) in rw here (list_all-from zs (λ k h. small (suc k) (omega arith)))
