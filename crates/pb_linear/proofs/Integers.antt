@@ -19,10 +19,10 @@ add-mul a b (negsuc n) = omega (arith, ints, add-mul-pos a b (suc n), *ℤ-negsu
 pub mul-add : (a b c : ℤ) → a *ℤ (b +ℤ c) ≡ a *ℤ b +ℤ a *ℤ c
 mul-add a b c = omega (arith, ints, *ℤ_comm a (b +ℤ c), add-mul b c a, *ℤ_comm b a, *ℤ_comm c a)
 
-mul-mul-pos : (a b : ℤ) (n : ℕ) → (a *ℤ b) *ℤ pos n ≡ a *ℤ (b *ℤ pos n)
-mul-mul-pos a b zero = omega (arith, ints, *ℤ-zero (a *ℤ b), ap (λ z. a *ℤ z) (*ℤ-zero b), *ℤ-zero a)
-mul-mul-pos a b (suc n) =
-    omega (arith, ints, mul-mul-pos a b n, mul-suc (a *ℤ b) n, ap (λ z. a *ℤ z) (mul-suc b n), mul-add a (b *ℤ pos n) b)
+pub mul-mul : (a b : ℤ) (n : ℕ) → (a *ℤ b) *ℤ pos n ≡ a *ℤ (b *ℤ pos n)
+mul-mul a b zero = omega (arith, ints, *ℤ-zero (a *ℤ b), ap (λ z. a *ℤ z) (*ℤ-zero b), *ℤ-zero a)
+mul-mul a b (suc n) =
+    omega (arith, ints, mul-mul a b n, mul-suc (a *ℤ b) n, ap (λ z. a *ℤ z) (mul-suc b n), mul-add a (b *ℤ pos n) b)
 
 -- a factor above 0 keeps order, one of at most 0 turns it round
 pub mul-le : (k : ℕ) (a b : ℤ) → a ≤ℤ b → (pos k *ℤ a) ≤ℤ (pos k *ℤ b)

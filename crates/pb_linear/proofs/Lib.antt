@@ -4,3 +4,4 @@ pub mod Parts
 pub mod Rows
 pub mod SizesLemmas
 pub mod Values
+pub mod Worst

@@ -21,6 +21,10 @@ pub record InArea (area : SymBox) (sizes : List ℕ) (x y : ℤ) : Type 0 where
   pub from_y : value area.y0 sizes ≤ℤ y
   pub before_y : y <ℤ value area.y1 sizes
 
+-- some place of the area has this value
+abbrev pub Reaches : VForm → SymBox → List ℕ → ℤ → Type 0
+Reaches v area sizes m = (x : ℤ) × (y : ℤ) × InArea area sizes x y × (value_at v sizes x y ≡ m)
+
 -- the end of an area at which a variable with this coefficient makes a value greatest: the upper end minus 1 for a
 -- coefficient above 0, else the lower end
 abbrev pub worst_end : ℤ → Form → Form → Numbers

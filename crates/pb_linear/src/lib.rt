@@ -1,6 +1,7 @@
 //! Forms over sizes.
 #![tactic(auto)]
 
+mod combine;
 mod form;
 mod most;
 mod sizes;

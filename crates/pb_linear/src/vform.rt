@@ -5,6 +5,7 @@ ghost use Rattle.pb_linear.specs.Limits.{is_number};
 ghost use Rattle.pb_linear.specs.Numbers.{first_over, refusal, row_combination};
 
 use crate::form::{Form, NUMBER_TOP, OverLimit};
+use crate::sizes::{SIZE_TOP, Sizes};
 
 /// A form over sizes and over the rule variables x and y.
 #[derive(Clone, Copy, PartialEq, Eq, Debug)]
@@ -33,12 +34,30 @@ pub(crate) struct End {
 
 impl VForm {
     ghost use Rattle.pb_linear.specs.Form.{HasNumbers, numbers, value};
-    ghost use Rattle.pb_linear.specs.VForm.{InArea, end_numbers, put_numbers, value_at, worst_numbers};
+    ghost use Rattle.std.specs.Prelude.{All};
+    ghost use Rattle.pb_linear.specs.Sizes.{sizes_of};
+    ghost use Rattle.pb_linear.specs.VForm.{InArea, Reaches, end_numbers, put_numbers, value_at, worst_numbers};
+
+    /// The value at sizes, and at values of x and y.
+    pub fn at(&self, s: &Sizes, x: i64, y: i64) -> i64
+        requires sizes { All (λ size. size ≤ SIZE_TOP) s.now.of }
+        requires x_coefficient { unsigned_abs self.now.x ≤ 2 ^ 26 }
+        requires y_coefficient { unsigned_abs self.now.y ≤ 2 ^ 26 }
+        requires x { unsigned_abs x ≤ 2 ^ 23 }
+        requires y { unsigned_abs y ≤ 2 ^ 23 }
+        ensures { result ≡ value_at self.now (sizes_of s.now) x y }
+    {
+        self.rest.at(s) + (term(&self.x, &x) + term(&self.y, &y))
+    }
 
     /// The form with each variable put at the end of the area that makes the value greatest.
     pub fn worst(&self, area: &SymBox) -> Result<Form, OverLimit>
         ensures numbers { IfOk result (HasNumbers (worst_numbers self.now area.now)) }
         ensures over_limit { result_err result ≡ refusal (worst_numbers self.now area.now) }
+        ensures greatest { IfOk result (λ f. (sizes : List ℕ) (x y : ℤ) → InArea area.now sizes x y
+            → value_at self.now sizes x y ≤ℤ value f sizes) }
+        ensures reached { IfOk result (λ f. (sizes : List ℕ) (x y : ℤ) → InArea area.now sizes x y
+            → Reaches self.now area.now sizes (value f sizes)) }
     {
         self.put(
             &End::end_for(&self.x, &area.x0, &area.x1),
@@ -118,6 +137,16 @@ impl End {
             }
         }
     }
+}
+
+/// A coefficient times the value of its variable.
+fn term(coefficient: &i64, variable: &i64) -> i64
+    requires coefficient { unsigned_abs coefficient.now ≤ 2 ^ 26 }
+    requires variable { unsigned_abs variable.now ≤ 2 ^ 23 }
+    ensures value { result ≡ coefficient.now *ℤ variable.now }
+    ensures near { unsigned_abs result ≤ 2 ^ 49 }
+{
+    *coefficient * *variable
 }
 
 /// A multiple of a form's number.
