@@ -1,5 +1,5 @@
 -- Sizes as a list, sizes in range, and tests at every sizes in range.
-use Rattle.std.proofs.Common.{◌≡◌, ℕ, zero, suc, ◌+◌, ◌-◌, ◌<◌, ◌≤◌, ◌⊎◌, inl, inr, Bool, true, false, IsTrue, ◌↔◌, List, [], ◌∷◌, get_or, take, drop, length, eqb, refl, sym, ap, ◌∙◌, arith}
+use Rattle.std.proofs.Common.{◌≡◌, ℕ, zero, suc, ◌+◌, ◌-◌, ◌<◌, ◌≤◌, ◌⊎◌, inl, inr, Bool, true, false, IsTrue, ◌↔◌, List, [], ◌∷◌, get_or, take, drop, length, ℤ, pos, ◌-ℤ◌, ◌≤ℤ◌, int_le, refl, sym, ap, ◌∙◌, arith}
 use Rattle.std.specs.List.{list_all, range_with_len, All}
 use Rattle.std.proofs.lemmas.Bool.Decides.{same_from_decides}
 use Rattle.std.proofs.lemmas.Grind.{get_or_default_zero}
@@ -7,7 +7,8 @@ use Rattle.std.proofs.lemmas.List.{get_or-take, length-take-le}
 use Rattle.std.proofs.lemmas.List.FromFn.{get_or-range_with_len, length-range_with_len}
 use Rattle.std.proofs.lemmas.List.Sums.{AllPass-from_list_all, list_all-from_AllPass}
 use Rattle.pb_linear.specs.Limits.{is_zero_from}
-use Rattle.pb_linear.specs.Sizes.{InRange, everywhere}
+use Rattle.std.proofs.lemmas.Int.{ints}
+use Rattle.pb_linear.specs.Sizes.{InRange, everywhere, le_everywhere}
 use Rattle.pb_linear.specs.declared.sizes.TheConstants.{SIZE_TOP}
 
 -- ---- zeros past the count
@@ -94,3 +95,22 @@ module _ (count size_count : ℕ) (least of : List ℕ) (same : count ≡ size_c
   hold_at r k here =
       let there : k < size_count = omega arith in
       rw (get_or-take count least k 0 here, get_or-take size_count of k 0 there) at (InRange-at (take count least) (take size_count of) r k (omega (arith, length-take-le count least (omega arith))))
+
+-- ---- one value at most another everywhere
+pub le_everywhere-at : (ls : List ℕ) (low high : List ℕ → ℤ) → IsTrue (le_everywhere ls low high) → (vs : List ℕ) → InRange ls vs → low vs ≤ℤ high vs
+le_everywhere-at ls low high h vs r = let here = everywhere-at ls (λ s. int_le (low s) (high s)) h vs r in grind (arith, ints)
+
+pub le_everywhere-from : (ls : List ℕ) (low high : List ℕ → ℤ) → ((vs : List ℕ) → InRange ls vs → low vs ≤ℤ high vs) → IsTrue (le_everywhere ls low high)
+le_everywhere-from ls low high h = everywhere-from ls (λ s. int_le (low s) (high s)) (λ vs r. let here : low vs ≤ℤ high vs = h vs r in grind (arith, ints))
+
+pub le_everywhere-refl : (ls : List ℕ) (f : List ℕ → ℤ) → IsTrue (le_everywhere ls f f)
+le_everywhere-refl ls f = le_everywhere-from ls f f (λ vs r. omega (arith, ints))
+
+pub le_everywhere-trans : (ls : List ℕ) (f g h : List ℕ → ℤ) → IsTrue (le_everywhere ls f g) → IsTrue (le_everywhere ls g h) → IsTrue (le_everywhere ls f h)
+le_everywhere-trans ls f g h a b =
+    le_everywhere-from ls f h (λ vs r. omega (arith, ints, le_everywhere-at ls f g a vs r, le_everywhere-at ls g h b vs r))
+
+-- the test of a difference against 0 is the test of the two values
+pub le_everywhere-difference : (ls : List ℕ) (f g d : List ℕ → ℤ) → ((vs : List ℕ) → d vs ≡ f vs -ℤ g vs) → le_everywhere ls d (λ _. pos 0) ≡ le_everywhere ls f g
+le_everywhere-difference ls f g d same =
+    everywhere_is (le_everywhere ls d (λ _. pos 0)) ls (λ s. int_le (f s) (g s)) (λ h vs r. let below = le_everywhere-at ls d (λ _. pos 0) h vs r in let e = same vs in grind (arith, ints)) (λ h. le_everywhere-from ls d (λ _. pos 0) (λ vs r. let here : IsTrue (int_le (f vs) (g vs)) = h vs r in let below : f vs ≤ℤ g vs = grind (arith, ints) in omega (arith, ints, same vs)))

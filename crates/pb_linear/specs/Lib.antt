@@ -4,3 +4,4 @@ pub mod Numbers
 pub mod Form
 pub mod VForm
 pub mod Most
+pub mod RuleBox
