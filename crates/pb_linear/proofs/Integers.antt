@@ -1,8 +1,7 @@
 -- Laws of products and sums of integers.
-use Rattle.std.proofs.Common.{◌≡◌, ℕ, zero, suc, ◌+◌, ◌*◌, ◌<◌, ◌≤◌, ℤ, pos, negsuc, ◌+ℤ◌, ◌-ℤ◌, ◌*ℤ◌, neg_ℤ, ◌≤ℤ◌, refl, sym, ap, ◌∙◌, arith}
-use Rattle.std.proofs.Math.IntN.{*ℤ_comm, suc_ℤ-*ℤ, pred_ℤ-*ℤ, suc_ℤ, pred_ℤ, *ℤ-zero, zero-*ℤ, pos-*ℤ-pos, *ℤ-negsuc, neg_ℤ-neg_ℤ}
+use Rattle.std.proofs.Common.{◌≡◌, ℕ, zero, suc, ℤ, pos, negsuc, ◌+ℤ◌, ◌*ℤ◌, ◌≤ℤ◌, ap, ◌∙◌, arith}
+use Rattle.std.proofs.Math.IntN.{*ℤ_comm, suc_ℤ-*ℤ, *ℤ-zero, zero-*ℤ, *ℤ-negsuc}
 use Rattle.std.proofs.lemmas.Int.{ints}
-use Rattle.std.proofs.Common.{◌<ℤ◌}
 
 -- one step of the second factor
 mul-suc : (a : ℤ) (n : ℕ) → a *ℤ pos (suc n) ≡ a *ℤ pos n +ℤ a

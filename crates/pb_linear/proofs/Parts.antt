@@ -1,6 +1,5 @@
 -- The parts of a form, one variable each, and the greatest value as the sum of their greatest values.
-use Rattle.std.proofs.Common.{◌≡◌, ℕ, zero, suc, ◌+◌, ◌-◌, ◌*◌, ◌/◌, ◌<◌, ◌≤◌, ◌⊎◌, inl, inr, IsTrue, List, length, take, get_or, ℤ, pos, ◌+ℤ◌, ◌*ℤ◌, ◌≤ℤ◌, ◌<ℤ◌, int_le, refl, sym, ap, arith}
-use Rattle.std.proofs.Math.Numerals.{add-one}
+use Rattle.std.proofs.Common.{◌≡◌, ℕ, zero, suc, ◌+◌, ◌/◌, ◌<◌, ◌≤◌, inl, inr, IsTrue, List, length, take, get_or, ℤ, pos, ◌+ℤ◌, ◌*ℤ◌, ◌≤ℤ◌, ◌<ℤ◌, int_le, refl, sym, ap, arith}
 use Rattle.std.proofs.lemmas.Int.{ints}
 use Rattle.std.proofs.lemmas.List.{get_or_past, get_or-take, length-take-le}
 use Rattle.std.proofs.lemmas.Bool.{cases_lt}
@@ -11,8 +10,7 @@ use Rattle.pb_linear.specs.Sizes.{InRange, le_everywhere}
 use Rattle.pb_linear.specs.declared.sizes.TheConstants.{SIZE_TOP}
 use Rattle.pb_linear.proofs.Integers.{mul-add}
 use Rattle.pb_linear.proofs.Periods.{Steps}
-use Rattle.pb_linear.proofs.SizesLemmas.{InRange-length, InRange-at, InRange-from, everywhere_is, size_at}
-use Rattle.pb_linear.proofs.Values.{value_before-zero, value_before-more}
+use Rattle.pb_linear.proofs.SizesLemmas.{InRange-length, InRange-at, everywhere_is, hold_from, size_at}
 
 -- what a part grows by when its variable grows by 12
 abbrev pub step_of : ℤ → ℤ → ℤ → ℤ → ℤ
@@ -61,12 +59,12 @@ module _ (n : Numbers) (ls s : List ℕ) (few : length ls ≤ 8) (inside : InRan
   part_below : (t : List ℕ) → InRange ls t → (i : ℕ) → (part_of n i (get_or t i 0) ≤ℤ part_of n i (get_or s i 0)) × (get_or t i 0 < get_or s i 0 → part_of n i (get_or t i 0) <ℤ part_of n i (get_or s i 0))
   part_below t r i =
       elim (cases_lt i (length ls)) [
-        inl here ↦
-          let at = InRange-at ls t r i here in
-          ((best i here).greatest _ at.0 (omega (arith, at.1)), λ below. (best i here).first _ at.0 below)
+        | inl here ↦
+            let at = InRange-at ls t r i here in
+            ((best i here).greatest _ at.0 (omega (arith, at.1)), λ below. (best i here).first _ at.0 below)
         | inr over ↦
-          let same = past t r i over in
-          (omega (arith, ints, ap (part_of n i) same), λ below. absurd (omega arith))
+            let same = past t r i over in
+            (omega (arith, ints, ap (part_of n i) same), λ below. absurd (omega arith))
       ]
 
   value_below : (t : List ℕ) → InRange ls t → (i : ℕ) → (value_before i n t ≤ℤ value_before i n s) × ((k : ℕ) → k < i → get_or t k 0 < get_or s k 0 → value_before i n t <ℤ value_before i n s)
@@ -74,11 +72,13 @@ module _ (n : Numbers) (ls s : List ℕ) (few : length ls ≤ 8) (inside : InRan
   value_below t r zero = (omega (arith, ints), λ k h. absurd (omega arith))
   value_below t r (suc i) =
       let rest = value_below t r i in
-      let here = part_below t r i in
-      (omega (arith, ints, rest.0, here.0), λ k h below. elim (cases_lt k i) [
-        inl before ↦ omega (arith, ints, rest.1 k before below, here.0)
-        | inr at ↦ let same : i ≡ k = omega arith in omega (arith, ints, rest.0, here.1 (rw same below))
-      ])
+      let here = part_below t r i in (
+        omega (arith, ints, rest.0, here.0),
+        λ k h below. elim (cases_lt k i) [
+          | inl before ↦ omega (arith, ints, rest.1 k before below, here.0)
+          | inr at ↦ let same : i ≡ k = omega arith in omega (arith, ints, rest.0, here.1 (rw same below))
+        ],
+      )
 
   pub most_is : (m : ℤ) → value_before 8 n s ≡ m → Most (value_before 8 n) ls m s
   most_is m reached = record {
@@ -86,8 +86,8 @@ module _ (n : Numbers) (ls s : List ℕ) (few : length ls ≤ 8) (inside : InRan
     reached = reached;
     greatest = λ t r. omega (arith, ints, (value_below t r 8).0);
     least = λ t r equal i. elim (cases_lt (get_or t i 0) (get_or s i 0)) [
-      inl below ↦ elim (cases_lt i 8) [
-        inl here ↦ absurd (omega (arith, ints, (value_below t r 8).1 i here below))
+      | inl below ↦ elim (cases_lt i 8) [
+        | inl here ↦ absurd (omega (arith, ints, (value_below t r 8).1 i here below))
         | inr over ↦ omega (arith, past t r i (omega arith))
       ]
       | inr good ↦ good
@@ -99,7 +99,7 @@ pub most_of : (n : Numbers) (count size_count : ℕ) (least of : List ℕ) (m : 
 most_of n count size_count least of m small full few counted zeros best reached =
     let ls = length-take-le count least (omega arith) in
     let at : (i : ℕ) → i < length (take count least) → FirstGreatest (part_of n i) (get_or (take count least) i 0) (SIZE_TOP + 1) (get_or (take size_count of) i 0) = λ i h. let below : i < count = omega arith in rw (get_or-take count least i 0 below, size_at size_count of zeros i) (best i below) in
-    let inside = InRange-from (take count least) (take size_count of) (omega (arith, ls, length-take-le size_count of (omega arith))) (λ i h. ((at i h).low, omega (arith, (at i h).high))) in
+    let inside = hold_from count size_count least of (sym counted) (omega arith) small full (λ k h. ((best k h).low, omega (arith, (best k h).high))) in
     most_is n (take count least) (take size_count of) (omega arith) inside at m reached
 
 -- the greatest value is at most 0 exactly where every value is

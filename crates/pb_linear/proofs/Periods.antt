@@ -1,10 +1,8 @@
 -- The law of parts: where a part of one variable grows by a constant when the variable grows by 12, its greatest value and
 -- the least size that reaches it stand among the first twelve or the last twelve sizes of a range.
-use Rattle.std.proofs.Common.{◌≡◌, ℕ, zero, suc, ◌+◌, ◌-◌, ◌*◌, ◌/◌, ◌%◌, ◌<◌, ◌≤◌, min, max, ◌⊎◌, inl, inr, ℤ, pos, negsuc, ◌+ℤ◌, ◌*ℤ◌, ◌≤ℤ◌, ◌<ℤ◌, refl, sym, ap, subst, arith}
+use Rattle.std.proofs.Common.{◌≡◌, ℕ, zero, suc, ◌+◌, ◌-◌, ◌*◌, ◌/◌, ◌%◌, ◌<◌, ◌≤◌, min, max, ◌⊎◌, inl, inr, ℤ, pos, negsuc, ◌+ℤ◌, ◌≤ℤ◌, ◌<ℤ◌, refl, ap, arith}
 use Rattle.std.proofs.lemmas.Int.{ints}
 use Rattle.pb_linear.specs.Most.{FirstGreatest}
-use Rattle.pb_linear.specs.Numbers.{part}
-use Rattle.pb_linear.proofs.Integers.{mul-add}
 
 -- a part that grows by c when the variable grows by 12
 pub record Steps (g : ℕ → ℤ) (c : ℤ) : Type 0 where
@@ -32,26 +30,30 @@ descend g c steps down (suc k) w u e =
     omega (arith, ints, descend g c steps down k w (w + 12 * k) refl, steps.step (w + 12 * k), ap g same)
 
 good_below : (g : ℕ → ℤ) (c : ℤ) → Steps g c → c ≤ℤ pos 0 → (start end u : ℕ) → start ≤ u → u < end → (w : ℕ) × AsGood g start end u w
-good_below g c steps down start end u low high =
-    ((u - start) % 12 + start, record {
-      low = omega arith;
-      high = omega arith;
-      near = inl (omega arith);
-      good = descend g c steps down ((u - start) / 12) ((u - start) % 12 + start) u (omega arith);
-      first = inl (omega arith);
-    })
+good_below g c steps down start end u low high = (
+  (u - start) % 12 + start,
+  record {
+    low = omega arith;
+    high = omega arith;
+    near = inl (omega arith);
+    good = descend g c steps down ((u - start) / 12) ((u - start) % 12 + start) u (omega arith);
+    first = inl (omega arith);
+  },
+)
 
 good_above : (g : ℕ → ℤ) (c : ℤ) → Steps g c → pos 0 <ℤ c → (start end u : ℕ) → start ≤ u → u < end → (w : ℕ) × AsGood g start end u w
 good_above g c steps up start end u low high =
     let k : ℕ = (end - 1 - u) / 12 in
-    let risen = climb g c steps up k u in
-    (u + 12 * k, record {
-      low = omega arith;
-      high = omega arith;
-      near = inr (omega arith);
-      good = risen.0;
-      first = elim risen.1 [ inl none ↦ inl (omega arith) | inr more ↦ inr more ];
-    })
+    let risen = climb g c steps up k u in (
+      u + 12 * k,
+      record {
+        low = omega arith;
+        high = omega arith;
+        near = inr (omega arith);
+        good = risen.0;
+        first = elim risen.1 [ inl none ↦ inl (omega arith) | inr more ↦ inr more ];
+      },
+    )
 
 pub as_good : (g : ℕ → ℤ) (c : ℤ) → Steps g c → (start end u : ℕ) → start ≤ u → u < end → (w : ℕ) × AsGood g start end u w
 as_good g (pos zero) steps = good_below g (pos zero) steps (omega (arith, ints))
@@ -70,7 +72,7 @@ module _ (g : ℕ → ℤ) (c : ℤ) (steps : Steps g c) (start end near far : �
   best p over_near over_far u low high =
       let (w, good) = as_good g c steps start end u low high in
       elim good.near [
-        inl close ↦ omega (arith, ints, good.good, at_near w good.low good.high close)
+        | inl close ↦ omega (arith, ints, good.good, at_near w good.low good.high close)
         | inr close ↦ omega (arith, ints, good.good, at_far w good.low good.high close)
       ]
 
@@ -78,9 +80,9 @@ module _ (g : ℕ → ℤ) (c : ℤ) (steps : Steps g c) (start end near far : �
   before_far better u low below =
       let (w, good) = as_good g c steps start end u low (omega arith) in
       elim good.near [
-        inl close ↦ omega (arith, ints, good.good, at_near w good.low good.high close)
+        | inl close ↦ omega (arith, ints, good.good, at_near w good.low good.high close)
         | inr close ↦ elim good.first [
-          inl before ↦ omega (arith, ints, good.good, b.first w (omega arith) (omega arith))
+          | inl before ↦ omega (arith, ints, good.good, b.first w (omega arith) (omega arith))
           | inr more ↦ omega (arith, ints, more, at_far w good.low good.high close)
         ]
       ]

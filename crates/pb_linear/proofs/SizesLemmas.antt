@@ -1,6 +1,6 @@
 -- Sizes as a list, sizes in range, and tests at every sizes in range.
-use Rattle.std.proofs.Common.{◌≡◌, ℕ, zero, suc, ◌+◌, ◌-◌, ◌<◌, ◌≤◌, ◌⊎◌, inl, inr, Bool, true, false, IsTrue, ◌↔◌, List, [], ◌∷◌, get_or, take, drop, length, ℤ, pos, ◌-ℤ◌, ◌≤ℤ◌, int_le, refl, sym, ap, ◌∙◌, arith}
-use Rattle.std.specs.List.{list_all, range_with_len, All}
+use Rattle.std.proofs.Common.{◌≡◌, ℕ, zero, suc, ◌+◌, ◌-◌, ◌<◌, ◌≤◌, Bool, IsTrue, List, [], ◌∷◌, get_or, take, length, ℤ, pos, ◌-ℤ◌, ◌≤ℤ◌, int_le, refl, sym, ap, ◌∙◌, arith}
+use Rattle.std.specs.List.{range_with_len, All}
 use Rattle.std.proofs.lemmas.Bool.Decides.{same_from_decides}
 use Rattle.std.proofs.lemmas.Grind.{get_or_default_zero}
 use Rattle.std.proofs.lemmas.List.{get_or-take, length-take-le}
@@ -68,8 +68,8 @@ everywhere-from [] test h = h [] tt
 everywhere-from (l ∷ ls) test h =
     let n : ℕ = suc SIZE_TOP - l in
     list_all-from_AllPass (λ size. everywhere ls (λ sizes. test (size ∷ sizes))) (range_with_len l n) (λ k d below.
-      let fits : k < n = omega (arith, length-range_with_len l n) in
-      rw (get_or-range_with_len l n k d fits) (everywhere-from ls (λ sizes. test ((l + k) ∷ sizes)) (λ vs r. h ((l + k) ∷ vs) (omega arith, omega arith, r))))
+    let fits : k < n = omega (arith, length-range_with_len l n) in
+    rw (get_or-range_with_len l n k d fits) (everywhere-from ls (λ sizes. test ((l + k) ∷ sizes)) (λ vs r. h ((l + k) ∷ vs) (omega arith, omega arith, r))))
 
 -- a test that is true exactly where another passes at every sizes in range
 pub everywhere_is : (answer : Bool) (ls : List ℕ) (test : List ℕ → Bool) → (IsTrue answer → (vs : List ℕ) → InRange ls vs → IsTrue (test vs)) → (((vs : List ℕ) → InRange ls vs → IsTrue (test vs)) → IsTrue answer) → answer ≡ everywhere ls test
@@ -87,9 +87,9 @@ module _ (count size_count : ℕ) (least of : List ℕ) (same : count ≡ size_c
   pub hold_from : ((k : ℕ) → k < count → (get_or least k 0 ≤ get_or of k 0) × (get_or of k 0 ≤ SIZE_TOP)) → InRange (take count least) (take size_count of)
   hold_from h =
       InRange-from (take count least) (take size_count of) (omega (arith, length-take-le count least (omega arith), length-take-le size_count of (omega arith))) (λ i below.
-        let here : i < count = omega (arith, length-take-le count least (omega arith)) in
-        let there : i < size_count = omega arith in
-        rw (get_or-take count least i 0 here, get_or-take size_count of i 0 there) (h i here))
+      let here : i < count = omega (arith, length-take-le count least (omega arith)) in
+      let there : i < size_count = omega arith in
+      rw (get_or-take count least i 0 here, get_or-take size_count of i 0 there) (h i here))
 
   pub hold_at : InRange (take count least) (take size_count of) → (k : ℕ) → k < count → (get_or least k 0 ≤ get_or of k 0) × (get_or of k 0 ≤ SIZE_TOP)
   hold_at r k here =

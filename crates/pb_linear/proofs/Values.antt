@@ -1,9 +1,9 @@
 -- Laws of the value of exact numbers.
-use Rattle.std.proofs.Common.{◌≡◌, ℕ, zero, suc, ◌+◌, ◌/◌, List, get_or, ℤ, pos, ◌+ℤ◌, ◌-ℤ◌, ◌*ℤ◌, refl, ◌∙◌, ap, arith}
+use Rattle.std.proofs.Common.{◌≡◌, ℕ, zero, suc, ◌+◌, ◌/◌, List, get_or, ℤ, pos, ◌+ℤ◌, ◌*ℤ◌, refl, arith}
 use Rattle.std.proofs.Math.Numerals.{add-one}
 use Rattle.std.proofs.lemmas.Int.{ints}
 use Rattle.pb_linear.specs.Form.{HasNumbers, numbers, value}
-use Rattle.pb_linear.specs.Numbers.{Numbers, coefficient, exact_value, part, part_of, value_before, row_sum, row_multiple, sum_of, multiple, with_constant}
+use Rattle.pb_linear.specs.Numbers.{Numbers, coefficient, exact_value, part_of, value_before, row_sum, row_multiple, sum_of, multiple, with_constant}
 use Rattle.pb_linear.specs.declared.form.Form.{Form}
 use Rattle.pb_linear.proofs.Integers.{add-mul, mul-add, mul-mul}
 use Rattle.pb_linear.proofs.Rows.{row_sum-at, row_multiple-at}

@@ -1,7 +1,6 @@
-use std::marker::Model;
-
 use crate::form::Form;
 use crate::vform::VForm;
+use std::marker::Model;
 
 /// Where a rule applies on one output: the bounds of x and y, each a list of forms whose greatest (below) or least (above)
 /// value counts.
@@ -23,14 +22,14 @@ impl Model for RuleBox {
     ghost Value = { Bounds };
 
     ghost view = { λ b. record {
-        rule = b.rule;
-        priority = b.priority;
-        guarded = b.guarded;
-        wide = b.wide;
-        lower_x = b.lower_x.items;
-        upper_x = b.upper_x.items;
-        lower_y = b.lower_y.items;
-        upper_y = b.upper_y.items;
+      rule = b.rule;
+      priority = b.priority;
+      guarded = b.guarded;
+      wide = b.wide;
+      lower_x = b.lower_x.items;
+      upper_x = b.upper_x.items;
+      lower_y = b.lower_y.items;
+      upper_y = b.upper_y.items;
     } };
 }
 

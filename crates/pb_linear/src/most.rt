@@ -54,7 +54,11 @@ impl Form {
     {
         let near = self.first_greatest(i, least, (least + 12).min(SIZE_TOP + 1));
         let far = self.first_greatest(i, least.max(SIZE_TOP - 11), SIZE_TOP + 1);
-        if self.part(i, near) < self.part(i, far) { far } else { near }
+        if self.part(i, near) < self.part(i, far) {
+            far
+        } else {
+            near
+        }
     }
 
     /// The first size from `start` to before `end` at which the part of variable `i` is greatest.

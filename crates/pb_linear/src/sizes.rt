@@ -1,4 +1,4 @@
-ghost use Rattle.std.specs.Prelude.{◌≡◌, ◌≤◌, ◌↔◌, IsTrue};
+ghost use Rattle.std.specs.Prelude.{◌≡◌, ◌<◌, ◌≤◌, ◌↔◌, IsTrue, slice_index};
 ghost use Rattle.pb_linear.specs.Limits.{is_zero_from};
 
 /// The greatest size that a variable may have.
@@ -32,13 +32,18 @@ impl Ranges {
             return false;
         }
         for i in 0..self.count as usize {
-            if s.of[i] < self.least[i] {
-                return false;
-            }
-            if SIZE_TOP < s.of[i] {
+            if !self.admits(i, s.of[i]) {
                 return false;
             }
         }
         true
+    }
+
+    /// Whether the size of variable `i` is in range.
+    fn admits(&self, i: usize, size: u64) -> bool
+        requires { i < 8 }
+        ensures { IsTrue result ↔ ((slice_index self.now.least i ≤ size) × (size ≤ SIZE_TOP)) }
+    {
+        self.least[i] <= size && size <= SIZE_TOP
     }
 }

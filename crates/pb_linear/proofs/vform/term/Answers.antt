@@ -1,4 +1,4 @@
-use Rattle.std.proofs.Common.{◌≡◌, ◌*ℤ◌, ◌≤◌, ◌*◌, ◌^◌, FitsSigned, lit<, w64, to_z, of_z, unsigned_abs, arith}
+use Rattle.std.proofs.Common.{◌^◌, FitsSigned, lit<, w64, arith}
 use Rattle.std.proofs.Math.Nat.{mul-le-mul}
 use Rattle.std.proofs.lemmas.Int.{ints, to_z-of_z, fits_signed_mul, unsigned_abs-mul}
 use Rattle.pb_linear.proofs.vform.term.Goals as goal
@@ -13,7 +13,7 @@ returns-clause-value c =
     simp to_z-of_z
 
 pub returns-clause-near : goal.returns-clause-near
-returns-clause-near c = 
+returns-clause-near c =
     let a = c.args.coefficient.now in
     let b = c.args.variable.now in
     let small_a : FitsSigned w64 a = omega (arith, ints) in

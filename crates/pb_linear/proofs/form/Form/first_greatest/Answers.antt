@@ -13,6 +13,6 @@ pub loop-size-preserved : goal.loop-size-preserved
 loop-size-preserved c =
     let g = part_of (numbers c.args.self.now) c.args.i in
     elim c.if-part.branch [
-      then-part w ↦ first_taken g _ _ _ _ c.loop-size.invariant (omega (arith, ints)) w.best-is
+      | then-part w ↦ first_taken g _ _ _ _ c.loop-size.invariant (omega (arith, ints)) w.best-is
       | else-part w ↦ first_kept g _ _ _ _ c.loop-size.invariant (omega (arith, ints)) w.best-is
     ]

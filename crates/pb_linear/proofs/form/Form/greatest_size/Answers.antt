@@ -7,7 +7,7 @@ use Rattle.pb_linear.proofs.Periods.{far_is_first, near_is_first}
 use Rattle.pb_linear.proofs.form.Form.greatest_size.Goals as goal
 
 pub returns-then-part : goal.returns-then-part
-returns-then-part c = 
+returns-then-part c =
     let n = numbers c.args.self.now in
     let i = c.args.i in
     let near = rw c.min.ensures at c.first_greatest-near.ensures in

@@ -1,9 +1,6 @@
-use Rattle.std.proofs.Common.{◌≡◌, ◌≢◌, ◌<◌, ◌+◌, ℕ, arith, length, slice_index}
+use Rattle.std.proofs.Common.{◌≢◌, ◌<◌, arith, length}
 use Rattle.std.proofs.lemmas.List.{get_or-set_other, get_or-set_same, length-set}
 use borrow.Author.Count.{below_more}
-use Rattle.pb_linear.specs.Form.{numbers}
-use Rattle.pb_linear.specs.Numbers.{part_of}
-use Rattle.pb_linear.specs.Most.{FirstGreatest}
 use Rattle.pb_linear.proofs.SizesLemmas.{zeros_from}
 use Rattle.pb_linear.proofs.form.Form.greatest_sizes.Goals as goal
 

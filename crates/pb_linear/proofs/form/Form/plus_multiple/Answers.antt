@@ -1,8 +1,8 @@
-use Rattle.std.proofs.Common.{◌≡◌, FitsSigned, IfOk, ℤ, pos, w64, to_z, of_z, subst, ap, arith, rules}
+use Rattle.std.proofs.Common.{◌≡◌, FitsSigned, IfOk, pos, w64, to_z, of_z, subst, ap, rules}
 use Rattle.std.specs.Result.{result_err}
-use Rattle.std.proofs.lemmas.Int.{ints, to_z-of_z}
+use Rattle.std.proofs.lemmas.Int.{to_z-of_z}
 use Rattle.pb_linear.specs.Form.{HasNumbers, numbers}
-use Rattle.pb_linear.specs.Numbers.{Numbers, multiple, refusal, sum_of, with_constant}
+use Rattle.pb_linear.specs.Numbers.{multiple, refusal, sum_of, with_constant}
 use Rattle.pb_linear.proofs.Rows.{put_multiple}
 use Rattle.pb_linear.proofs.form.Form.plus_multiple.Goals as goal
 use Rattle.pb_linear.proofs.form.Form.plus_multiple.Goals.{After-put}
