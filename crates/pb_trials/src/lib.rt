@@ -1,0 +1,5 @@
+//! Trials: calls of the lower crates on small cases, compared with answers from outside. No code, tests alone.
+#![tactic(auto)]
+
+#[cfg(test)]
+mod linear;
