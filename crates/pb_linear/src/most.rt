@@ -9,6 +9,7 @@ use crate::sizes::{Ranges, SIZE_TOP, Sizes};
 
 impl Form {
     /// The greatest value over all sizes in range, and for each variable the least size that reaches it.
+    #[tactic(auto, using(crate::proofs::SizesLemmas::top_of))]
     pub fn most(&self, ranges: &Ranges) -> (i64, Sizes)
         requires { IsRanges ranges.now }
         ensures counted { result.1.count ≡ ranges.now.count }
@@ -19,6 +20,7 @@ impl Form {
     }
 
     /// Whether the form is at most 0 at every sizes in range.
+    #[tactic(auto, using(crate::proofs::Parts::most_test))]
     pub fn everywhere_le0(&self, ranges: &Ranges) -> bool
         requires { IsRanges ranges.now }
         ensures exact { IsTrue result

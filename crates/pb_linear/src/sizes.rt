@@ -24,6 +24,7 @@ impl Ranges {
     ghost use Rattle.pb_linear.specs.Sizes.{InRange, leasts_of, sizes_of};
 
     /// Whether the sizes are in range: the counts agree, and each size is between its least size and `SIZE_TOP`.
+    #[tactic(auto, using(crate::proofs::SizesLemmas::hold_from, crate::proofs::SizesLemmas::hold_at))]
     pub fn hold(&self, s: &Sizes) -> bool
         ensures { IsTrue result
             ↔ ((self.now.count ≡ s.now.count) × InRange (leasts_of self.now) (sizes_of s.now)) }

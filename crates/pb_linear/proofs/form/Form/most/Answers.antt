@@ -2,13 +2,7 @@ use Rattle.std.proofs.Common.{arith}
 use Rattle.std.proofs.lemmas.Int.{ints}
 use Rattle.pb_linear.specs.Form.{numbers}
 use Rattle.pb_linear.proofs.Parts.{most_of}
-use Rattle.pb_linear.proofs.SizesLemmas.{top_of}
 use Rattle.pb_linear.proofs.form.Form.most.Goals as goal
-
-pub at-requires : goal.at-requires
-at-requires c =
-    let s = c.greatest_sizes-sizes.result in
-    top_of s.count s.of s.zero_past_count (λ i h. omega (arith, (c.greatest_sizes-sizes.ensures.greatest i (omega arith)).high))
 
 pub returns-clause-most : goal.returns-clause-most
 returns-clause-most c =
