@@ -1,6 +1,7 @@
 pub mod Integers
 pub mod Periods
 pub mod Parts
+pub mod Products
 pub mod Rows
 pub mod SizesLemmas
 pub mod Values

@@ -152,8 +152,7 @@ fn term(coefficient: &i64, variable: &i64) -> i64
 /// A multiple of a form's number.
 fn product(k: &i64, number: &i64) -> i128
     requires { unsigned_abs number.now ≤ 2 ^ 27 }
-    ensures value { result ≡ k.now *ℤ number.now }
-    ensures near { unsigned_abs result ≤ 2 ^ 90 }
+    ensures { result ≡ k.now *ℤ number.now }
 {
     i128::from(*k) * i128::from(*number)
 }
