@@ -2,7 +2,7 @@
 ghost use Rattle.std.specs.Prelude.{◌≡◌, ◌^◌, ◌≤◌, All, unsigned_abs};
 ghost use Rattle.pb_linear.specs.Sizes.{IsRanges};
 
-use pb_linear::{Form, Ranges, SIZE_TOP, Sizes};
+use pb_linear::{Form, OverLimit, Ranges, SIZE_TOP, Sizes};
 
 /// A form over one variable: the constant, and the coefficients of the variable, its half, its third and its quarter.
 fn form(constant: i64, whole: i64, half: i64, third: i64, quarter: i64) -> Form
@@ -90,4 +90,29 @@ fn short_ranges_as_searched(rt: HostRuntime) {
             assert_eq!(rt; answered(&tried, least), searched(&tried, least));
         }
     }
+}
+
+#[test]
+fn first_number_over_the_limit(rt: HostRuntime) {
+    let top = 67_108_864;
+    let full = form(top, top, 0, top, 0);
+    assert_eq!(rt;
+        full.add(&form(0, 1, 0, 2, 0)),
+        Err(OverLimit {
+            coefficient: 67_108_865
+        })
+    );
+    assert_eq!(rt;
+        full.sub(&form(0, 0, 0, -2, 0)),
+        Err(OverLimit {
+            coefficient: 67_108_866
+        })
+    );
+    assert_eq!(rt;
+        form(0, 0, -1, 0, 1).scale(i64::MIN),
+        Err(OverLimit {
+            coefficient: 1 << 63
+        })
+    );
+    assert_eq!(rt; full.sub(&full), Ok(form(0, 0, 0, 0, 0)));
 }
