@@ -3,6 +3,7 @@ pub mod Periods
 pub mod Parts
 pub mod Products
 pub mod Rows
+pub mod SameForms
 pub mod SizesLemmas
 pub mod Values
 pub mod Worst
