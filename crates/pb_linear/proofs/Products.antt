@@ -1,5 +1,5 @@
 -- Bounds of the products that the code makes.
-use Rattle.std.proofs.Common.{ℕ, ◌*◌, ◌^◌, ◌≤◌, ℤ, pos, ◌*ℤ◌, unsigned_abs, FitsSigned, w64, to_z, of_z, ◌≡◌, arith}
+use Rattle.std.proofs.Common.{ℕ, ◌*◌, ◌^◌, ◌≤◌, ℤ, pos, ◌+ℤ◌, ◌*ℤ◌, unsigned_abs, FitsSigned, w64, to_z, of_z, ◌≡◌, arith}
 use Rattle.std.proofs.Math.Nat.{mul-le-mul}
 use Rattle.std.proofs.lemmas.Int.{ints, to_z-of_z, to_z_pos, unsigned_abs-mul}
 
@@ -31,3 +31,14 @@ machine_place a b small_a small_b =
     let fits_b : FitsSigned w64 b = omega (arith, ints) in
     let fits : FitsSigned w64 (a *ℤ b) = omega (arith, ints, near_place a b small_a small_b) in
     rw (to_z-of_z w64 a fits_a, to_z-of_z w64 b fits_b) (to_z-of_z w64 (a *ℤ b) fits)
+
+-- a value at sizes and two such products
+pub sum_of_two_fits : (b d : ℤ) → unsigned_abs b ≤ 2 ^ 49 → unsigned_abs d ≤ 2 ^ 49 → FitsSigned w64 (to_z w64 (of_z w64 b) +ℤ to_z w64 (of_z w64 d))
+sum_of_two_fits b d small_b small_d = omega (arith, ints)
+
+module _ (a b d : ℤ) (small_a : unsigned_abs a ≤ 2 ^ 52) (small_b : unsigned_abs b ≤ 2 ^ 49) (small_d : unsigned_abs d ≤ 2 ^ 49) where
+  pub sum_of_three_fits : FitsSigned w64 (to_z w64 (of_z w64 a) +ℤ to_z w64 (of_z w64 (to_z w64 (of_z w64 b) +ℤ to_z w64 (of_z w64 d))))
+  sum_of_three_fits = omega (arith, ints)
+
+  pub sum_of_three : to_z w64 (of_z w64 (to_z w64 (of_z w64 a) +ℤ to_z w64 (of_z w64 (to_z w64 (of_z w64 b) +ℤ to_z w64 (of_z w64 d))))) ≡ a +ℤ (b +ℤ d)
+  sum_of_three = omega (arith, ints)

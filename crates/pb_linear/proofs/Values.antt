@@ -1,10 +1,13 @@
 -- Laws of the value of exact numbers.
-use Rattle.std.proofs.Common.{◌≡◌, ℕ, zero, suc, ◌+◌, ◌/◌, List, get_or, ℤ, pos, ◌+ℤ◌, ◌*ℤ◌, refl, arith}
+use Rattle.std.proofs.Common.{◌∙◌, ap, ◌≡◌, ℕ, zero, suc, ◌+◌, ◌/◌, List, get_or, ℤ, pos, ◌+ℤ◌, ◌*ℤ◌, refl, arith}
 use Rattle.std.proofs.Math.Numerals.{add-one}
-use Rattle.std.proofs.lemmas.Int.{ints}
+use Rattle.std.proofs.lemmas.Int.{ints, to_z-of_z}
 use Rattle.pb_linear.specs.Form.{HasNumbers, numbers, value}
 use Rattle.pb_linear.specs.Numbers.{Numbers, coefficient, exact_value, part_of, value_before, row_sum, row_multiple, sum_of, multiple, with_constant}
+use Rattle.pb_linear.specs.Sizes.{sizes_of}
 use Rattle.pb_linear.specs.declared.form.Form.{Form}
+use Rattle.pb_linear.specs.declared.sizes.Sizes.{Sizes}
+use Rattle.pb_linear.proofs.SizesLemmas.{size_at}
 use Rattle.pb_linear.proofs.Integers.{add-mul, mul-add, mul-mul}
 use Rattle.pb_linear.proofs.Rows.{row_sum-at, row_multiple-at}
 
@@ -66,3 +69,9 @@ value_is n f h sizes = rw (h.constant, h.whole, h.half, h.third, h.quarter) refl
 pub value-sum : (a b f : Form) (k : ℤ) → HasNumbers (sum_of (numbers a) (multiple k (numbers b))) f → (sizes : List ℕ) → value f sizes ≡ value a sizes +ℤ k *ℤ value b sizes
 value-sum a b f k has sizes =
     omega (arith, ints, value_is _ f has sizes, exact_value-sum (numbers a) (multiple k (numbers b)) sizes, exact_value-multiple k (numbers b) sizes)
+
+-- a step of the loop of `at`
+pub at_more : (f : Form) (s : Sizes) (i : ℕ) → value_before (i + 1) (numbers f) (sizes_of s) ≡ value_before i (numbers f) (sizes_of s) +ℤ part_of (numbers f) i (get_or s.of i 0)
+at_more f s i = value_before-more i (numbers f) (sizes_of s) ∙ ap (λ v. value_before i (numbers f) (sizes_of s) +ℤ part_of (numbers f) i v) (size_at s.count s.of s.zero_past_count i)
+
+pub ruleset at_steps = (ints, to_z-of_z, value_before-zero, at_more)

@@ -1,5 +1,5 @@
 -- The end of an area at which a variable makes a value greatest.
-use Rattle.std.proofs.Common.{◌≡◌, ℕ, zero, suc, List, ℤ, pos, negsuc, ◌+ℤ◌, ◌-ℤ◌, ◌*ℤ◌, ◌≤ℤ◌, ◌<ℤ◌, int_lt, true, subst, sym, arith}
+use Rattle.std.proofs.Common.{◌≡◌, ℕ, zero, suc, List, ℤ, pos, negsuc, ◌+ℤ◌, ◌-ℤ◌, ◌*ℤ◌, ◌≤ℤ◌, ◌<ℤ◌, int_lt, true, sym, ap, ◌∙◌, arith}
 use Rattle.std.proofs.Math.IntN.{*ℤ_comm, *ℤ-negsuc, zero-*ℤ}
 use Rattle.std.proofs.lemmas.Int.{ints}
 use Rattle.pb_linear.specs.Form.{HasNumbers, numbers, value}
@@ -12,9 +12,8 @@ use Rattle.pb_linear.proofs.Integers.{mul-le}
 use Rattle.pb_linear.proofs.Values.{exact_value-sum, exact_value-multiple, exact_value-with_constant, value_is}
 
 -- numbers that are equal to those of the worst ends may be put in their place
-pub put_worst : (v : VForm) (area : SymBox) (f : Form) (x y : Numbers) → x ≡ worst_end v.x area.x0 area.x1 → y ≡ worst_end v.y area.y0 area.y1 → HasNumbers (put_numbers v x y) f → HasNumbers (worst_numbers v area) f
-put_worst v area f x y ex ey has =
-    subst (λ n. HasNumbers (put_numbers v n (worst_end v.y area.y0 area.y1)) f) ex (subst (λ n. HasNumbers (put_numbers v x n) f) ey has)
+pub same_worst : (v : VForm) (area : SymBox) (x y : Numbers) → x ≡ worst_end v.x area.x0 area.x1 → y ≡ worst_end v.y area.y0 area.y1 → put_numbers v x y ≡ worst_numbers v area
+same_worst v area x y ex ey = ap (λ n. put_numbers v n y) ex ∙ ap (put_numbers v (worst_end v.x area.x0 area.x1)) ey
 
 -- above 0 the end is the upper one minus 1
 upper_end : (n : ℕ) (lower upper : Form) (sizes : List ℕ) → exact_value (worst_end (pos (suc n)) lower upper) sizes ≡ value upper sizes -ℤ pos 1

@@ -49,6 +49,7 @@ impl Form {
     }
 
     /// The form's value.
+    #[tactic(auto, using(crate::proofs::Values::at_steps))]
     pub fn at(&self, s: &Sizes) -> i64
         requires { All (λ size. size ≤ SIZE_TOP) s.now.of }
         ensures value { result ≡ value self.now (sizes_of s.now) }
