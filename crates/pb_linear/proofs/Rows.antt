@@ -91,3 +91,5 @@ pub sum_of-no_numbers : (n : Numbers) (k k' : ℤ) → k' ≡ k → length n.who
 sum_of-no_numbers n k k' e w h t q =
     let rows = λ (xs : List ℤ) (full : length xs ≡ 8). row_zero 8 (row_multiple k' xs) (rw length-map full) in
     rw (+ℤ_idl (k' *ℤ n.constant), rows n.whole w, rows n.half h, rows n.third t, rows n.quarter q) (ap (λ z. multiple z n) e)
+
+pub ruleset row_steps = (length-row_combination, first_over-none, list_all-from)

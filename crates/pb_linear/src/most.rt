@@ -31,6 +31,7 @@ impl Form {
     }
 
     /// For each variable the first size in range at which its part is greatest.
+    #[tactic(auto, using(crate::proofs::SizesLemmas::zeros_from))]
     fn greatest_sizes(&self, ranges: &Ranges) -> Sizes
         requires { IsRanges ranges.now }
         ensures counted { result.count ≡ ranges.now.count }

@@ -91,6 +91,7 @@ impl VForm {
     }
 
     /// A row of `put`.
+    #[tactic(auto, using(crate::proofs::Rows::row_steps))]
     fn put_row(&self, rest: &[i64; 8], x: &[i64; 8], y: &[i64; 8]) -> Result<[i64; 8], OverLimit>
         requires rest { IsTrue (list_all is_number rest.now) }
         requires x { IsTrue (list_all is_number x.now) }

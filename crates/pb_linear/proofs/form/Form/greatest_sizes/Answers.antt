@@ -1,7 +1,6 @@
 use Rattle.std.proofs.Common.{◌≢◌, ◌<◌, arith, length}
 use Rattle.std.proofs.lemmas.List.{get_or-set_other, get_or-set_same, length-set}
 use borrow.Author.Count.{below_more}
-use Rattle.pb_linear.proofs.SizesLemmas.{zeros_from}
 use Rattle.pb_linear.proofs.form.Form.greatest_sizes.Goals as goal
 
 pub loop-i-preserved : goal.loop-i-preserved
@@ -13,6 +12,3 @@ loop-i-preserved c =
       greatest = below_more _ i (λ k h. let other : k ≢ i = omega arith in rw get_or-set_other (c.loop-i.invariant.greatest k h)) (rw get_or-set_same c.greatest_size.ensures);
       rest = λ k h. let other : k ≢ i = omega arith in rw get_or-set_other (c.loop-i.invariant.rest k (omega arith));
     }
-
-pub invariant_of-result-clause-zero_past_count : goal.invariant_of-result-clause-zero_past_count
-invariant_of-result-clause-zero_past_count c = zeros_from _ _ (λ k h. c.loop-i.invariant.rest k (omega arith))

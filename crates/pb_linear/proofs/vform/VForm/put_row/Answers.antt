@@ -5,7 +5,7 @@ use Rattle.std.proofs.lemmas.List.{ext_get_or, get_or-set_other, get_or-set_same
 use Rattle.std.proofs.lemmas.Result.{err_from_is_err_and}
 use borrow.Author.Count.{below_more}
 use Rattle.pb_linear.specs.Numbers.{row_combination}
-use Rattle.pb_linear.proofs.Rows.{row_combination-at, length-row_combination, first_over-at, first_over-none, list_all-from}
+use Rattle.pb_linear.proofs.Rows.{row_combination-at, length-row_combination, first_over-at}
 use Rattle.pb_linear.proofs.vform.VForm.put_row.Goals as goal
 
 pub returns-in_err-row-clause-over_limit : goal.returns-in_err-row-clause-over_limit
@@ -36,11 +36,3 @@ pub returns-clause-value : goal.returns-clause-value
 returns-clause-value c =
     let v = c.args.self.now in
     ext_get_or (pos 0) _ _ (omega (arith, length-row_combination c.args.rest.now v.x c.args.x.now v.y c.args.y.now (omega arith) (omega arith) (omega arith))) (λ k h. c.loop-i.invariant.value k (omega arith))
-
-pub returns-clause-small : goal.returns-clause-small
-returns-clause-small c = list_all-from c.loop-i.row (λ k h. let below : k < c.loop-i.i = omega arith in rw (c.loop-i.invariant.value k below) (c.loop-i.invariant.small k below))
-
-pub returns-clause-over_limit : goal.returns-clause-over_limit
-returns-clause-over_limit c =
-    let v = c.args.self.now in
-    first_over-none _ (λ k h. c.loop-i.invariant.small k (omega (arith, length-row_combination c.args.rest.now v.x c.args.x.now v.y c.args.y.now (omega arith) (omega arith) (omega arith))))
