@@ -1,6 +1,7 @@
 -- The law of parts: where a part of one variable grows by a constant when the variable grows by 12, its greatest value and
 -- the least size that reaches it stand among the first twelve or the last twelve sizes of a range.
 use Rattle.std.proofs.Common.{◌≡◌, ℕ, zero, suc, ◌+◌, ◌-◌, ◌*◌, ◌/◌, ◌%◌, ◌<◌, ◌≤◌, min, max, ◌⊎◌, inl, inr, ℤ, pos, negsuc, ◌+ℤ◌, ◌≤ℤ◌, ◌<ℤ◌, refl, ap, arith}
+use Rattle.std.proofs.lemmas.Bool.{cases_lt}
 use Rattle.std.proofs.lemmas.Int.{ints}
 use Rattle.pb_linear.specs.Most.{FirstGreatest}
 
@@ -59,6 +60,18 @@ pub as_good : (g : ℕ → ℤ) (c : ℤ) → Steps g c → (start end u : ℕ) 
 as_good g (pos zero) steps = good_below g (pos zero) steps (omega (arith, ints))
 as_good g (pos (suc n)) steps = good_above g (pos (suc n)) steps (omega (arith, ints))
 as_good g (negsuc n) steps = good_below g (negsuc n) steps (omega (arith, ints))
+
+-- the law: the least size that reaches the greatest value is one of the first twelve or of the last twelve
+pub first_is_near : (g : ℕ → ℤ) (c : ℤ) → Steps g c → (start end place : ℕ) → FirstGreatest g start end place → (place < start + 12) ⊎ (end ≤ place + 12)
+first_is_near g c steps start end place f =
+    let (w, good) = as_good g c steps start end place f.low f.high in
+    elim good.first [
+      | inl before ↦ elim (cases_lt w place) [
+        | inl less ↦ absurd (omega (arith, ints, good.good, f.first w good.low less))
+        | inr more ↦ let same : w ≡ place = omega arith in rw same at good.near
+      ]
+      | inr more ↦ absurd (omega (arith, ints, more, f.greatest w good.low good.high))
+    ]
 
 -- the best of the first twelve sizes, and the best of the last twelve
 module _ (g : ℕ → ℤ) (c : ℤ) (steps : Steps g c) (start end near far : ℕ) (a : FirstGreatest g start (min (start + 12) end) near) (b : FirstGreatest g (max start (end - 12)) end far) where

@@ -1,14 +1,16 @@
 -- Sizes as a list, sizes in range, and tests at every sizes in range.
-use Rattle.std.proofs.Common.{◌≡◌, ℕ, zero, suc, ◌+◌, ◌-◌, ◌<◌, ◌≤◌, Bool, IsTrue, List, [], ◌∷◌, get_or, take, length, ℤ, pos, ◌-ℤ◌, ◌≤ℤ◌, int_le, refl, sym, ap, ◌∙◌, arith}
+use Rattle.std.proofs.Common.{inl, inr, ◌≡◌, ℕ, zero, suc, ◌+◌, ◌-◌, ◌<◌, ◌≤◌, Bool, IsTrue, List, [], ◌∷◌, get_or, take, length, ℤ, pos, ◌-ℤ◌, ◌≤ℤ◌, int_le, refl, sym, ap, ◌∙◌, arith}
 use Rattle.std.specs.List.{range_with_len, All}
+use Rattle.std.proofs.lemmas.Bool.{cases_lt}
 use Rattle.std.proofs.lemmas.Bool.Decides.{same_from_decides}
 use Rattle.std.proofs.lemmas.Grind.{get_or_default_zero}
-use Rattle.std.proofs.lemmas.List.{get_or-take, length-take-le}
+use Rattle.std.proofs.lemmas.List.{get_or-take, get_or_past, length-take-le}
 use Rattle.std.proofs.lemmas.List.FromFn.{get_or-range_with_len, length-range_with_len}
 use Rattle.std.proofs.lemmas.List.Sums.{AllPass-from_list_all, list_all-from_AllPass}
 use Rattle.pb_linear.specs.Limits.{is_zero_from}
 use Rattle.std.proofs.lemmas.Int.{ints}
-use Rattle.pb_linear.specs.Sizes.{InRange, everywhere, le_everywhere}
+use Rattle.pb_linear.specs.Sizes.{InRange, everywhere, le_everywhere, sizes_of}
+use Rattle.pb_linear.specs.declared.sizes.Sizes.{Sizes}
 use Rattle.pb_linear.specs.declared.sizes.TheConstants.{SIZE_TOP}
 
 -- ---- zeros past the count
@@ -95,6 +97,16 @@ module _ (count size_count : ℕ) (least of : List ℕ) (same : count ≡ size_c
   hold_at r k here =
       let there : k < size_count = omega arith in
       rw (get_or-take count least k 0 here, get_or-take size_count of k 0 there) at (InRange-at (take count least) (take size_count of) r k (omega (arith, length-take-le count least (omega arith))))
+
+-- sizes in range are at most the top, as `at` asks of them
+pub in_range_top : (ls : List ℕ) (s : Sizes) → InRange ls (sizes_of s) → All (λ size. size ≤ SIZE_TOP) s.of
+in_range_top ls s r =
+    top_of s.count s.of s.zero_past_count (λ i below.
+    let same = size_at s.count s.of s.zero_past_count i in
+    elim (cases_lt i (length ls)) [
+      | inl here ↦ omega (arith, same, InRange-at ls (sizes_of s) r i here)
+      | inr over ↦ omega (arith, same, get_or_past (sizes_of s) i 0 (omega (arith, InRange-length ls (sizes_of s) r)))
+    ])
 
 -- ---- one value at most another everywhere
 pub le_everywhere-at : (ls : List ℕ) (low high : List ℕ → ℤ) → IsTrue (le_everywhere ls low high) → (vs : List ℕ) → InRange ls vs → low vs ≤ℤ high vs

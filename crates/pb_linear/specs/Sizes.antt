@@ -1,5 +1,4 @@
-use Rattle.std.specs.Prelude.{ℕ, suc, ◌-◌, ◌<◌, ◌≤◌, Bool, List, [], ◌∷◌, take, slice_index}
-use Rattle.std.specs.Prelude.{ℤ, int_le}
+use Rattle.std.specs.Prelude.{ℕ, suc, ◌-◌, ◌<◌, ◌≤◌, ℤ, int_le, Bool, List, [], ◌∷◌, take, slice_index}
 use Rattle.std.specs.List.{list_all, range_with_len}
 use Rattle.pb_linear.specs.declared.sizes.Sizes.{Sizes}
 use Rattle.pb_linear.specs.declared.sizes.Ranges.{Ranges}

@@ -2,7 +2,7 @@
 ghost use Rattle.std.specs.Prelude.{◌≡◌, ◌^◌, ◌≤◌, All, unsigned_abs};
 ghost use Rattle.pb_linear.specs.Sizes.{IsRanges};
 
-use pb_linear::{Form, OverLimit, Ranges, SIZE_TOP, Sizes};
+use pb_linear::{Form, OverLimit, Ranges, SIZE_TOP, Sizes, SymBox, VForm};
 
 /// A form over one variable: the constant, and the coefficients of the variable, its half, its third and its quarter.
 fn form(constant: i64, whole: i64, half: i64, third: i64, quarter: i64) -> Form
@@ -115,4 +115,29 @@ fn first_number_over_the_limit(rt: HostRuntime) {
         })
     );
     assert_eq!(rt; full.sub(&full), Ok(form(0, 0, 0, 0, 0)));
+}
+
+#[test]
+fn worst_over_an_area(rt: HostRuntime) {
+    let zero = form(0, 0, 0, 0, 0);
+    let form_over_places = VForm {
+        x: 2,
+        y: -3,
+        rest: form(0, 1, 0, 0, 0),
+    };
+    let area = SymBox {
+        x0: form(1, 0, 0, 0, 0),
+        x1: form(0, 1, 0, 0, 0),
+        y0: zero,
+        y1: form(0, 0, 1, 0, 0),
+    };
+    assert_eq!(rt; form_over_places.worst(&area), Ok(form(-2, 3, 0, 0, 0)));
+    assert_eq!(rt; form_over_places.at(&one_size(10), 9, 0), 28);
+}
+
+#[test]
+fn sizes_that_ranges_hold(rt: HostRuntime) {
+    assert!(rt; from(5).hold(&one_size(5)));
+    assert!(rt; !from(5).hold(&one_size(4)));
+    assert!(rt; from(5).hold(&one_size(SIZE_TOP)));
 }
