@@ -2,8 +2,8 @@ use crate::form::Form;
 use crate::vform::VForm;
 use std::marker::Model;
 
-/// Where a rule applies on one output: the bounds of x and y, each a list of forms whose greatest (below) or least (above)
-/// value counts.
+/// Where a rule applies on one output: the lower bounds of x and y, of which the greatest counts,
+/// and the upper bounds, of which the least counts. An upper bound is exclusive.
 #[derive(Drop)]
 pub struct RuleBox {
     pub rule: u32,

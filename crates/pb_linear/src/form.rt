@@ -7,8 +7,9 @@ use crate::sizes::{SIZE_TOP, Sizes};
 /// The greatest absolute value of a form's constant and of its coefficients.
 pub(crate) const NUMBER_TOP: i128 = 1 << 26;
 
-/// A linear form over at most 8 size variables: a constant, and for each variable the coefficients of the variable itself,
-/// of its half, of its third and of its quarter, each rounded down. Every number is at most 2^26 in absolute value.
+/// A linear form over at most 8 size variables: a constant, and for each variable the coefficients
+/// of the variable itself, of its half, of its third and of its quarter, each rounded down. The
+/// constant and each coefficient are at most 2^26 in absolute value.
 #[derive(Clone, Copy, PartialEq, Eq, Debug)]
 pub struct Form {
     pub constant: i64,
@@ -23,7 +24,8 @@ pub struct Form {
     pub ghost small_quarter: { IsTrue (list_all is_number quarter) },
 }
 
-/// A form's numbers would pass 2^26 in absolute value; this is the first that does, in the order in which the fields stand.
+/// A form's numbers would pass 2^26 in absolute value; this is the first that does, in the order in
+/// which the fields stand.
 #[derive(Clone, Copy, PartialEq, Eq, Debug)]
 pub struct OverLimit {
     pub coefficient: i128,
@@ -48,7 +50,7 @@ impl Form {
         plus_term(third, &self.quarter[i], size / 4)
     }
 
-    /// The form's value.
+    /// The form's value. Each size is at most `SIZE_TOP`.
     #[tactic(auto, using(crate::proofs::Values::at_steps))]
     pub fn at(&self, s: &Sizes) -> i64
         requires { All (λ size. size ≤ SIZE_TOP) s.now.of }

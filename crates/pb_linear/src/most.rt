@@ -8,7 +8,8 @@ use crate::form::Form;
 use crate::sizes::{Ranges, SIZE_TOP, Sizes};
 
 impl Form {
-    /// The greatest value over all sizes in range, and for each variable the least size that reaches it.
+    /// The greatest value over all sizes in range, and for each variable the least size that
+    /// reaches it.
     #[tactic(auto, using(crate::proofs::SizesLemmas::top_of))]
     pub fn most(&self, ranges: &Ranges) -> (i64, Sizes)
         requires { IsRanges ranges.now }
@@ -48,8 +49,9 @@ impl Form {
         }
     }
 
-    /// The first size from `least` to the top at which the part of variable `i` is greatest. Since the part grows by a constant
-    /// when the variable grows by 12, that size is among the first twelve or the last twelve.
+    /// The first size from `least` to the top at which the part of variable `i` is greatest. Since
+    /// the part grows by a constant when the variable grows by 12, that size is among the first
+    /// twelve or the last twelve.
     fn greatest_size(&self, i: usize, least: u64) -> u64
         requires there { i < 8 }
         requires least { least ≤ SIZE_TOP }

@@ -13,7 +13,8 @@ pub struct Sizes {
     pub ghost zero_past_count: { IsTrue (is_zero_from count of) },
 }
 
-/// The least size of each variable; the greatest is `SIZE_TOP`.
+/// The least size of each variable; the greatest is `SIZE_TOP`. A call that takes ranges asks for a
+/// count of at most 8, and for least sizes of at most `SIZE_TOP`.
 #[derive(Clone, Copy, PartialEq, Eq, Debug)]
 pub struct Ranges {
     pub count: u8,
@@ -23,7 +24,8 @@ pub struct Ranges {
 impl Ranges {
     ghost use Rattle.pb_linear.specs.Sizes.{InRange, leasts_of, sizes_of};
 
-    /// Whether the sizes are in range: the counts agree, and each size is between its least size and `SIZE_TOP`.
+    /// Whether the sizes are in range: the counts agree, and each size is between its least size
+    /// and `SIZE_TOP`. Any ranges may be asked.
     #[tactic(auto, using(crate::proofs::SizesLemmas::hold_from, crate::proofs::SizesLemmas::hold_at))]
     pub fn hold(&self, s: &Sizes) -> bool
         ensures { IsTrue result

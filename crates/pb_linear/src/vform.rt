@@ -24,7 +24,8 @@ pub struct SymBox {
     pub y1: Form,
 }
 
-/// What is put in the place of a rule variable: the coefficients of a form, and a constant of its own.
+/// What is put in the place of a rule variable: the coefficients of a form, and a constant of its
+/// own.
 #[derive(Clone, Copy)]
 pub(crate) struct End {
     pub(crate) constant: i64,
@@ -38,7 +39,7 @@ impl VForm {
     ghost use Rattle.pb_linear.specs.Sizes.{sizes_of};
     ghost use Rattle.pb_linear.specs.VForm.{InArea, Reaches, end_numbers, put_numbers, value_at, worst_numbers};
 
-    /// The value at sizes, and at values of x and y.
+    /// The value at sizes, and at values of x and y of at most 2^23 in absolute value.
     pub fn at(&self, s: &Sizes, x: i64, y: i64) -> i64
         requires sizes { All (λ size. size ≤ SIZE_TOP) s.now.of }
         requires x_coefficient { unsigned_abs self.now.x ≤ 2 ^ 26 }
