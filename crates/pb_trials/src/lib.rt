@@ -1,5 +1,7 @@
-//! Runs of single calls with ample memory, and tables of small cases.
+//! Trials: calls of the lower crates on small cases, compared with answers from outside. No code, tests alone.
 #![tactic(auto)]
 
+#[cfg(test)]
+mod linear;
 #[cfg(test)]
 mod matrix;
