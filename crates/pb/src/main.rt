@@ -2,13 +2,11 @@
 //! what that answers. Words that can't be read end it with status 1, and nothing is written.
 #![tactic(auto)]
 
-use std::env;
-use std::io;
-use std::process::ExitCode;
-use std::rt::Env;
-
 use pb_outside::{FileShelf, StdSink};
 use pb_top::pb_command;
+use std::process::ExitCode;
+use std::rt::Env;
+use std::{env, io};
 
 // The words after the program's name.
 fn read_words(rt: &(impl Env + AllocGlobal)) -> io::Result<Vec<String>> {

@@ -40,11 +40,11 @@ stop_answers words line shelf (Done text) is stop = absurd stop
 stop_answers words line shelf (Refusal status text) is stop =
     (stop.0, stop.1, told_answers words line shelf.before (reply_of (Refusal status text)) (Err (reply_of (Refusal status text))) is refl stop.2)
 stop_answers words line shelf (ReadFault text) is stop = record {
-    cause = stop.1;
-    word = stop.0;
-    of_line = subst (λ l. Contains (line_files l) stop.0) (sym is) stop.2;
-    text = stop.3;
-  }
+  cause = stop.1;
+  word = stop.0;
+  of_line = subst (λ l. Contains (line_files l) stop.0) (sym is) stop.2;
+  text = stop.3;
+}
 
 -- with the bytes of all its files, a line's answer is that of the command
 pub run_answers : (words : List (List ℕ)) (line : RunLine) (shelf : ShelfChange) (contents : List (List ℕ)) (found : Result Answer AllocError) → run_line words ≡ Some line

@@ -54,6 +54,9 @@ fetch_stops told mid now before between after names i contents (Refusal status l
     (fetched.0 ∙ sound, fetched.1, told_stops told mid names i contents _ same some read fetched.2)
 fetch_stops told mid now before between after names i contents (ReadFault line) same sound some read fetched =
     let name = get_or names i no_slice in
-    let text : Bor (List ℕ) → List ℕ = λ s. s.now in
-    (name.now, subst (λ n. RoseBy 1 n after) sound fetched.0,
-     (i, subst (λ n. i < n) (sym (length-map names text)) some, get_or-map text names i no_slice name.now some), fetched.1)
+    let text : Bor (List ℕ) → List ℕ = λ s. s.now in (
+      name.now,
+      subst (λ n. RoseBy 1 n after) sound fetched.0,
+      (i, subst (λ n. i < n) (sym (length-map names text)) some, get_or-map text names i no_slice name.now some),
+      fetched.1,
+    )

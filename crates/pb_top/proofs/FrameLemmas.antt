@@ -25,7 +25,7 @@ parts_framed tokens names long parts =
     let behind : drop (length tokens - 40) (drop 37 tokens) ≡ tail_tokens = last ∙ ap (λ n. drop n tokens) at ∙ parts.tail in
     let middle : middle_of tokens ++ tail_tokens ≡ drop 37 tokens = ap (λ t. middle_of tokens ++ t) (sym behind) ∙ rest in
     let sum : drop 36 tokens ≡ names.source ∷ (middle_of tokens ++ tail_tokens) =
-          first ∙ ap (λ s. s ∷ drop 37 tokens) parts.source ∙ ap (λ t. names.source ∷ t) (sym middle) in
+    first ∙ ap (λ s. s ∷ drop 37 tokens) parts.source ∙ ap (λ t. names.source ∷ t) (sym middle) in
     sym front ∙ ap (λ h. h ++ drop 36 tokens) parts.head ∙ ap (λ t. head_of names ++ t) sum
 
 framed_parts : (tokens : List (List ℕ)) (names : Names) (middle : List (List ℕ)) → tokens ≡ head_of names ++ (names.source ∷ middle) ++ tail_tokens → Parts tokens names
@@ -35,10 +35,10 @@ framed_parts tokens names middle is =
     let count : length whole ≡ length front + 3 = length-append front tail_tokens in
     let P : List (List ℕ) → Type 0 = λ t. Parts t names in
     let parts : Parts whole names = record {
-          head = refl;
-          source = refl;
-          tail = drop_at front tail_tokens (length whole - 3) (omega arith);
-        } in
+      head = refl;
+      source = refl;
+      tail = drop_at front tail_tokens (length whole - 3) (omega arith);
+    } in
     subst P (sym is) parts
 
 -- the last three, as a slice gives them
@@ -90,7 +90,7 @@ program_framed names signs =
     let terms = terms_of names.source signs in
     let count : length (program_tokens names signs) ≡ 40 + length terms = omega (arith, length-append terms tail_tokens) in
     let middle : take (length (program_tokens names signs) - 40) (terms ++ tail_tokens) ≡ terms =
-          take_at terms tail_tokens (length (program_tokens names signs) - 40) (omega arith) in
+    take_at terms tail_tokens (length (program_tokens names signs) - 40) (omega arith) in
     record {
       long = omega arith;
       names_are = refl;

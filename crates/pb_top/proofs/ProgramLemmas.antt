@@ -80,7 +80,7 @@ pub terms_step : (source : List ℕ) (rest : List (Bor (List ℕ))) (d : Bor (Li
     → Steps source (get_or rest 0 d).now (get_or rest 1 d).now (texts_of (behind_two rest))
 terms_step source rest d some terms =
     terms_begin source (get_or rest 0 d).now (get_or rest 1 d).now (texts_of (behind_two rest))
-      (subst (AreTerms source) (two_texts rest d some) terms)
+    (subst (AreTerms source) (two_texts rest d some) terms)
 
 -- an odd token is left over
 pub terms_odd : (source : List ℕ) (rest : List (Bor (List ℕ))) → length rest < 2 → 0 < length rest → AreTerms source (texts_of rest) → ⊥

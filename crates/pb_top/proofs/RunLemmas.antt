@@ -22,10 +22,11 @@ pub sums_written : (program word input text : List ℕ) (transform : List ℕ) (
     → (sums : List ℤ) × (map (sum_at signs) matrix.cells ≡ map Ok sums) × (text ≡ matrix_text matrix.shape sums)
 sums_written program word input text transform signs matrix rule read writes =
     let same = one_form (tokens_of program) rule.names writes.names signs writes.signs rule.form writes.form in
-    let matrix_is = ok_same writes.matrix matrix (matrix_read input) writes.read read in
-    (writes.sums,
-     ap (λ s. map (sum_at s) matrix.cells) same.signs_are ∙ ap (λ (m : MatrixValue). map (sum_at writes.signs) m.cells) (sym matrix_is) ∙ writes.summed,
-     writes.written ∙ ap (λ (m : MatrixValue). matrix_text m.shape writes.sums) matrix_is)
+    let matrix_is = ok_same writes.matrix matrix (matrix_read input) writes.read read in (
+      writes.sums,
+      ap (λ s. map (sum_at s) matrix.cells) same.signs_are ∙ ap (λ (m : MatrixValue). map (sum_at writes.signs) m.cells) (sym matrix_is) ∙ writes.summed,
+      writes.written ∙ ap (λ (m : MatrixValue). matrix_text m.shape writes.sums) matrix_is,
+    )
 
 pub text_found : (program word input : List ℕ) (transform : List ℕ) (signs : List Sign) (matrix : MatrixValue) (found : Result (Option (Vec ℕ Global)) AllocError)
     → IsRuleOf (tokens_of program) transform signs → transform ≡ word → matrix_read input ≡ Ok matrix → IsRow matrix.shape
@@ -35,14 +36,14 @@ text_found program word input transform signs matrix (Ok None) rule named read r
     let written = sums_written program word input text transform signs matrix rule read writes in
     finds written.0 written.1
 text_found program word input transform signs matrix (Ok (Some text)) rule named read row finds = record {
-    names = rule.names;
-    signs = signs;
-    form = rule.form;
-    named = rule.named ∙ named;
-    matrix = matrix;
-    read = read;
-    row = row;
-    sums = finds.0;
-    summed = finds.1;
-    written = finds.2;
-  }
+  names = rule.names;
+  signs = signs;
+  form = rule.form;
+  named = rule.named ∙ named;
+  matrix = matrix;
+  read = read;
+  row = row;
+  sums = finds.0;
+  summed = finds.1;
+  written = finds.2;
+}

@@ -46,5 +46,5 @@ name_split (c ∷ rest) (suc zero) some few name past =
 name_split (c ∷ rest) (suc (suc m)) some few name past =
     let one : continues_name (slice_index rest 0) ≡ true = name 1 (omega arith) in
     name_joined c (suc m) rest (name_not_blank c (name 0 (omega arith))) (name 0 (omega arith))
-      (goes_on_at rest (omega arith) ∙ one)
-      (name_split rest (suc m) (omega arith) (omega arith) (λ k h. name (suc k) (omega arith)) (λ h. past (omega arith)))
+    (goes_on_at rest (omega arith) ∙ one)
+    (name_split rest (suc m) (omega arith) (omega arith) (λ k h. name (suc k) (omega arith)) (λ h. past (omega arith)))

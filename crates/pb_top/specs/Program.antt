@@ -80,14 +80,14 @@ AreTerms source tokens = (signs : List Sign) × (tokens ≡ terms_of source sign
 -- the names at the places where a program of one rule has them
 abbrev pub named_at : List (List ℕ) → Names
 named_at tokens = record {
-    transform = slice_index_or tokens 1 [];
-    input = slice_index_or tokens 3 [];
-    size = slice_index_or tokens 5 [];
-    output = slice_index_or tokens 8 [];
-    variable = slice_index_or tokens 19 [];
-    target = slice_index_or tokens 21 [];
-    source = slice_index_or tokens 31 [];
-  }
+  transform = slice_index_or tokens 1 [];
+  input = slice_index_or tokens 3 [];
+  size = slice_index_or tokens 5 [];
+  output = slice_index_or tokens 8 [];
+  variable = slice_index_or tokens 19 [];
+  target = slice_index_or tokens 21 [];
+  source = slice_index_or tokens 31 [];
+}
 
 -- the signs of the terms, or the tokens are no terms
 abbrev pub FindsSigns : List ℕ → List (List ℕ) → Option (Vec Sign Global) → Type 0

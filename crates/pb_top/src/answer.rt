@@ -3,13 +3,11 @@ ghost use Rattle.pb_top.specs.Sinks.{shelf_change};
 ghost use Rattle.pb_top.specs.Answer.{run_line};
 ghost use Rattle.pb_top.specs.Working.{IsAnswer, IsRun, IsRuleRun, IsNotBuilt, contents_of};
 
-use std::alloc::{AllocError, Global};
-use std::marker::Model;
-
-use pb_outside::Shelf;
-
 use crate::files::{FetchedAll, fetch_all};
 use crate::one_rule::run_one_rule;
+use pb_outside::Shelf;
+use std::alloc::{AllocError, Global};
+use std::marker::Model;
 
 /// What a command answers, all of it in memory.
 #[derive(Drop)]
@@ -47,8 +45,7 @@ fn read_line(words: &[String]) -> Option<RunLine<'_>>
             if run.as_str() == "run"
                 && pool.as_str() == "--pool"
                 && serial.as_str() == "serial"
-                && none.as_str() == "-" =>
-        {
+                && none.as_str() == "-" => {
             Some(RunLine {
                 program: program.as_str(),
                 transform: transform.as_str(),
@@ -80,12 +77,7 @@ impl<'a> RunLine<'a> {
 }
 
 // Runs a program of one rule.
-fn run_rule(
-    alloc: Global,
-    program: &[u8],
-    word: &[u8],
-    input: &[u8],
-) -> Result<Answer, AllocError>
+fn run_rule(alloc: Global, program: &[u8], word: &[u8], input: &[u8]) -> Result<Answer, AllocError>
     ensures { IfOk result (IsRuleRun program.now word.now input.now) }
 {
     match run_one_rule(alloc, program, word, input)? {

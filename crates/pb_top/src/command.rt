@@ -3,17 +3,17 @@ ghost use Rattle.pb_top.specs.Sinks.{shelf_change, sink_change};
 ghost use Rattle.pb_top.specs.Working.{IsWritten};
 ghost use Rattle.pb_top.specs.Ends.{Ends};
 
+use crate::answer::{Answer, work};
+use crate::put::put_all;
+use pb_outside::{Refused, Shelf, Sink};
 use std::alloc::Global;
 use std::sync::Wait;
 use std::thread::Threads;
 
-use pb_outside::{Refused, Shelf, Sink};
-
-use crate::answer::{Answer, work};
-use crate::put::put_all;
-
 const WRITE_FAULT: u8 = 10;
+
 const READ_FAULT: u8 = 9;
+
 const NO_MEMORY: u8 = 11;
 
 // The status of an answer whose text was put, or of the put that was refused.

@@ -3,11 +3,9 @@ ghost use Rattle.pb_top.specs.Sinks.{shelf_change};
 ghost use Rattle.pb_top.specs.Tokens.{texts_of};
 ghost use Rattle.pb_top.specs.Working.{IsFetched, AreFetched};
 
-use std::alloc::{AllocError, Global};
-
-use pb_outside::{FILE_LIMIT, Shelf, Take};
-
 use crate::answer::Answer;
+use pb_outside::{FILE_LIMIT, Shelf, Take};
+use std::alloc::{AllocError, Global};
 
 /// A file's bytes, or the answer where there are none.
 #[derive(Drop)]

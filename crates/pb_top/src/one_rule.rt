@@ -3,12 +3,10 @@ ghost use Rattle.pb_top.specs.OneRule.{with_term, sum_at, IsRow};
 ghost use Rattle.pb_top.specs.Sums.{FindsSums, FindsSumsText, FindsText};
 ghost use Rattle.pb_matrix.specs.Header.{IsMatrixShape};
 
-use std::alloc::{AllocError, Global};
-
+use crate::program::{Sign, is_same, read_program};
 use pb_matrix::{Matrix, MatrixRefusal, read_matrix, write_matrix};
 use pb_values::{Kind, add, sub};
-
-use crate::program::{Sign, is_same, read_program};
+use std::alloc::{AllocError, Global};
 
 const MOST_CELLS: u64 = 1_048_576;
 

@@ -6,13 +6,14 @@ ghost use Rattle.std.specs.Cmp.Lexicographic.{pointwise};
 ghost use Rattle.pb_top.specs.Found.{FindsRule};
 ghost use Rattle.pb_top.specs.Program.{head_of, tail_tokens, FindsSigns, IsFramed, is_name as spells_name, is_among, is_free_name as free_name, reserved, named_at, all_different as differ, listed, are_free as free, sign_token, terms_of, AreTerms, IsOneRule};
 
+use crate::tokens::{begins_name, continues_name, tokens};
 use std::alloc::{AllocError, Global};
 use std::marker::Model;
 
-use crate::tokens::{begins_name, continues_name, tokens};
-
 const HEAD_LEN: usize = 36;
+
 const TAIL_LEN: usize = 3;
+
 const FRAME_LEN: usize = 40;
 
 /// The sign of a term of a sum.
@@ -236,7 +237,11 @@ fn sign_of(token: &[u8]) -> Option<Sign>
 
 // The signs of the terms behind the first, where the tokens are such terms.
 #[tactic(auto, using(crate::proofs::ProgramLemmas::terms_step))]
-fn read_signs(alloc: Global, tokens: &[&[u8]], source: &[u8]) -> Result<Option<Vec<Sign>>, AllocError>
+fn read_signs(
+    alloc: Global,
+    tokens: &[&[u8]],
+    source: &[u8],
+) -> Result<Option<Vec<Sign>>, AllocError>
     ensures { IfOk result (λ found. FindsSigns source.now (texts_of tokens.now) found) }
 {
     let mut signs = Vec::new(alloc);

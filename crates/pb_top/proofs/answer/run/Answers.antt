@@ -6,5 +6,5 @@ use Rattle.pb_top.proofs.answer.run.Goals as goal
 pub returns : goal.returns
 returns c =
     two_contents c.args.line.now c.args.contents.now c.index-contents-0.result c.index-contents-1.result _ _ _ c.run_rule.result c.requires
-      c.index-contents-0.is c.index-contents-1.is c.deref.ensures.value (c.as_bytes.ensures.value ∙ ap (λ (l : RunLine). l.transform) c.line.view_is)
-      c.deref-2.ensures.value c.run_rule.ensures
+    c.index-contents-0.is c.index-contents-1.is c.deref.ensures.value (c.as_bytes.ensures.value ∙ ap (λ (l : RunLine). l.transform) c.line.view_is)
+    c.deref-2.ensures.value c.run_rule.ensures

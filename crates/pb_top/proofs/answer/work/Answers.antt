@@ -19,5 +19,5 @@ returns-in-All-clause-answer g c =
     let is : run_line (map string_bytes c.args.words.now) ≡ Some c.in-Some.line = sym c.read_line.ensures ∙ c.in-Some.is in
     let fetched = subst (AreFetched (texts_of c.files.result) shelf) c.in-All.is c.in_ok-contents.ensures.fetched in
     run_answers (map string_bytes c.args.words.now) c.in-Some.line shelf (contents_of c.in-All.contents.items) c.run.result is fetched.1
-      (subst (λ names. IfSome shelf.before (λ files. taken files names ≡ Ok (contents_of c.in-All.contents.items))) c.files.ensures fetched.2)
-      (subst (λ items. IfOk c.run.result (IsRun c.in-Some.line (contents_of items))) c.deref.ensures.value c.run.ensures)
+    (subst (λ names. IfSome shelf.before (λ files. taken files names ≡ Ok (contents_of c.in-All.contents.items))) c.files.ensures fetched.2)
+    (subst (λ items. IfOk c.run.result (IsRun c.in-Some.line (contents_of items))) c.deref.ensures.value c.run.ensures)

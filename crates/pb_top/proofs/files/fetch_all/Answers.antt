@@ -12,5 +12,5 @@ returns-in-Other-clause-fetched g c =
     let name = get_or c.args.names.now c.loop-name.name-index no_slice in
     let fetched = subst (IsFetched name.now (shelf_change files faults c.loop-name.shelf c.fetch.new.shelf)) c.in-Other.is c.in_ok-bytes.ensures.fetched in
     fetch_stops (files c.args.shelf.now) (files c.loop-name.shelf) (files c.fetch.new.shelf) (faults c.args.shelf.now) (faults c.loop-name.shelf) (faults c.fetch.new.shelf)
-      c.args.names.now c.loop-name.name-index (contents_of c.loop-name.contents.items) c.in-Other.answer
-      c.loop-name.invariant.stays c.loop-name.invariant.sound c.loop-name-test.true c.loop-name.invariant.read fetched
+    c.args.names.now c.loop-name.name-index (contents_of c.loop-name.contents.items) c.in-Other.answer
+    c.loop-name.invariant.stays c.loop-name.invariant.sound c.loop-name-test.true c.loop-name.invariant.read fetched

@@ -15,4 +15,4 @@ returns c =
     let rule = subst (FindsRule (tokens_of c.args.program.now)) c.in-Some.is c.in_ok-rule.ensures in
     let finds = subst (λ signs. IfOk c.sums_text.result (FindsSumsText signs c.in-Ok.matrix)) c.deref.ensures.value c.sums_text.ensures in
     text_found c.args.program.now c.args.word.now c.args.input.now c.in-Some.rule.transform.now c.in-Some.rule.signs.items c.in-Ok.matrix
-      c.sums_text.result rule (c.if-not-is_same.ensures.0 refl) c.in-Ok.ensures.reads (c.if-not-is_row.ensures.0 refl) finds
+    c.sums_text.result rule (c.if-not-is_same.ensures.0 refl) c.in-Ok.ensures.reads (c.if-not-is_row.ensures.0 refl) finds

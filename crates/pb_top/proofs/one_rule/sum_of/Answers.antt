@@ -8,6 +8,6 @@ use Rattle.pb_top.proofs.one_rule.sum_of.Goals as goal
 pub returns-in-Err : goal.returns-in-Err
 returns-in-Err c =
     let stops = fold_stops (to_z w64 (of_z w64 c.args.cell)) (to_z w64 c.loop-sign.sum-bits) c.args.signs.now c.loop-sign.sign-index Plus c.in-Err.kind
-          c.loop-sign-test.true (sym c.with_next.ensures ∙ c.in-Err.is) in
+    c.loop-sign-test.true (sym c.with_next.ensures ∙ c.in-Err.is) in
     let cell_is = to_z-of_z w64 c.args.cell c.ranges.cell in
     sym (ap (sum_at c.args.signs.now) (sym cell_is) ∙ c.loop-sign.invariant ∙ stops)

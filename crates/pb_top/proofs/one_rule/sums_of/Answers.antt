@@ -20,6 +20,6 @@ loop-cell-preserved c =
     let sum_fits : SFits w64 c.in-Ok.sum = search rules in
     let sum_is : to_z w64 (of_z w64 c.in-Ok.sum) ≡ c.in-Ok.sum = to_z-of_z w64 c.in-Ok.sum sum_fits in
     let some : sum_at c.args.signs.now cell ≡ Ok (to_z w64 (of_z w64 c.in-Ok.sum)) =
-          ap (sum_at c.args.signs.now) (sym cell_is) ∙ sym c.sum_of.ensures ∙ c.in-Ok.is ∙ ap Ok (sym sum_is) in
+    ap (sum_at c.args.signs.now) (sym cell_is) ∙ sym c.sum_of.ensures ∙ c.in-Ok.is ∙ ap Ok (sym sum_is) in
     one_more (sum_at c.args.signs.now) c.args.cells.now c.loop-cell.sums.items c.loop-cell.cell-index (to_z w64 (of_z w64 c.in-Ok.sum))
-      c.loop-cell-test.true some c.loop-cell.invariant ∙ ap (map Ok) (sym c.in_ok-push-in-Ok.ensures.items)
+    c.loop-cell-test.true some c.loop-cell.invariant ∙ ap (map Ok) (sym c.in_ok-push-in-Ok.ensures.items)

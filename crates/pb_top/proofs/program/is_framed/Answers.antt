@@ -14,15 +14,19 @@ returns-then-not-has_head c =
 
 pub returns-then-not-is_same : goal.returns-then-not-is_same
 returns-then-not-is_same c =
-    let source_is = ap (λ (names : Names). names.source) c.names.view_is in
-    (λ t. absurd (false_true t), λ framed.
-      c.if-not-is_same.ensures.1 ((framed_slices c.args.tokens.now c.args.names.now c.requires framed).source ∙ sym source_is))
+    let source_is = ap (λ (names : Names). names.source) c.names.view_is in (
+      λ t. absurd (false_true t),
+      λ framed.
+          c.if-not-is_same.ensures.1 ((framed_slices c.args.tokens.now c.args.names.now c.requires framed).source ∙ sym source_is),
+    )
 
 pub returns : goal.returns
 returns c =
-    let source_is = ap (λ (names : Names). names.source) c.names.view_is in
-    (λ t. slices_framed c.args.tokens.now c.args.names.now c.requires (record {
+    let source_is = ap (λ (names : Names). names.source) c.names.view_is in (
+      λ t. slices_framed c.args.tokens.now c.args.names.now c.requires (record {
         head = c.if-not-has_head.ensures.0 refl;
         source = c.if-not-is_same.ensures.0 refl ∙ source_is;
         tail = c.has_tail.ensures.0 t;
-      }), λ framed. c.has_tail.ensures.1 (framed_slices c.args.tokens.now c.args.names.now c.requires framed).tail)
+      }),
+      λ framed. c.has_tail.ensures.1 (framed_slices c.args.tokens.now c.args.names.now c.requires framed).tail,
+    )
