@@ -3,7 +3,8 @@ use std::alloc::{AllocError, AllocFailed};
 use std::marker::Model;
 use thiserror::Error;
 
-/// A matrix: its shape, and its cells row by row, as many as width times height.
+/// A matrix: its shape, and its cells row by row. Where `read_matrix` answers it, there are as many cells as
+/// width times height.
 #[derive(Debug, Drop)]
 pub struct Matrix {
     pub shape: Shape,

@@ -24,17 +24,17 @@ IsContent told name limit (Ok Failed) = Unit {0}
 IsContent told name limit (Err e) = Unit {0}
 
 -- the count of faults rises in a call that fails, and in no other
-abbrev pub FaultsOf : Result Take AllocError → ℕ → ℕ → Type 0
-FaultsOf (Ok (Got bytes)) before now = now ≡ before
-FaultsOf (Ok Long) before now = now ≡ before
-FaultsOf (Ok Missing) before now = now ≡ before
-FaultsOf (Ok Failed) before now = RoseBy 1 before now
-FaultsOf (Err e) before now = now ≡ before
+abbrev pub CountsTakeFault : Result Take AllocError → ℕ → ℕ → Type 0
+CountsTakeFault (Ok (Got bytes)) before now = now ≡ before
+CountsTakeFault (Ok Long) before now = now ≡ before
+CountsTakeFault (Ok Missing) before now = now ≡ before
+CountsTakeFault (Ok Failed) before now = RoseBy 1 before now
+CountsTakeFault (Err e) before now = now ≡ before
 
 -- the count of bytes read never falls, and rises past the limit where the file is too long
-abbrev pub TakenOf : ℕ → Result Take AllocError → ℕ → ℕ → Type 0
-TakenOf limit (Ok (Got bytes)) before now = before ≤ now
-TakenOf limit (Ok Long) before now = RoseBy (limit + 1) before now
-TakenOf limit (Ok Missing) before now = before ≤ now
-TakenOf limit (Ok Failed) before now = before ≤ now
-TakenOf limit (Err e) before now = before ≤ now
+abbrev pub CountsBytes : ℕ → Result Take AllocError → ℕ → ℕ → Type 0
+CountsBytes limit (Ok (Got bytes)) before now = before ≤ now
+CountsBytes limit (Ok Long) before now = RoseBy (limit + 1) before now
+CountsBytes limit (Ok Missing) before now = before ≤ now
+CountsBytes limit (Ok Failed) before now = before ≤ now
+CountsBytes limit (Err e) before now = before ≤ now

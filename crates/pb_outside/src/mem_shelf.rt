@@ -2,7 +2,7 @@ ghost use Rattle.std.specs.Prelude.{◌≡◌, ◌≤◌, Some};
 ghost use Rattle.std.specs.Option.{option_copied, option_map};
 ghost use Rattle.pb_outside.specs.declared.shelf.TheConstants.{FILE_LIMIT};
 ghost use Rattle.pb_outside.specs.MemShelf.{entries_of, CountsCall};
-ghost use Rattle.pb_outside.specs.Shelf.{IsContent, FaultsOf, TakenOf, content_of};
+ghost use Rattle.pb_outside.specs.Shelf.{IsContent, CountsTakeFault, CountsBytes, content_of};
 
 use crate::shelf::{Shelf, Take};
 use std::alloc::{AllocError, Global};
@@ -65,10 +65,10 @@ impl Shelf for MemShelf {
     fn take(&mut self, alloc: Global, name: &str, limit: u64) -> Result<Take, AllocError>
         requires { limit ≤ FILE_LIMIT }
         ensures content { IsContent (Some self.old.files) name.now limit result }
-        ensures faults { FaultsOf result self.old.faults self.new.faults }
-        ensures taken { TakenOf limit result self.old.taken self.new.taken }
+        ensures faults { CountsTakeFault result self.old.faults self.new.faults }
+        ensures taken { CountsBytes limit result self.old.taken self.new.taken }
         ensures stays { Some self.new.files ≡ Some self.old.files }
-        ensures call { CountsCall self.old self.new result }
+        ensures call { CountsCall self.old self.new limit result }
     {
         let fails = self.fail.contains(&self.calls);
         self.calls = self.calls.saturating_add(1);

@@ -1,5 +1,5 @@
 ghost use Rattle.std.specs.Prelude.{◌≡◌, ℕ, ◌≤◌, ◌<◌, [], length, Some, IfOk};
-ghost use Rattle.pb_outside.specs.Sink.{Puts, FaultsOf};
+ghost use Rattle.pb_outside.specs.Sink.{Puts, CountsPutFault};
 ghost use Rattle.pb_outside.specs.MemSink.{put_result, CountsPut};
 
 use crate::sink::{Refused, Sink};
@@ -62,7 +62,7 @@ impl Sink for MemSink {
     fn put(&mut self, piece: &[u8]) -> Result<u64, Refused>
         requires { 0 < length piece.now }
         ensures written { Puts piece.now result (Some self.old.written) (Some self.new.written) }
-        ensures faults { FaultsOf result self.old.faults self.new.faults }
+        ensures faults { CountsPutFault result self.old.faults self.new.faults }
         ensures exact { result ≡ put_result self.old (length piece.now) }
         ensures call { CountsPut self.old self.new }
     {

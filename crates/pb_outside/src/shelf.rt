@@ -1,5 +1,5 @@
 ghost use Rattle.std.specs.Prelude.{◌≡◌, ℕ, ◌≤◌, List, Option};
-ghost use Rattle.pb_outside.specs.Shelf.{Files, IsContent, FaultsOf, TakenOf};
+ghost use Rattle.pb_outside.specs.Shelf.{Files, IsContent, CountsTakeFault, CountsBytes};
 
 use std::alloc::{AllocError, Global};
 
@@ -34,7 +34,7 @@ pub trait Shelf {
     fn take(&mut self, alloc: Global, name: &str, limit: u64) -> Result<Take, AllocError>
         requires { limit ≤ FILE_LIMIT }
         ensures content { IsContent (files self.old) name.now limit result }
-        ensures faults { FaultsOf result (faults self.old) (faults self.new) }
-        ensures taken { TakenOf limit result (taken self.old) (taken self.new) }
+        ensures faults { CountsTakeFault result (faults self.old) (faults self.new) }
+        ensures taken { CountsBytes limit result (taken self.old) (taken self.new) }
         ensures stays { files self.new ≡ files self.old };
 }

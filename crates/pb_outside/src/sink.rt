@@ -1,5 +1,5 @@
 ghost use Rattle.std.specs.Prelude.{ℕ, ◌<◌, List, length, Option};
-ghost use Rattle.pb_outside.specs.Sink.{Puts, FaultsOf};
+ghost use Rattle.pb_outside.specs.Sink.{Puts, CountsPutFault};
 
 /// Nothing of a piece could be put.
 #[derive(Clone, Copy, Debug, PartialEq, Eq)]
@@ -17,5 +17,5 @@ pub trait Sink {
     fn put(&mut self, piece: &[u8]) -> Result<u64, Refused>
         requires { 0 < length piece.now }
         ensures written { Puts piece.now result (written self.old) (written self.new) }
-        ensures faults { FaultsOf result (faults self.old) (faults self.new) };
+        ensures faults { CountsPutFault result (faults self.old) (faults self.new) };
 }

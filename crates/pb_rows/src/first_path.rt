@@ -170,6 +170,7 @@ fn other_words_take_no_file(rt: HostRuntime) -> Result<(), Fail> {
         other_words("check p"),
         other_words("run --pool locked p - Double a"),
         other_words("run --pool serial p c Double a"),
+        other_words("run --pool serial --trace - Double a"),
         other_words("run --pool serial p - Double a a"),
     ];
     for row in rows {

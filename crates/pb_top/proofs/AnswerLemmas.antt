@@ -5,8 +5,9 @@ use Rattle.std.specs.declared.alloc.AllocError.{AllocError}
 use Rattle.pb_outside.specs.Shelf.{Files}
 use Rattle.pb_top.specs.Sinks.{ShelfChange}
 use Rattle.pb_top.specs.Reply.{Reply}
-use Rattle.pb_top.specs.Answer.{RunLine, run_line, line_files, taken, Follows, LineAnswers, Answers}
-use Rattle.pb_top.specs.Working.{IsSound, IsStop, IsRun, IsRuleRun, IsAnswer, reply_of, contents_of}
+use Rattle.pb_top.specs.Answer.{RunLine, run_line, line_files, bytes_of_all, Follows, LineAnswers, Answers}
+use Rattle.pb_top.specs.Ends.{IsSound}
+use Rattle.pb_top.specs.Working.{IsStop, IsRun, IsRuleRun, IsAnswer, reply_of, contents_of}
 use Rattle.pb_top.specs.declared.answer.Answer.{Answer}
 use Rattle.pb_top.specs.declared.answer.Answer.TheVariants.{Done, Refusal, ReadFault}
 
@@ -27,7 +28,7 @@ two_contents line (x ∷ y ∷ z ∷ rest) a b p w i found two first second prog
 
 -- an answer over files that are told, or none are told
 told_answers : (words : List (List ℕ)) (line : RunLine) (told : Option Files) (reply : Reply) (read : Result (List (List ℕ)) Reply) → run_line words ≡ Some line
-    → Follows line read reply → IfSome told (λ files. taken files (line_files (Some line)) ≡ read) → IfSome told (λ files. Answers words files reply)
+    → Follows line read reply → IfSome told (λ files. bytes_of_all files (line_files (Some line)) ≡ read) → IfSome told (λ files. Answers words files reply)
 told_answers words line None reply read is follows took = tt
 told_answers words line (Some files) reply read is follows took =
     let P : Option RunLine → Type 0 = λ l. LineAnswers l files reply in
@@ -48,7 +49,7 @@ stop_answers words line shelf (ReadFault text) is stop = record {
 
 -- with the bytes of all its files, a line's answer is that of the command
 pub run_answers : (words : List (List ℕ)) (line : RunLine) (shelf : ShelfChange) (contents : List (List ℕ)) (found : Result Answer AllocError) → run_line words ≡ Some line
-    → IsSound shelf → IfSome shelf.before (λ files. taken files (line_files (Some line)) ≡ Ok contents) → IfOk found (IsRun line contents) → IfOk found (IsAnswer words shelf)
+    → IsSound shelf → IfSome shelf.before (λ files. bytes_of_all files (line_files (Some line)) ≡ Ok contents) → IfOk found (IsRun line contents) → IfOk found (IsAnswer words shelf)
 run_answers words line shelf contents (Err e) is sound took run = tt
 run_answers words line shelf contents (Ok (Done text)) is sound took run =
     (sound, told_answers words line shelf.before (reply_of (Done text)) (Ok contents) is run.1 took)

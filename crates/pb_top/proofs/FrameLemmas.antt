@@ -4,7 +4,8 @@ use Rattle.std.specs.Borrow.{Bor}
 use Rattle.std.proofs.lemmas.List.{take-append-drop, take-map, drop-map, get_or-map, length-map, take_all, take_at, drop_at, length-append, length-drop, drop-drop}
 use Rattle.std.proofs.Math.Seq.{drop-cons}
 use Rattle.pb_top.specs.Tokens.{texts_of}
-use Rattle.pb_top.specs.Program.{Names, terms_of, head_of, tail_tokens, program_tokens, named_at, middle_of, sign_token, IsFramed, IsOneRule}
+use Rattle.pb_top.specs.Program.{Names, terms_of, head_of, tail_tokens, program_tokens, sign_token, IsOneRule}
+use Rattle.pb_top.specs.Found.{named_at, middle_of, IsFramed}
 use Rattle.pb_top.specs.declared.program.Sign.{Sign}
 use Rattle.pb_top.specs.declared.program.Sign.TheVariants.{Plus, Minus}
 use Rattle.pb_top.proofs.ProgramLemmas.{no_slice}

@@ -7,3 +7,4 @@ pub mod RunLemmas
 pub mod FileLemmas
 pub mod AnswerLemmas
 pub mod EndLemmas
+pub mod LawLemmas

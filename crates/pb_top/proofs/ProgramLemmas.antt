@@ -7,7 +7,8 @@ use Rattle.std.specs.List.{list_all, list_any}
 use Rattle.std.specs.Cmp.Lexicographic.{pointwise}
 use Rattle.std.proofs.lemmas.Slice.Eq.{slice_eq-Decides, bytes_eq-Decides}
 use Rattle.pb_top.specs.Tokens.{begins_name, continues_name, texts_of}
-use Rattle.pb_top.specs.Program.{is_name, is_among, all_different, sign_token, terms_of, AreTerms}
+use Rattle.pb_top.specs.Program.{is_name, is_among, all_different, sign_token, terms_of}
+use Rattle.pb_top.specs.Found.{AreTerms}
 use Rattle.pb_top.specs.declared.program.Sign.{Sign}
 
 pub is_name_split : (word : List ℕ) → 0 < length word → is_name word ≡ (begins_name (slice_index word 0) && list_all continues_name (drop 1 word))

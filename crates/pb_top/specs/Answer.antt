@@ -1,5 +1,6 @@
 -- What the words of a command line and the files of a shelf have for an answer.
-use Rattle.std.specs.Prelude.{◌≡◌, ℕ, nat_le, ◌&&◌, List, [], ◌∷◌, ◌++◌, length, Option, Some, None, Result, Ok, Err, codes, bytes_eq, if◌then◌else◌}
+use Rattle.std.specs.Prelude.{◌≡◌, ℕ, nat_le, ◌&&◌, List, [], ◌∷◌, ◌++◌, length, Option, Some, None, Result, Ok, Err, codes, bytes_eq, not, nat_eq, if◌then◌else◌}
+use Rattle.std.specs.List.{starts_with}
 use Rattle.pb_outside.specs.Shelf.{Files, content_of}
 use Rattle.pb_outside.specs.declared.shelf.TheConstants.{FILE_LIMIT}
 use Rattle.pb_top.specs.Reply.{Reply, no_file, file_too_long, not_built}
@@ -11,10 +12,11 @@ pub record RunLine : Type 0 where
   pub transform : List ℕ
   pub input : List ℕ
 
--- `run --pool serial PROGRAM - TRANSFORM INPUT`
+-- `run --pool serial PROGRAM - TRANSFORM INPUT`; a PROGRAM that begins with `--` would stand in an option's place
 abbrev pub run_line : List (List ℕ) → Option RunLine
 run_line (run ∷ pool ∷ serial ∷ program ∷ none ∷ transform ∷ input ∷ []) =
     if (bytes_eq run (codes "run") && bytes_eq pool (codes "--pool")) && (bytes_eq serial (codes "serial") && bytes_eq none (codes "-"))
+    && not (starts_with nat_eq program (codes "--"))
     then Some (record { program = program; transform = transform; input = input }) else None
 run_line words = None
 
@@ -32,14 +34,14 @@ and_more front (Ok rest) = Ok (front ++ rest)
 and_more front (Err reply) = Err reply
 
 -- a file that isn't there or is too long is the answer
-abbrev pub took : List ℕ → Option (List ℕ) → Result (List (List ℕ)) Reply → Result (List (List ℕ)) Reply
-took name None rest = Err (no_file name)
-took name (Some bytes) rest = if nat_le (length bytes) FILE_LIMIT then and_more (bytes ∷ []) rest else Err (file_too_long name)
+abbrev pub bytes_then : List ℕ → Option (List ℕ) → Result (List (List ℕ)) Reply → Result (List (List ℕ)) Reply
+bytes_then name None rest = Err (no_file name)
+bytes_then name (Some bytes) rest = if nat_le (length bytes) FILE_LIMIT then and_more (bytes ∷ []) rest else Err (file_too_long name)
 
 -- the bytes of the files with these names, or the answer that the first faulty one is
-abbrev pub taken : Files → List (List ℕ) → Result (List (List ℕ)) Reply
-taken files [] = Ok []
-taken files (name ∷ names) = took name (content_of files name) (taken files names)
+abbrev pub bytes_of_all : Files → List (List ℕ) → Result (List (List ℕ)) Reply
+bytes_of_all files [] = Ok []
+bytes_of_all files (name ∷ names) = bytes_then name (content_of files name) (bytes_of_all files names)
 
 -- the answer over the bytes of the command's files
 abbrev pub RunAnswers : RunLine → List (List ℕ) → Reply → Type 0
@@ -52,7 +54,7 @@ Follows line (Ok contents) reply = RunAnswers line contents reply
 Follows line (Err stop) reply = reply ≡ stop
 
 abbrev pub LineAnswers : Option RunLine → Files → Reply → Type 0
-LineAnswers (Some line) files reply = Follows line (taken files (line_files (Some line))) reply
+LineAnswers (Some line) files reply = Follows line (bytes_of_all files (line_files (Some line))) reply
 LineAnswers None files reply = reply ≡ not_built
 
 -- the answer to a command line, over the files of the shelf

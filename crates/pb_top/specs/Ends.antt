@@ -1,11 +1,15 @@
 -- How a call of the top ends: the clause that every command has.
-use Rattle.std.specs.Prelude.{◌≡◌, ◌≢◌, ℕ, List, Option, IfSome, Contains, ◌⊎◌}
+use Rattle.std.specs.Prelude.{◌≡◌, ◌≢◌, ℕ, List, [], Option, IfSome, Contains, ◌⊎◌}
 use Rattle.pb_outside.specs.Count.{RoseBy}
 use Rattle.pb_outside.specs.Shelf.{Files}
-use Rattle.pb_top.specs.Sinks.{SinkChange, ShelfChange, Gains, Stays, Breaks}
+use Rattle.pb_top.specs.Sinks.{SinkChange, ShelfChange, Gains, Stays, IsSteady, IsIdle, Breaks}
 use Rattle.pb_top.specs.Texts.{read_fault_line}
 use Rattle.pb_top.specs.Reply.{Reply}
 use Rattle.pb_top.specs.Answer.{Answers, file_words}
+
+-- the shelf met no fault
+abbrev pub IsSound : ShelfChange → Type 0
+IsSound shelf = shelf.faults_now ≡ shelf.faults_before
 
 -- the line that names a file word, where the shelf's faults rose
 pub record IsReadFault (words : List (List ℕ)) (shelf : ShelfChange) (line : List ℕ) : Type 0 where
@@ -31,12 +35,6 @@ pub record IsAnswered (words : List (List ℕ)) (files : Files) (out err : SinkC
   pub gains_out : Gains reply.out out
   pub gains_err : Gains reply.err err
 
--- no device failed
-pub record NoFault (shelf : ShelfChange) (out err : SinkChange) : Type 0 where
-  pub of_shelf : shelf.faults_now ≡ shelf.faults_before
-  pub of_out : out.faults_now ≡ out.faults_before
-  pub of_err : err.faults_now ≡ err.faults_before
-
 -- a file couldn't be read, and `err` says which
 pub record ReadFails (words : List (List ℕ)) (shelf : ShelfChange) (out err : SinkChange) : Type 0 where
   pub line : List ℕ
@@ -44,26 +42,41 @@ pub record ReadFails (words : List (List ℕ)) (shelf : ShelfChange) (out err : 
   pub gains_err : Gains line err
   pub stays_out : Stays out
 
--- a sink refused a put of the text that it would have gained, and the other gained nothing
+-- a sink refused a put of the text that it would have gained, and nothing was put on the other
 pub record OutBreaks (words : List (List ℕ)) (shelf : ShelfChange) (out err : SinkChange) : Type 0 where
   pub text : List ℕ
   pub is_text : IsOutText words shelf.before text
   pub breaks : Breaks text out
-  pub stays : Stays err
+  pub idle : IsIdle err
 
 pub record ErrBreaks (words : List (List ℕ)) (shelf : ShelfChange) (out err : SinkChange) : Type 0 where
   pub text : List ℕ
   pub is_text : IsErrText words shelf text
   pub breaks : Breaks text err
-  pub stays : Stays out
+  pub idle : IsIdle out
+
+-- no sink met a fault
+pub record AreSteady (out err : SinkChange) : Type 0 where
+  pub of_out : IsSteady out
+  pub of_err : IsSteady err
+
+-- a status that an answer has: neither a failed read, a failed write nor want of memory
+pub record IsAnswerStatus (status : ℕ) : Type 0 where
+  pub no_read_fault : status ≢ 9
+  pub no_write_fault : status ≢ 10
+  pub no_want : status ≢ 11
 
 -- status 9 is a file that couldn't be read, 10 a sink that refused, 11 want of memory, and any other the answer's
 pub record Ends (words : List (List ℕ)) (shelf : ShelfChange) (out err : SinkChange) (status : ℕ) : Type 0 where
-  pub answered : status ≢ 9 → status ≢ 10 → status ≢ 11 → IfSome shelf.before (λ files. IsAnswered words files out err status)
-  pub no_fault : status ≢ 9 → status ≢ 10 → status ≢ 11 → NoFault shelf out err
+  pub answered : IsAnswerStatus status → IfSome shelf.before (λ files. IsAnswered words files out err status)
   pub read_fault : status ≡ 9 → ReadFails words shelf out err
   pub write_fault : status ≡ 10 → OutBreaks words shelf out err ⊎ ErrBreaks words shelf out err
   pub memory : status ≡ 11 → Stays out × Stays err
+  -- the files are as they were, and words that name none take none
+  pub files : shelf.now ≡ shelf.before
+  pub untaken : file_words words ≡ [] → shelf.bytes_now ≡ shelf.bytes_before
+  -- whatever is told: what no device's fault explains has none, and only the sink that the status says gains something
+  pub sound : IsAnswerStatus status → IsSound shelf
+  pub steady : status ≢ 10 → AreSteady out err
   pub untouched : status ≢ 0 → status ≢ 10 → Stays out
   pub silent : status ≡ 0 → Stays err
-  pub files : shelf.now ≡ shelf.before

@@ -1,6 +1,6 @@
 -- What a program of one rule writes.
 use Rattle.std.specs.Prelude.{◌≡◌, ℕ, ◌≤◌, List, map, fold, ℤ, ◌+ℤ◌, ◌-ℤ◌, Result, Ok, Err, ◌⊎◌}
-use Rattle.pb_values.specs.Checked.{checked}
+use Rattle.pb_values.specs.Checked.{checked_result}
 use Rattle.pb_values.specs.declared.outcome.Kind.{Kind}
 use Rattle.pb_values.specs.declared.shape.Shape.{Shape}
 use Rattle.pb_matrix.specs.Value.{MatrixValue}
@@ -8,14 +8,14 @@ use Rattle.pb_matrix.specs.Reading.{matrix_read}
 use Rattle.pb_matrix.specs.Text.{matrix_text}
 use Rattle.pb_top.specs.Tokens.{tokens_of}
 use Rattle.pb_top.specs.Program.{Names, IsOneRule}
-use Rattle.pb_top.specs.Reply.{Reply, done, not_built}
+use Rattle.pb_top.specs.Reply.{Reply, done_reply, not_built}
 use Rattle.pb_top.specs.declared.program.Sign.{Sign}
 use Rattle.pb_top.specs.declared.program.Sign.TheVariants.{Plus, Minus}
 
 -- one more term of a sum, where there was no overflow before
 abbrev pub with_term : ℤ → Result ℤ Kind → Sign → Result ℤ Kind
-with_term a (Ok sum) Plus = checked (sum +ℤ a)
-with_term a (Ok sum) Minus = checked (sum -ℤ a)
+with_term a (Ok sum) Plus = checked_result (sum +ℤ a)
+with_term a (Ok sum) Minus = checked_result (sum -ℤ a)
 with_term a (Err kind) sign = Err kind
 
 -- the value of E at a cell, term by term from left to right
@@ -43,5 +43,5 @@ pub record Writes (program word input text : List ℕ) : Type 0 where
 -- the matrix that the program writes; what isn't of the form isn't built
 abbrev pub RunsOneRule : List ℕ → List ℕ → List ℕ → Reply → Type 0
 RunsOneRule program word input reply =
-    ((text : List ℕ) × Writes program word input text × (reply ≡ done text))
+    ((text : List ℕ) × Writes program word input text × (reply ≡ done_reply text))
     ⊎ (((text : List ℕ) → Writes program word input text → ⊥) × (reply ≡ not_built))

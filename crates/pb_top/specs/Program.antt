@@ -1,7 +1,6 @@
 -- The programs of one rule, `transform T from A[n] to B[n] { to (B.cell(i) b) from (A.cell(i) a) { b = E; } }`,
 -- where E is `a` followed by any number of `+ a` and `- a`.
-use Rattle.std.specs.Prelude.{◌≡◌, ℕ, Bool, true, false, not, IsTrue, ◌&&◌, List, [], ◌∷◌, ◌++◌, flat_map, codes, bytes_eq, slice_index_or, length, take, drop, ◌-◌, Option, Some, None, Vec}
-use Rattle.std.specs.declared.alloc.Global.{Global}
+use Rattle.std.specs.Prelude.{◌≡◌, ℕ, Bool, true, false, not, IsTrue, ◌&&◌, List, [], ◌∷◌, ◌++◌, flat_map, codes, bytes_eq}
 use Rattle.std.specs.List.{list_all, list_any}
 use Rattle.pb_top.specs.Tokens.{begins_name, continues_name}
 use Rattle.pb_top.specs.declared.program.Sign.{Sign}
@@ -39,12 +38,12 @@ abbrev pub all_different : List (List ℕ) → Bool
 all_different [] = true
 all_different (word ∷ words) = not (is_among word words) && all_different words
 
-abbrev pub listed : Names → List (List ℕ)
-listed n = n.transform ∷ n.input ∷ n.size ∷ n.output ∷ n.variable ∷ n.target ∷ n.source ∷ []
+abbrev pub name_list : Names → List (List ℕ)
+name_list n = n.transform ∷ n.input ∷ n.size ∷ n.output ∷ n.variable ∷ n.target ∷ n.source ∷ []
 
 -- seven different names, none of which is a keyword or a function
 abbrev pub are_free : Names → Bool
-are_free n = list_all is_free_name (listed n) && all_different (listed n)
+are_free n = list_all is_free_name (name_list n) && all_different (name_list n)
 
 abbrev pub head_of : Names → List (List ℕ)
 head_of n = codes "transform" ∷ n.transform ∷ codes "from" ∷ n.input ∷ codes "[" ∷ n.size ∷ codes "]"
@@ -72,32 +71,3 @@ program_tokens names signs = head_of names ++ (names.source ∷ terms_of names.s
 pub record IsOneRule (tokens : List (List ℕ)) (names : Names) (signs : List Sign) : Type 0 where
   pub spelled : tokens ≡ program_tokens names signs
   pub free : IsTrue (are_free names)
-
--- tokens are the terms of some sum
-abbrev pub AreTerms : List ℕ → List (List ℕ) → Type 0
-AreTerms source tokens = (signs : List Sign) × (tokens ≡ terms_of source signs)
-
--- the names at the places where a program of one rule has them
-abbrev pub named_at : List (List ℕ) → Names
-named_at tokens = record {
-  transform = slice_index_or tokens 1 [];
-  input = slice_index_or tokens 3 [];
-  size = slice_index_or tokens 5 [];
-  output = slice_index_or tokens 8 [];
-  variable = slice_index_or tokens 19 [];
-  target = slice_index_or tokens 21 [];
-  source = slice_index_or tokens 31 [];
-}
-
--- the signs of the terms, or the tokens are no terms
-abbrev pub FindsSigns : List ℕ → List (List ℕ) → Option (Vec Sign Global) → Type 0
-FindsSigns source tokens (Some signs) = tokens ≡ terms_of source signs.items
-FindsSigns source tokens None = AreTerms source tokens → ⊥
-
--- the tokens between the sum's first term and the tail
-abbrev pub middle_of : List (List ℕ) → List (List ℕ)
-middle_of tokens = take (length tokens - 40) (drop 37 tokens)
-
--- the tokens are those of a program with these names, but for the middle
-abbrev pub IsFramed : List (List ℕ) → Names → Type 0
-IsFramed tokens names = tokens ≡ head_of names ++ (names.source ∷ middle_of tokens) ++ tail_tokens

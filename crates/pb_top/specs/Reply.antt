@@ -8,18 +8,18 @@ pub record Reply : Type 0 where
   pub err : List ℕ
 
 -- status 0 with a text for `out`
-abbrev pub done : List ℕ → Reply
-done text = record { status = 0; out = text; err = [] }
+abbrev pub done_reply : List ℕ → Reply
+done_reply text = record { status = 0; out = text; err = [] }
 
 -- another status with a line for `err`
-abbrev pub refused : ℕ → List ℕ → Reply
-refused status line = record { status = status; out = []; err = line }
+abbrev pub refusal_reply : ℕ → List ℕ → Reply
+refusal_reply status line = record { status = status; out = []; err = line }
 
 abbrev pub no_file : List ℕ → Reply
-no_file word = refused 14 (no_file_line word)
+no_file word = refusal_reply 14 (no_file_line word)
 
 abbrev pub file_too_long : List ℕ → Reply
-file_too_long word = refused 14 (file_too_long_line word)
+file_too_long word = refusal_reply 14 (file_too_long_line word)
 
 abbrev pub not_built : Reply
-not_built = refused 12 not_built_line
+not_built = refusal_reply 12 not_built_line

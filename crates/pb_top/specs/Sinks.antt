@@ -2,7 +2,7 @@
 use Rattle.std.specs.Prelude.{◌≡◌, ℕ, ◌<◌, List, length, take, Option, Result, Ok, Err}
 use Rattle.pb_outside.specs.Count.{RoseBy}
 use Rattle.pb_outside.specs.Shelf.{Files}
-use Rattle.pb_outside.specs.Sink.{appended}
+use Rattle.pb_outside.specs.Sink.{told_with}
 use Rattle.pb_outside.specs.declared.sink.Refused.{Refused}
 
 -- a sink before and after a call: its bytes, where they are told, and its count of faults
@@ -12,12 +12,14 @@ pub record SinkChange : Type 0 where
   pub faults_before : ℕ
   pub faults_now : ℕ
 
--- a shelf before and after a call: its files, where they are told, and its count of faults
+-- a shelf before and after a call: its files, where they are told, and its counts of faults and of bytes
 pub record ShelfChange : Type 0 where
   pub before : Option Files
   pub now : Option Files
   pub faults_before : ℕ
   pub faults_now : ℕ
+  pub bytes_before : ℕ
+  pub bytes_now : ℕ
 
 -- the change of a sink whose type has these meanings
 abbrev pub sink_change : {S : Type 0} → (S → Option (List ℕ)) → (S → ℕ) → S → S → SinkChange
@@ -25,17 +27,32 @@ sink_change written faults old new =
     record { before = written old; now = written new; faults_before = faults old; faults_now = faults new }
 
 -- the change of a shelf whose type has these meanings
-abbrev pub shelf_change : {S : Type 0} → (S → Option Files) → (S → ℕ) → S → S → ShelfChange
-shelf_change files faults old new =
-    record { before = files old; now = files new; faults_before = faults old; faults_now = faults new }
+abbrev pub shelf_change : {S : Type 0} → (S → Option Files) → (S → ℕ) → (S → ℕ) → S → S → ShelfChange
+shelf_change files faults bytes old new = record {
+  before = files old;
+  now = files new;
+  faults_before = faults old;
+  faults_now = faults new;
+  bytes_before = bytes old;
+  bytes_now = bytes new;
+}
 
 -- the sink gained just this text
 abbrev pub Gains : List ℕ → SinkChange → Type 0
-Gains text sink = sink.now ≡ appended text sink.before
+Gains text sink = sink.now ≡ told_with text sink.before
 
 -- the sink gained nothing
 abbrev pub Stays : SinkChange → Type 0
 Stays sink = sink.now ≡ sink.before
+
+-- the sink met no fault
+abbrev pub IsSteady : SinkChange → Type 0
+IsSteady sink = sink.faults_now ≡ sink.faults_before
+
+-- nothing was put on the sink
+pub record IsIdle (sink : SinkChange) : Type 0 where
+  pub stays : Stays sink
+  pub steady : IsSteady sink
 
 -- a put of the text was refused: the sink gained what came before it
 pub record Breaks (text : List ℕ) (sink : SinkChange) : Type 0 where
@@ -46,5 +63,5 @@ pub record Breaks (text : List ℕ) (sink : SinkChange) : Type 0 where
 
 -- the whole text was put, or a put of it was refused
 abbrev pub PutsAll : List ℕ → Result (Unit {0}) Refused → SinkChange → Type 0
-PutsAll text (Ok done) sink = Gains text sink × (sink.faults_now ≡ sink.faults_before)
-PutsAll text (Err refused) sink = Breaks text sink
+PutsAll text (Ok all) sink = Gains text sink × IsSteady sink
+PutsAll text (Err e) sink = Breaks text sink

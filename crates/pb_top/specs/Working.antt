@@ -2,12 +2,12 @@
 use Rattle.std.specs.Prelude.{◌≡◌, ℕ, ◌<◌, List, [], ◌∷◌, map, length, Contains, IfSome, Ok, Err, Vec, ◌⊎◌, string_bytes}
 use Rattle.pb_outside.specs.Count.{RoseBy}
 use Rattle.std.specs.declared.alloc.Global.{Global}
-use Rattle.pb_top.specs.Sinks.{ShelfChange, SinkChange, Gains, Stays, Breaks}
+use Rattle.pb_top.specs.Sinks.{ShelfChange, SinkChange, Gains, IsSteady, IsIdle, Breaks}
 use Rattle.pb_top.specs.Texts.{read_fault_line}
-use Rattle.pb_top.specs.Reply.{Reply, done, refused, not_built}
+use Rattle.pb_top.specs.Reply.{Reply, done_reply, refusal_reply, not_built}
 use Rattle.pb_top.specs.OneRule.{RunsOneRule}
-use Rattle.pb_top.specs.Answer.{Answers, RunLine, RunAnswers, taken}
-use Rattle.pb_top.specs.Ends.{IsReadFault}
+use Rattle.pb_top.specs.Answer.{Answers, RunLine, RunAnswers, bytes_of_all}
+use Rattle.pb_top.specs.Ends.{IsSound, IsReadFault}
 use Rattle.pb_top.specs.declared.answer.Answer.{Answer}
 use Rattle.pb_top.specs.declared.answer.Answer.TheVariants.{Done, Refusal, ReadFault}
 use Rattle.pb_top.specs.declared.files.Fetched.{Fetched}
@@ -15,19 +15,15 @@ use Rattle.pb_top.specs.declared.files.Fetched.TheVariants.{Bytes, Other}
 use Rattle.pb_top.specs.declared.files.FetchedAll.{FetchedAll}
 use Rattle.pb_top.specs.declared.files.FetchedAll.TheVariants.{All, Stop}
 
--- the shelf met no fault
-abbrev pub IsSound : ShelfChange → Type 0
-IsSound shelf = shelf.faults_now ≡ shelf.faults_before
-
 -- a status that no fault has: neither Ok nor a failed read, a failed write or want of memory
 abbrev pub IsRefusal : ℕ → Type 0
 IsRefusal status = (0 < status) × ((status < 9) ⊎ (11 < status))
 
 -- the reply that an answer is
 abbrev pub reply_of : Answer → Reply
-reply_of (Done text) = done text.items
-reply_of (Refusal status line) = refused status (string_bytes line)
-reply_of (ReadFault line) = refused 9 (string_bytes line)
+reply_of (Done text) = done_reply text.items
+reply_of (Refusal status line) = refusal_reply status (string_bytes line)
+reply_of (ReadFault line) = refusal_reply 9 (string_bytes line)
 
 -- an answer that no fault makes
 abbrev pub IsPlain : Answer → Type 0
@@ -47,21 +43,21 @@ NamesFault names shelf line = (word : List ℕ) × RoseBy 1 shelf.faults_before 
 abbrev pub IsStop : List (List ℕ) → ShelfChange → Answer → Type 0
 IsStop names shelf (Done text) = ⊥
 IsStop names shelf (Refusal status line) =
-    IsSound shelf × IsRefusal status × IfSome shelf.before (λ files. taken files names ≡ Err (refused status (string_bytes line)))
+    IsSound shelf × IsRefusal status × IfSome shelf.before (λ files. bytes_of_all files names ≡ Err (refusal_reply status (string_bytes line)))
 IsStop names shelf (ReadFault line) = NamesFault names shelf (string_bytes line)
 
 -- the bytes of a file, or the answer in their place
 abbrev pub IsFetched : List ℕ → ShelfChange → Fetched → Type 0
-IsFetched name shelf (Bytes bytes) = IsSound shelf × IfSome shelf.before (λ files. taken files (name ∷ []) ≡ Ok (bytes.items ∷ []))
+IsFetched name shelf (Bytes bytes) = IsSound shelf × IfSome shelf.before (λ files. bytes_of_all files (name ∷ []) ≡ Ok (bytes.items ∷ []))
 IsFetched name shelf (Other (Done text)) = ⊥
 IsFetched name shelf (Other (Refusal status line)) =
-    IsSound shelf × IsRefusal status × IfSome shelf.before (λ files. taken files (name ∷ []) ≡ Err (refused status (string_bytes line)))
+    IsSound shelf × IsRefusal status × IfSome shelf.before (λ files. bytes_of_all files (name ∷ []) ≡ Err (refusal_reply status (string_bytes line)))
 IsFetched name shelf (Other (ReadFault line)) = RoseBy 1 shelf.faults_before shelf.faults_now × (string_bytes line ≡ read_fault_line name)
 
 -- the bytes of the files, or the answer in their place
 abbrev pub AreFetched : List (List ℕ) → ShelfChange → FetchedAll → Type 0
 AreFetched names shelf (All contents) =
-    (length contents.items ≡ length names) × IsSound shelf × IfSome shelf.before (λ files. taken files names ≡ Ok (contents_of contents.items))
+    (length contents.items ≡ length names) × IsSound shelf × IfSome shelf.before (λ files. bytes_of_all files names ≡ Ok (contents_of contents.items))
 AreFetched names shelf (Stop answer) = IsStop names shelf answer
 
 -- the answer to what isn't built
@@ -78,20 +74,15 @@ IsRun line contents answer = IsPlain answer × RunAnswers line contents (reply_o
 
 -- the answer to a command line, or the line of a file that couldn't be read
 abbrev pub IsAnswer : List (List ℕ) → ShelfChange → Answer → Type 0
-IsAnswer words shelf (Done text) = IsSound shelf × IfSome shelf.before (λ files. Answers words files (done text.items))
+IsAnswer words shelf (Done text) = IsSound shelf × IfSome shelf.before (λ files. Answers words files (done_reply text.items))
 IsAnswer words shelf (Refusal status line) =
-    IsSound shelf × IsRefusal status × IfSome shelf.before (λ files. Answers words files (refused status (string_bytes line)))
+    IsSound shelf × IsRefusal status × IfSome shelf.before (λ files. Answers words files (refusal_reply status (string_bytes line)))
 IsAnswer words shelf (ReadFault line) = IsReadFault words shelf (string_bytes line)
-
--- nothing was put on the sink
-pub record IsIdle (sink : SinkChange) : Type 0 where
-  pub stays : Stays sink
-  pub sound : sink.faults_now ≡ sink.faults_before
 
 -- the text went to one sink, whole or up to a put that was refused, and nothing to the other
 abbrev pub WritesTo : List ℕ → SinkChange → SinkChange → ℕ → ℕ → Type 0
 WritesTo text sink other good status =
-    ((status ≡ good) × Gains text sink × (sink.faults_now ≡ sink.faults_before) × IsIdle other)
+    ((status ≡ good) × Gains text sink × IsSteady sink × IsIdle other)
     ⊎ ((status ≡ 10) × Breaks text sink × IsIdle other)
 
 -- how an answer is written

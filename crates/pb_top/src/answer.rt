@@ -1,6 +1,6 @@
-ghost use Rattle.std.specs.Prelude.{◌≡◌, map, length, IfOk, string_bytes};
+ghost use Rattle.std.specs.Prelude.{◌≡◌, [], map, length, IfOk, string_bytes};
 ghost use Rattle.pb_top.specs.Sinks.{shelf_change};
-ghost use Rattle.pb_top.specs.Answer.{run_line};
+ghost use Rattle.pb_top.specs.Answer.{run_line, file_words};
 ghost use Rattle.pb_top.specs.Working.{IsAnswer, IsRun, IsRuleRun, IsNotBuilt, contents_of};
 
 use crate::files::{FetchedAll, fetch_all};
@@ -45,7 +45,8 @@ fn read_line(words: &[String]) -> Option<RunLine<'_>>
             if run.as_str() == "run"
                 && pool.as_str() == "--pool"
                 && serial.as_str() == "serial"
-                && none.as_str() == "-" => {
+                && none.as_str() == "-"
+                && !program.as_bytes().starts_with(b"--") => {
             Some(RunLine {
                 program: program.as_str(),
                 transform: transform.as_str(),
@@ -98,8 +99,9 @@ fn run(alloc: Global, line: &RunLine<'_>, contents: &[Vec<u8>]) -> Result<Answer
 
 /// The answer to a command line over the files of a shelf.
 pub fn work<S: Shelf>(alloc: Global, words: &[String], shelf: &mut S) -> Result<Answer, AllocError>
-    ensures answer { IfOk result (IsAnswer (map string_bytes words.now) (shelf_change S.files S.faults shelf.old shelf.new)) }
+    ensures answer { IfOk result (IsAnswer (map string_bytes words.now) (shelf_change S.files S.faults S.taken shelf.old shelf.new)) }
     ensures stays { S.files shelf.new ≡ S.files shelf.old }
+    ensures untaken { file_words (map string_bytes words.now) ≡ [] → S.taken shelf.new ≡ S.taken shelf.old }
 {
     let Some(line) = read_line(words) else {
         return not_built(alloc);

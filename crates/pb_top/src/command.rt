@@ -37,10 +37,10 @@ fn write_answer<O: Sink, E: Sink>(answer: &Answer, out: &mut O, err: &mut E) -> 
     }
 }
 
-#[tactic(auto, using(crate::proofs::EndLemmas::answer_ends, crate::proofs::EndLemmas::memory_ends))]
 /// Does a command that needs no thread, and answers its status: 0 with a text on `out`, another with a line
 /// on `err`, 9 and 10 for a file that couldn't be read and a sink that refused, 11 for want of memory. `words`
 /// are those after the program's name. It waits for nobody; None would ask for threads.
+#[tactic(auto, using(crate::proofs::EndLemmas::answer_ends, crate::proofs::EndLemmas::memory_ends))]
 pub fn pb_alone<S: Shelf, O: Sink, E: Sink>(
     alloc: Global,
     words: &[String],
@@ -49,7 +49,7 @@ pub fn pb_alone<S: Shelf, O: Sink, E: Sink>(
     err: &mut E,
 ) -> Option<u8>
     ensures some { IsSome result }
-    ensures ends { IfSome result (Ends (map string_bytes words.now) (shelf_change S.files S.faults shelf.old shelf.new)
+    ensures ends { IfSome result (Ends (map string_bytes words.now) (shelf_change S.files S.faults S.taken shelf.old shelf.new)
         (sink_change O.written O.faults out.old out.new) (sink_change E.written E.faults err.old err.new)) }
 {
     match work(alloc, words, shelf) {
@@ -68,7 +68,7 @@ pub fn pb_command<R: Threads + Wait + Sync, S: Shelf, O: Sink, E: Sink>(
     out: &mut O,
     err: &mut E,
 ) -> u8
-    ensures { Ends (map string_bytes words.now) (shelf_change S.files S.faults shelf.old shelf.new)
+    ensures ends { Ends (map string_bytes words.now) (shelf_change S.files S.faults S.taken shelf.old shelf.new)
         (sink_change O.written O.faults out.old out.new) (sink_change E.written E.faults err.old err.new) result }
 {
     pb_alone(alloc, words, shelf, out, err).unwrap()

@@ -23,7 +23,7 @@ pub enum FetchedAll {
 
 // Takes a file of the command.
 fn fetch<S: Shelf>(alloc: Global, shelf: &mut S, name: &str) -> Result<Fetched, AllocError>
-    ensures fetched { IfOk result (IsFetched name.now (shelf_change S.files S.faults shelf.old shelf.new)) }
+    ensures fetched { IfOk result (IsFetched name.now (shelf_change S.files S.faults S.taken shelf.old shelf.new)) }
     ensures stays { S.files shelf.new ≡ S.files shelf.old }
 {
     match shelf.take(alloc, name, FILE_LIMIT)? {
@@ -49,7 +49,7 @@ pub fn fetch_all<S: Shelf>(
     shelf: &mut S,
     names: &[&str],
 ) -> Result<FetchedAll, AllocError>
-    ensures fetched { IfOk result (AreFetched (texts_of names.now) (shelf_change S.files S.faults shelf.old shelf.new)) }
+    ensures fetched { IfOk result (AreFetched (texts_of names.now) (shelf_change S.files S.faults S.taken shelf.old shelf.new)) }
     ensures stays { S.files shelf.new ≡ S.files shelf.old }
 {
     let mut contents = Vec::new(alloc);

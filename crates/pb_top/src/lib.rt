@@ -8,9 +8,11 @@
 mod answer;
 mod command;
 mod files;
+mod laws;
 mod one_rule;
 mod program;
 mod put;
 mod tokens;
 
 pub use command::{pb_alone, pb_command};
+pub use laws::one_reply;

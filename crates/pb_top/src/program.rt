@@ -3,8 +3,8 @@ ghost use Rattle.std.specs.List.{list_all};
 ghost use Rattle.pb_top.specs.Tokens.{tokens_of, texts_of, continues_name as continues};
 ghost use Rattle.std.specs.Str.{bytes_eq};
 ghost use Rattle.std.specs.Cmp.Lexicographic.{pointwise};
-ghost use Rattle.pb_top.specs.Found.{FindsRule};
-ghost use Rattle.pb_top.specs.Program.{head_of, tail_tokens, FindsSigns, IsFramed, is_name as spells_name, is_among, is_free_name as free_name, reserved, named_at, all_different as differ, listed, are_free as free, sign_token, terms_of, AreTerms, IsOneRule};
+ghost use Rattle.pb_top.specs.Found.{FindsRule, FindsSigns, IsFramed, named_at, AreTerms};
+ghost use Rattle.pb_top.specs.Program.{head_of, tail_tokens, is_name as spells_name, is_among, is_free_name as free_name, reserved, all_different as differ, name_list, are_free as free, sign_token, terms_of, IsOneRule};
 
 use crate::tokens::{begins_name, continues_name, tokens};
 use std::alloc::{AllocError, Global};

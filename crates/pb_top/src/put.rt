@@ -3,7 +3,7 @@ ghost use Rattle.pb_top.specs.Sinks.{sink_change, PutsAll};
 
 use pb_outside::{Refused, Sink};
 
-/// Puts a text whole, piece by piece; after a put that is refused no further put is made.
+/// Puts a text whole, piece by piece, up to a put that is refused.
 #[tactic(auto, using(crate::proofs::SinkLemmas::gains_more, crate::proofs::SinkLemmas::gains_nothing))]
 pub fn put_all<S: Sink>(sink: &mut S, text: &[u8]) -> Result<(), Refused>
     ensures { PutsAll text.now result (sink_change S.written S.faults sink.old sink.new) }

@@ -1,11 +1,11 @@
 ghost use Rattle.std.specs.Prelude.{◌≡◌, ℕ, ◌<◌, ◌≤◌, ◌∷◌, IsTrue, not, length, take, drop, slice_index, IfOk, map};
-ghost use Rattle.pb_top.specs.Tokens.{is_blank as blank, begins_name as begins, continues_name as continues, tokens_of, texts_of};
+ghost use Rattle.pb_top.specs.Tokens.{is_space as space, begins_name as begins, continues_name as continues, tokens_of, texts_of};
 
 use std::alloc::{AllocError, Global};
 
 /// Space, tab, CR or LF.
-fn is_blank(byte: u8) -> bool
-    ensures { result ≡ blank byte }
+fn is_space(byte: u8) -> bool
+    ensures { result ≡ space byte }
 {
     byte == b' ' || byte == b'\t' || byte == b'\r' || byte == b'\n'
 }
@@ -28,7 +28,7 @@ pub fn continues_name(byte: u8) -> bool
 #[tactic(auto, using(crate::proofs::TokenLemmas::tokens_single, crate::proofs::TokenLemmas::name_split))]
 fn token_len(text: &[u8]) -> usize
     requires some { 0 < length text.now }
-    requires token { IsTrue (not (blank (slice_index text.now 0))) }
+    requires token { IsTrue (not (space (slice_index text.now 0))) }
     ensures within { (0 < result) × (result ≤ length text.now) }
     ensures split { tokens_of text.now ≡ take result text.now ∷ tokens_of (drop result text.now) }
 {
@@ -50,7 +50,7 @@ pub fn tokens(alloc: Global, text: &[u8]) -> Result<Vec<&[u8]>, AllocError>
     let mut tokens = Vec::new(alloc);
     let mut rest = text;
     'tokens: while !rest.is_empty() {
-        if is_blank(rest[0]) {
+        if is_space(rest[0]) {
             rest = &rest[1..];
         } else {
             let len = token_len(rest);

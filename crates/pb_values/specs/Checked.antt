@@ -8,5 +8,5 @@ fits_i64 (pos n) = nat_lt n (2 ^ 63)
 fits_i64 (negsuc n) = nat_lt n (2 ^ 63)
 
 -- a whole number as a cell's number, or the overflow of the operation that made it
-abbrev pub checked : ℤ → Result ℤ Kind
-checked z = if fits_i64 z then Ok z else Err Overflow
+abbrev pub checked_result : ℤ → Result ℤ Kind
+checked_result z = if fits_i64 z then Ok z else Err Overflow

@@ -2,7 +2,8 @@ use Rattle.std.proofs.Common.{List, ℕ, refl, sym, ap, subst, ◌∙◌, arith}
 use Rattle.std.specs.Borrow.{Bor}
 use Rattle.std.proofs.lemmas.List.{length-map}
 use Rattle.pb_top.specs.Tokens.{texts_of}
-use Rattle.pb_top.specs.Program.{Names, IsFramed, FindsSigns, terms_of}
+use Rattle.pb_top.specs.Program.{Names, terms_of}
+use Rattle.pb_top.specs.Found.{IsFramed, FindsSigns}
 use Rattle.pb_top.proofs.ProgramLemmas.{false_true}
 use Rattle.pb_top.proofs.FrameLemmas.{tokens_framed, term_slices, middle_texts, rule_spelled}
 use Rattle.pb_top.proofs.program.read_rule.Goals as goal

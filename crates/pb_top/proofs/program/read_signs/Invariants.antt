@@ -1,6 +1,7 @@
 use Rattle.std.proofs.Common.{◌≡◌, ◌++◌, length}
 use Rattle.pb_top.specs.Tokens.{texts_of}
-use Rattle.pb_top.specs.Program.{terms_of, AreTerms}
+use Rattle.pb_top.specs.Program.{terms_of}
+use Rattle.pb_top.specs.Found.{AreTerms}
 use Rattle.pb_top.proofs.program.read_signs.Given as goal
 
 abbrev pub invariant-terms : goal.invariant-terms
