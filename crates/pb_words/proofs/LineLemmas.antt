@@ -32,7 +32,7 @@ line_found words n command behind s others ask split counted e asks =
       spelled = found.spelled;
       given = found.given;
       ended = found.ended;
-      asks = asks_found command s others ask asks;
+      asks = asks_found s ask command others asks;
       placed = place_is n (length behind) (length others) (length found.option_words) (counted ∙ ap length split)
           (ap length found.parts ∙ length-append found.option_words others);
     }

@@ -10,19 +10,16 @@ use Rattle.pb_words.specs.Options.{SpellOptions, no_settings, all_added}
 
 -- what a command asks for with its options over its other words
 pub data Asks : List ℕ → Settings → List (List ℕ) → Ask → Type 0 where
-  check : {command program : List ℕ} {s : Settings} → command ≡ codes "check" → s ≡ no_settings
-      → Asks command s (program ∷ []) Check
-  choices : {command program : List ℕ} {s : Settings} → command ≡ codes "choices" → s ≡ no_settings
-      → Asks command s (program ∷ []) Choices
-  run : {command program config transform : List ℕ} {inputs : List (List ℕ)} {s : Settings} → command ≡ codes "run"
-      → s.up_to ≡ None → length inputs ≤ 16
-      → Asks command s (program ∷ config ∷ transform ∷ inputs)
+  check : {program : List ℕ} {s : Settings} → s ≡ no_settings → Asks (codes "check") s (program ∷ []) Check
+  choices : {program : List ℕ} {s : Settings} → s ≡ no_settings → Asks (codes "choices") s (program ∷ []) Choices
+  run : {program config transform : List ℕ} {inputs : List (List ℕ)} {s : Settings} → s.up_to ≡ None → length inputs ≤ 16
+      → Asks (codes "run") s (program ∷ config ∷ transform ∷ inputs)
       (Run (unwrap_or s.workers 1) (unwrap_or s.depth 64) (unwrap_or s.grain 64) (unwrap_or s.pool Steal) s.trace)
-  tune : {command program transform : List ℕ} {s : Settings} → command ≡ codes "tune" → record s { up_to = None } ≡ no_settings
-      → Asks command s (program ∷ transform ∷ []) (Tune (unwrap_or s.up_to 64))
-  demo : {command first second third : List ℕ} {seed size workers : ℕ} {s : Settings} → command ≡ codes "demo" → s ≡ no_settings
+  tune : {program transform : List ℕ} {s : Settings} → record s { up_to = None } ≡ no_settings
+      → Asks (codes "tune") s (program ∷ transform ∷ []) (Tune (unwrap_or s.up_to 64))
+  demo : {first second third : List ℕ} {seed size workers : ℕ} {s : Settings} → s ≡ no_settings
       → number_within 0 4294967295 first ≡ Some seed → number_within 1 256 second ≡ Some size → number_within 1 64 third ≡ Some workers
-      → Asks command s (first ∷ second ∷ third ∷ []) (Demo seed size workers)
+      → Asks (codes "demo") s (first ∷ second ∷ third ∷ []) (Demo seed size workers)
 
 -- the options end: no word stands in an option's place, or one that isn't an option
 abbrev pub Ends : List (List ℕ) → Type 0

@@ -1,28 +1,25 @@
 -- The options of a line: how words spell them, and what they give together.
-use Rattle.std.specs.Prelude.{◌≡◌, ℕ, Bool, false, true, not, ◌&&◌, List, [], ◌∷◌, Option, Some, None, is_none, option_map, option_and_then, codes, bytes_eq, if◌then◌else◌}
+use Rattle.std.specs.Prelude.{◌≡◌, ℕ, Bool, false, true, not, ◌&&◌, List, [], ◌∷◌, ◌++◌, Option, Some, None, is_none, option_and_then, codes, if◌then◌else◌}
+use Rattle.pb_words.specs.declared.ask.Pool.{Pool}
 use Rattle.pb_words.specs.declared.options.Setting.{Setting}
 use Rattle.pb_words.specs.declared.options.Setting.TheVariants.{Workers, Depth, Grain, OnPool, Trace, UpTo}
 use Rattle.pb_words.specs.declared.options.Settings.{Settings}
 use Rattle.pb_words.specs.Values.{number_within, pool_named}
 
--- the option that a name and its value spell
-abbrev pub valued_option : List ℕ → List ℕ → Option Setting
-valued_option name value =
-    if bytes_eq name (codes "--workers") then option_map Workers (number_within 1 64 value)
-    else (if bytes_eq name (codes "--depth") then option_map Depth (number_within 0 64 value)
-    else (if bytes_eq name (codes "--grain") then option_map Grain (number_within 1 1048576 value)
-    else (if bytes_eq name (codes "--pool") then option_map OnPool (pool_named value)
-    else (if bytes_eq name (codes "--up-to") then option_map UpTo (number_within 1 1048576 value) else None))))
+-- the words of an option: its name and its value, or its name alone
+pub data SpellOption : List (List ℕ) → Setting → Type 0 where
+  workers_option : {value : List ℕ} {n : ℕ} → number_within 1 64 value ≡ Some n → SpellOption (codes "--workers" ∷ value ∷ []) (Workers n)
+  depth_option : {value : List ℕ} {n : ℕ} → number_within 0 64 value ≡ Some n → SpellOption (codes "--depth" ∷ value ∷ []) (Depth n)
+  grain_option : {value : List ℕ} {n : ℕ} → number_within 1 1048576 value ≡ Some n → SpellOption (codes "--grain" ∷ value ∷ []) (Grain n)
+  pool_option : {value : List ℕ} {p : Pool} → pool_named value ≡ Some p → SpellOption (codes "--pool" ∷ value ∷ []) (OnPool p)
+  trace_option : SpellOption (codes "--trace" ∷ []) Trace
+  up_to_option : {value : List ℕ} {n : ℕ} → number_within 1 1048576 value ≡ Some n → SpellOption (codes "--up-to" ∷ value ∷ []) (UpTo n)
 
--- just the words of these options: a name and its value, or `--trace` alone
+-- just the words of these options, one behind the other
 pub data SpellOptions : List (List ℕ) → List Setting → Type 0 where
   none : SpellOptions [] []
-  valued : {name value : List ℕ} {rest : List (List ℕ)} {option : Setting} {options : List Setting}
-      → valued_option name value ≡ Some option
-      → SpellOptions rest options → SpellOptions (name ∷ value ∷ rest) (option ∷ options)
-  bare : {name : List ℕ} {rest : List (List ℕ)} {options : List Setting}
-      → name ≡ codes "--trace"
-      → SpellOptions rest options → SpellOptions (name ∷ rest) (Trace ∷ options)
+  one_more : {words rest : List (List ℕ)} {option : Setting} {options : List Setting}
+      → SpellOption words option → SpellOptions rest options → SpellOptions (words ++ rest) (option ∷ options)
 
 abbrev pub no_settings : Settings
 no_settings = record { workers = None; depth = None; grain = None; pool = None; trace = false; up_to = None }

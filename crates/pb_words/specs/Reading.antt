@@ -1,12 +1,22 @@
 -- What the reader finds, word by word.
-use Rattle.std.specs.Prelude.{ℕ, ◌&&◌, List, [], ◌∷◌, length, Option, Some, None, is_none, unwrap_or, option_and_then, nat_le, codes, bytes_eq, if◌then◌else◌}
+use Rattle.std.specs.Prelude.{ℕ, ◌&&◌, List, [], ◌∷◌, length, Option, Some, None, is_none, unwrap_or, option_and_then, option_map, nat_le, codes, bytes_eq, if◌then◌else◌}
 use Rattle.pb_words.specs.declared.ask.Ask.{Ask}
 use Rattle.pb_words.specs.declared.ask.Ask.TheVariants.{Check, Choices, Run, Tune, Demo}
 use Rattle.pb_words.specs.declared.ask.Pool.TheVariants.{Steal}
-use Rattle.pb_words.specs.declared.options.Setting.TheVariants.{Trace}
+use Rattle.pb_words.specs.declared.options.Setting.{Setting}
+use Rattle.pb_words.specs.declared.options.Setting.TheVariants.{Workers, Depth, Grain, OnPool, Trace, UpTo}
 use Rattle.pb_words.specs.declared.options.Settings.{Settings}
-use Rattle.pb_words.specs.Values.{is_option, number_within}
-use Rattle.pb_words.specs.Options.{valued_option, added, is_empty}
+use Rattle.pb_words.specs.Values.{is_option, number_within, pool_named}
+use Rattle.pb_words.specs.Options.{added, is_empty}
+
+-- the option that a name and its value spell
+abbrev pub valued_option : List ℕ → List ℕ → Option Setting
+valued_option name value =
+    if bytes_eq name (codes "--workers") then option_map Workers (number_within 1 64 value)
+    else (if bytes_eq name (codes "--depth") then option_map Depth (number_within 0 64 value)
+    else (if bytes_eq name (codes "--grain") then option_map Grain (number_within 1 1048576 value)
+    else (if bytes_eq name (codes "--pool") then option_map OnPool (pool_named value)
+    else (if bytes_eq name (codes "--up-to") then option_map UpTo (number_within 1 1048576 value) else None))))
 
 -- the options at the front, put to those that are given, and the words behind them; a name may wait for its value
 abbrev pub options_read : Settings → Option (List ℕ) → List (List ℕ) → Option (Settings × List (List ℕ))

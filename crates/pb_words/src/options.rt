@@ -1,6 +1,6 @@
 ghost use Rattle.std.specs.Prelude.{◌≡◌, map, None, Some, MatchOption, string_bytes, option_and_then};
-ghost use Rattle.pb_words.specs.Options.{valued_option, added, no_settings};
-ghost use Rattle.pb_words.specs.Reading.{options_read};
+ghost use Rattle.pb_words.specs.Options.{no_settings};
+ghost use Rattle.pb_words.specs.Reading.{options_read, valued_option};
 
 use crate::ask::Pool;
 use crate::values::{is_option, read_number, read_pool};
