@@ -1,0 +1,4 @@
+pub mod AskLemmas
+pub mod LineLemmas
+pub mod NumberLemmas
+pub mod OptionLemmas

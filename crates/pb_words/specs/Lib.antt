@@ -1,0 +1,5 @@
+pub mod Files
+pub mod Line
+pub mod Options
+pub mod Reading
+pub mod Values
