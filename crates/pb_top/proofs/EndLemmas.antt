@@ -4,7 +4,7 @@ use Rattle.pb_outside.specs.Shelf.{Files}
 use Rattle.pb_outside.specs.Sink.{told_with}
 use Rattle.pb_top.specs.Sinks.{ShelfChange, SinkChange, Gains, Stays, IsIdle}
 use Rattle.pb_top.specs.Reply.{Reply, done_reply, refusal_reply}
-use Rattle.pb_top.specs.Answer.{Answers, file_words}
+use Rattle.pb_top.specs.Answer.{Answers, IsInside, file_words}
 use Rattle.pb_top.specs.Ends.{IsSound, IsReadFault, IsAnswered, IsAnswerStatus, AreSteady, OutBreaks, ErrBreaks, Ends}
 use Rattle.pb_top.specs.Working.{IsRefusal, WritesTo, IsAnswer, IsWritten}
 use Rattle.pb_top.specs.declared.answer.Answer.{Answer}
@@ -24,7 +24,7 @@ gains_none sink stays = stays ∙ no_bytes sink.before
 -- what every end of a call keeps of the shelf
 pub record Keeps (words : List (List ℕ)) (shelf : ShelfChange) : Type 0 where
   pub files : shelf.now ≡ shelf.before
-  pub untaken : file_words words ≡ [] → shelf.bytes_now ≡ shelf.bytes_before
+  pub untaken : (IsInside words → file_words words ≡ []) → shelf.bytes_now ≡ shelf.bytes_before
 
 -- the text of an answer was put whole
 answered_ends : (words : List (List ℕ)) (shelf : ShelfChange) (out err : SinkChange) (status : ℕ) → Keeps words shelf → IsAnswerStatus status → IsSound shelf → AreSteady out err

@@ -1,9 +1,11 @@
 -- What the words of a command line and the files of a shelf have for an answer.
-use Rattle.std.specs.Prelude.{◌≡◌, ℕ, nat_le, ◌&&◌, List, [], ◌∷◌, ◌++◌, length, Option, Some, None, Result, Ok, Err, codes, bytes_eq, not, nat_eq, if◌then◌else◌}
+use Rattle.std.specs.Prelude.{◌≡◌, ℕ, nat_le, ◌&&◌, List, [], ◌∷◌, ◌++◌, length, Option, Some, None, Result, Ok, Err, codes, bytes_eq, ◌⊎◌, not, nat_eq, if◌then◌else◌}
 use Rattle.std.specs.List.{starts_with}
 use Rattle.pb_outside.specs.Shelf.{Files, content_of}
 use Rattle.pb_outside.specs.declared.shelf.TheConstants.{FILE_LIMIT}
-use Rattle.pb_top.specs.Reply.{Reply, no_file, file_too_long, not_built}
+use Rattle.pb_words.specs.Line.{Line}
+use Rattle.pb_words.specs.declared.ask.Ask.{Ask}
+use Rattle.pb_top.specs.Reply.{Reply, no_file, file_too_long, not_built, usage}
 use Rattle.pb_top.specs.OneRule.{RunsOneRule}
 
 -- the words of a run on one thread without a configuration
@@ -45,7 +47,7 @@ bytes_of_all files (name ∷ names) = bytes_then name (content_of files name) (b
 
 -- the answer over the bytes of the command's files
 abbrev pub RunAnswers : RunLine → List (List ℕ) → Reply → Type 0
-RunAnswers line (program ∷ input ∷ []) reply = RunsOneRule program line.transform input reply
+RunAnswers line (program ∷ input ∷ []) reply = RunsOneRule program line.transform line.input input reply
 RunAnswers line contents reply = ⊥
 
 -- all files are taken before any is looked at
@@ -53,10 +55,16 @@ abbrev pub Follows : RunLine → Result (List (List ℕ)) Reply → Reply → Ty
 Follows line (Ok contents) reply = RunAnswers line contents reply
 Follows line (Err stop) reply = reply ≡ stop
 
+-- the answer to a command line; but for the run on one thread none is built
 abbrev pub LineAnswers : Option RunLine → Files → Reply → Type 0
 LineAnswers (Some line) files reply = Follows line (bytes_of_all files (line_files (Some line))) reply
 LineAnswers None files reply = reply ≡ not_built
 
--- the answer to a command line, over the files of the shelf
+-- the words are in the grammar
+abbrev pub IsInside : List (List ℕ) → Type 0
+IsInside words = (ask : Ask) × (place : ℕ) × Line words ask place
+
+-- the answer to words, over the files of the shelf
 abbrev pub Answers : List (List ℕ) → Files → Reply → Type 0
-Answers words files reply = LineAnswers (run_line words) files reply
+Answers words files reply =
+    (IsInside words × LineAnswers (run_line words) files reply) ⊎ ((IsInside words → ⊥) × (reply ≡ usage))

@@ -5,14 +5,15 @@ use Rattle.pb_outside.specs.Shelf.{Files}
 use Rattle.pb_top.specs.Sinks.{SinkChange, ShelfChange, Gains, Stays, IsSteady, IsIdle, Breaks}
 use Rattle.pb_top.specs.Texts.{read_fault_line}
 use Rattle.pb_top.specs.Reply.{Reply}
-use Rattle.pb_top.specs.Answer.{Answers, file_words}
+use Rattle.pb_top.specs.Answer.{Answers, IsInside, file_words}
 
 -- the shelf met no fault
 abbrev pub IsSound : ShelfChange → Type 0
 IsSound shelf = shelf.faults_now ≡ shelf.faults_before
 
--- the line that names a file word, where the shelf's faults rose
+-- the line that names a file word of a command line, where the shelf's faults rose
 pub record IsReadFault (words : List (List ℕ)) (shelf : ShelfChange) (line : List ℕ) : Type 0 where
+  pub inside : IsInside words
   pub cause : RoseBy 1 shelf.faults_before shelf.faults_now
   pub word : List ℕ
   pub of_line : Contains (file_words words) word
@@ -74,7 +75,7 @@ pub record Ends (words : List (List ℕ)) (shelf : ShelfChange) (out err : SinkC
   pub memory : status ≡ 11 → Stays out × Stays err
   -- the files are as they were, and words that name none take none
   pub files : shelf.now ≡ shelf.before
-  pub untaken : file_words words ≡ [] → shelf.bytes_now ≡ shelf.bytes_before
+  pub untaken : (IsInside words → file_words words ≡ []) → shelf.bytes_now ≡ shelf.bytes_before
   -- whatever is told: what no device's fault explains has none, and only the sink that the status says gains something
   pub sound : IsAnswerStatus status → IsSound shelf
   pub steady : status ≢ 10 → AreSteady out err

@@ -4,8 +4,11 @@ use Rattle.pb_outside.specs.Count.{RoseBy}
 use Rattle.std.specs.declared.alloc.Global.{Global}
 use Rattle.pb_top.specs.Sinks.{ShelfChange, SinkChange, Gains, IsSteady, IsIdle, Breaks}
 use Rattle.pb_top.specs.Texts.{read_fault_line}
-use Rattle.pb_top.specs.Reply.{Reply, done_reply, refusal_reply, not_built}
-use Rattle.pb_top.specs.OneRule.{RunsOneRule}
+use Rattle.pb_top.specs.Reply.{Reply, IsFaultyInput, done_reply, refusal_reply, not_built, usage}
+use Rattle.pb_top.specs.OneRule.{InputAnswers, RunsOneRule}
+use Rattle.pb_matrix.specs.Reading.{matrix_read}
+use Rattle.pb_matrix.specs.declared.matrix.MatrixRefusal.{MatrixRefusal}
+use Rattle.pb_top.specs.declared.program.Sign.{Sign}
 use Rattle.pb_top.specs.Answer.{Answers, RunLine, RunAnswers, bytes_of_all}
 use Rattle.pb_top.specs.Ends.{IsSound, IsReadFault}
 use Rattle.pb_top.specs.declared.answer.Answer.{Answer}
@@ -64,9 +67,21 @@ AreFetched names shelf (Stop answer) = IsStop names shelf answer
 abbrev pub IsNotBuilt : Answer → Type 0
 IsNotBuilt answer = IsPlain answer × (reply_of answer ≡ not_built)
 
+-- the answer to an input that is no matrix
+abbrev pub IsFaultyRun : List ℕ → MatrixRefusal → Answer → Type 0
+IsFaultyRun file refusal answer = IsPlain answer × IsFaultyInput file refusal (reply_of answer)
+
+-- the answer to an input, over the signs of a program of one rule
+abbrev pub IsInputRun : List Sign → List ℕ → List ℕ → Answer → Type 0
+IsInputRun signs file input answer = IsPlain answer × InputAnswers signs file (matrix_read input) (reply_of answer)
+
 -- the answer to a program of one rule
-abbrev pub IsRuleRun : List ℕ → List ℕ → List ℕ → Answer → Type 0
-IsRuleRun program word input answer = IsPlain answer × RunsOneRule program word input (reply_of answer)
+abbrev pub IsRuleRun : List ℕ → List ℕ → List ℕ → List ℕ → Answer → Type 0
+IsRuleRun program word file input answer = IsPlain answer × RunsOneRule program word file input (reply_of answer)
+
+-- the answer to words that are no command line
+abbrev pub IsUsage : Answer → Type 0
+IsUsage answer = IsPlain answer × (reply_of answer ≡ usage)
 
 -- the answer to a line over the bytes of its files
 abbrev pub IsRun : RunLine → List (List ℕ) → Answer → Type 0

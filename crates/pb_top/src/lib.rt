@@ -9,9 +9,11 @@ mod answer;
 mod command;
 mod files;
 mod laws;
+mod line;
 mod one_rule;
 mod program;
 mod put;
+mod run;
 mod tokens;
 
 pub use command::{pb_alone, pb_command};

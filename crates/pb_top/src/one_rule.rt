@@ -1,10 +1,10 @@
 ghost use Rattle.std.specs.Prelude.{◌≡◌, ◌*◌, ◌↔◌, length, IsTrue, IfOk, Ok};
 ghost use Rattle.pb_top.specs.OneRule.{with_term, sum_at, IsRow};
-ghost use Rattle.pb_top.specs.Sums.{FindsSums, FindsSumsText, FindsText};
+ghost use Rattle.pb_top.specs.Sums.{FindsSums, FindsSumsText};
 ghost use Rattle.pb_matrix.specs.Header.{IsMatrixShape};
 
-use crate::program::{Sign, is_same, read_program};
-use pb_matrix::{Matrix, MatrixRefusal, read_matrix, write_matrix};
+use crate::program::Sign;
+use pb_matrix::{Matrix, write_matrix};
 use pb_values::{Kind, add, sub};
 use std::alloc::{AllocError, Global};
 
@@ -49,18 +49,6 @@ fn sums_of(alloc: Global, signs: &[Sign], cells: &[i64]) -> Result<Option<Vec<i6
     Ok(Some(sums))
 }
 
-// The text of the matrix of the cells' sums; None where one of them overflows.
-fn sums_text(alloc: Global, signs: &[Sign], matrix: &Matrix) -> Result<Option<Vec<u8>>, AllocError>
-    requires shape { IsMatrixShape matrix.now.shape }
-    requires count { length matrix.now.cells ≡ matrix.now.shape.w * matrix.now.shape.h }
-    ensures { IfOk result (λ found. FindsSumsText signs.now matrix.now found) }
-{
-    match sums_of(alloc, signs, &matrix.cells)? {
-        Some(sums) => Ok(Some(write_matrix(alloc, &matrix.shape, &sums)?)),
-        None => Ok(None),
-    }
-}
-
 // One dimension of 1 to 1,048,576 cells.
 fn is_row(matrix: &Matrix) -> bool
     ensures { IsTrue result ↔ IsRow matrix.now.shape }
@@ -69,29 +57,21 @@ fn is_row(matrix: &Matrix) -> bool
     shape.dims == 1 && 1 <= shape.w && shape.w <= MOST_CELLS
 }
 
-/// The text that a program of one rule writes over an input; None where the program, its transform's name or
-/// the input isn't of the form, or a sum overflows.
-pub fn run_one_rule(
+/// The text of the matrix of the cells' sums; None where the matrix isn't a row, or a sum overflows.
+pub fn sums_text(
     alloc: Global,
-    program: &[u8],
-    word: &[u8],
-    input: &[u8],
+    signs: &[Sign],
+    matrix: &Matrix,
 ) -> Result<Option<Vec<u8>>, AllocError>
-    ensures { IfOk result (λ found. FindsText program.now word.now input.now found) }
+    requires shape { IsMatrixShape matrix.now.shape }
+    requires count { length matrix.now.cells ≡ matrix.now.shape.w * matrix.now.shape.h }
+    ensures { IfOk result (λ found. FindsSumsText signs.now matrix.now found) }
 {
-    let Some(rule) = read_program(alloc, program)? else {
-        return Ok(None);
-    };
-    if !is_same(rule.transform, word) {
+    if !is_row(matrix) {
         return Ok(None);
     }
-    let matrix = match read_matrix(alloc, input) {
-        Ok(matrix) => matrix,
-        Err(MatrixRefusal::Memory) => return Err(AllocError),
-        Err(_) => return Ok(None),
-    };
-    if !is_row(&matrix) {
-        return Ok(None);
+    match sums_of(alloc, signs, &matrix.cells)? {
+        Some(sums) => Ok(Some(write_matrix(alloc, &matrix.shape, &sums)?)),
+        None => Ok(None),
     }
-    sums_text(alloc, &rule.signs, &matrix)
 }
