@@ -94,7 +94,11 @@ fn unbuilt_rows() -> [Row; 11] {
         ),
         unbuilt(WORDS, &[("p", DOUBLE), ("a", "matrix 2 1\n1 2\n")]),
         unbuilt(WORDS, &[("p", DOUBLE), ("a", "matrix 0\n")]),
-        unbuilt(WORDS, &[("p", DOUBLE), ("a", "no matrix\n")]),
+        // A program that isn't of the form comes before an input that is no matrix.
+        unbuilt(
+            "run --pool serial p - Triple a",
+            &[("p", DOUBLE), ("a", "no matrix\n")],
+        ),
         unbuilt("run --pool serial p - Triple a", &[("p", DOUBLE), INPUT]),
         // A comment, a keyword as a name, a function as a name, a name that stands twice, and nothing.
         unbuilt(
@@ -144,36 +148,6 @@ fn unbuilt_rows() -> [Row; 11] {
 #[test]
 fn what_is_not_built_is_named(rt: HostRuntime) -> Result<(), Fail> {
     for row in unbuilt_rows() {
-        holds(&rt, rt.alloc(), &row)?;
-    }
-    Ok(())
-}
-
-// The first take would fail, so no file is taken.
-fn other_words(words: &'static str) -> Row {
-    Row {
-        words,
-        files: &[],
-        failing_takes: &[0],
-        failing_puts: &[],
-        most: 4096,
-        status: 12,
-        out: "",
-        err: "N1 NotBuilt\n",
-    }
-}
-
-#[test]
-fn other_words_take_no_file(rt: HostRuntime) -> Result<(), Fail> {
-    let rows = [
-        other_words(""),
-        other_words("check p"),
-        other_words("run --pool locked p - Double a"),
-        other_words("run --pool serial p c Double a"),
-        other_words("run --pool serial --trace - Double a"),
-        other_words("run --pool serial p - Double a a"),
-    ];
-    for row in rows {
         holds(&rt, rt.alloc(), &row)?;
     }
     Ok(())

@@ -8,3 +8,5 @@ mod devices;
 mod first_path;
 #[cfg(test)]
 mod run;
+#[cfg(test)]
+mod words;

@@ -1,0 +1,105 @@
+use crate::first_path::DOUBLE;
+use crate::run::{Row, holds};
+use std::test::Fail;
+
+const USAGE: &str = "usage: pb check PROGRAM
+       pb choices PROGRAM
+       pb run [--workers N] [--depth D] [--grain G] [--pool serial|locked|steal] [--trace] PROGRAM CONFIG TRANSFORM INPUT..
+       pb tune [--up-to S] PROGRAM TRANSFORM
+       pb demo SEED SIZE WORKERS
+";
+
+// The first take would fail, so no file is taken.
+fn without_files(words: &'static str, status: u8, err: &'static str) -> Row {
+    Row {
+        words,
+        files: &[],
+        failing_takes: &[0],
+        failing_puts: &[],
+        most: 4096,
+        status,
+        out: "",
+        err,
+    }
+}
+
+fn outside_rows() -> [Row; 5] {
+    [
+        without_files("", 2, USAGE),
+        without_files("--help", 2, USAGE),
+        without_files("run --workers 0 double.pb - Double a", 2, USAGE),
+        without_files("run --pool serial --pool - Double a", 2, USAGE),
+        without_files("demo 1 257 4", 2, USAGE),
+    ]
+}
+
+#[test]
+fn words_outside_the_grammar_get_the_usage(rt: HostRuntime) -> Result<(), Fail> {
+    for row in outside_rows() {
+        holds(&rt, rt.alloc(), &row)?;
+    }
+    Ok(())
+}
+
+fn unbuilt_rows() -> [Row; 6] {
+    let line = "N1 NotBuilt\n";
+    [
+        without_files("check p", 12, line),
+        without_files("demo 1 96 4", 12, line),
+        without_files("run --pool locked p - Double a", 12, line),
+        without_files("run --pool serial p c Double a", 12, line),
+        without_files("run --pool serial p - Double a a", 12, line),
+        // `--trace` stands in an option's place: the program is `-`.
+        without_files("run --pool serial --trace - Double a", 12, line),
+    ]
+}
+
+#[test]
+fn other_command_lines_take_no_file(rt: HostRuntime) -> Result<(), Fail> {
+    for row in unbuilt_rows() {
+        holds(&rt, rt.alloc(), &row)?;
+    }
+    Ok(())
+}
+
+fn faulty_input(files: &'static [(&'static str, &'static str)], err: &'static str) -> Row {
+    Row {
+        words: "run --pool serial double.pb - Double a",
+        files,
+        failing_takes: &[],
+        failing_puts: &[],
+        most: 4096,
+        status: 5,
+        out: "",
+        err,
+    }
+}
+
+fn faulty_rows() -> [Row; 4] {
+    [
+        faulty_input(&[("double.pb", DOUBLE), ("a", "")], "M1 BadHeader: a\n"),
+        faulty_input(
+            &[
+                ("double.pb", DOUBLE),
+                ("a", "matrix 1\n9223372036854775808\n"),
+            ],
+            "M2 BadNumber: a word 0\n",
+        ),
+        faulty_input(
+            &[("double.pb", DOUBLE), ("a", "matrix 3\n1 2\n")],
+            "M3 TooFew: a wanted 3 found 2\n",
+        ),
+        faulty_input(
+            &[("double.pb", DOUBLE), ("a", "matrix 3\n1 2 3 4\n")],
+            "M4 TooMany: a wanted 3\n",
+        ),
+    ]
+}
+
+#[test]
+fn faulty_inputs_are_named(rt: HostRuntime) -> Result<(), Fail> {
+    for row in faulty_rows() {
+        holds(&rt, rt.alloc(), &row)?;
+    }
+    Ok(())
+}
