@@ -3,3 +3,5 @@
 
 #[cfg(test)]
 mod matrix;
+#[cfg(test)]
+mod words;
