@@ -1,6 +1,6 @@
-ghost use Rattle.std.specs.Prelude.{◌≡◌, ℕ, map, IfSome, IfNone, string_bytes};
+ghost use Rattle.std.specs.Prelude.{◌≡◌, ℕ, ◌+◌, ◌≤◌, length, map, IfSome, IfNone, string_bytes};
 ghost use Rattle.pb_words.specs.declared.ask.Ask.{Ask as Asked};
-ghost use Rattle.pb_words.specs.Line.{Line};
+ghost use Rattle.pb_words.specs.Line.{Line, least_others};
 ghost use Rattle.pb_words.specs.Reading.{program_asked, run_asked, tune_asked, demo_asked, asked};
 
 use crate::ask::{Ask, Pool};
@@ -88,6 +88,7 @@ fn read_ask(command: &str, settings: Settings, others: &[String]) -> Option<Ask>
 /// other words. `words` are those after the program's name. None exactly where they aren't in the grammar.
 pub fn read_words(words: &[String]) -> Option<(Ask, usize)>
     ensures found { IfSome result (λ r. Line (map string_bytes words.now) r.0 r.1) }
+    ensures enough { IfSome result (λ r. r.1 + least_others r.0 ≤ length words.now) }
     ensures none { IfNone result ((ask : Asked) (place : ℕ) → Line (map string_bytes words.now) ask place → ⊥) }
 {
     let (command, behind) = words.split_first()?;
