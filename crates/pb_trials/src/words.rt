@@ -91,8 +91,10 @@ fn commands() -> [(&'static str, &'static str); 26] {
     ]
 }
 
-fn runs() -> [(&'static str, &'static str); 27] {
+fn runs() -> [(&'static str, &'static str); 29] {
     [
+        ("run", "none"),
+        ("run --depth 64 p c t", "run 1 64 64 steal false at 3"),
         ("run p - t", "run 1 64 64 steal false at 1"),
         ("run p c", "none"),
         ("run p c t --trace", "run 1 64 64 steal false at 1"),
@@ -132,8 +134,9 @@ fn runs() -> [(&'static str, &'static str); 27] {
     ]
 }
 
-fn edges() -> [(&'static str, &'static str); 13] {
+fn edges() -> [(&'static str, &'static str); 14] {
     [
+        ("tune --workers 2 p t", "none"),
         ("run --grain 1 p c t", "run 1 64 1 steal false at 3"),
         (
             "run --grain 1048576 p c t",
