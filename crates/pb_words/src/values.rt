@@ -34,8 +34,8 @@ fn is_number(word: &str) -> bool
     has_digits_alone(word.as_bytes())
 }
 
-#[tactic(auto, using(crate::proofs::NumberLemmas::number_parsed))]
 /// The value of one to ten digits, if it is within the range.
+#[tactic(auto, using(crate::proofs::NumberLemmas::number_parsed))]
 pub(crate) fn read_number(word: &str, least: u64, most: u64) -> Option<u64>
     ensures number { result ≡ number_within least most word.now }
     ensures range { IfSome result (IsWithin least most) }
