@@ -39,3 +39,11 @@ pub record Line (words : List (List ℕ)) (ask : Ask) (place : ℕ) : Type 0 whe
   pub ended : Ends others
   pub asks : Asks command settings others ask
   pub placed : place ≡ suc (length option_words)
+
+-- how many other words a command has at least
+abbrev pub least_others : Ask → ℕ
+least_others Check = 1
+least_others Choices = 1
+least_others (Run workers depth grain pool trace) = 3
+least_others (Tune up_to) = 2
+least_others (Demo seed size workers) = 3

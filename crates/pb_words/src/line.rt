@@ -1,6 +1,7 @@
-ghost use Rattle.std.specs.Prelude.{◌≡◌, ℕ, map, IfSome, IfNone, string_bytes};
+ghost use Rattle.std.specs.Prelude.{◌≡◌, ℕ, ◌+◌, ◌≤◌, length, map, IfSome, IfNone, string_bytes};
 ghost use Rattle.pb_words.specs.declared.ask.Ask.{Ask as Asked};
-ghost use Rattle.pb_words.specs.Line.{Line};
+ghost use Rattle.pb_words.specs.Ranges.{IsInRange, HaveRanges};
+ghost use Rattle.pb_words.specs.Line.{Line, least_others};
 ghost use Rattle.pb_words.specs.Reading.{program_asked, run_asked, tune_asked, demo_asked, asked};
 
 use crate::ask::{Ask, Pool};
@@ -11,7 +12,8 @@ const MOST_INPUTS: usize = 16;
 
 // A command without options that wants a program alone.
 fn read_program(ask: Ask, settings: Settings, others: &[String]) -> Option<Ask>
-    ensures { result ≡ program_asked ask settings (map string_bytes others.now) }
+    ensures range { IsInRange ask → IfSome result IsInRange }
+    ensures asked { result ≡ program_asked ask settings (map string_bytes others.now) }
 {
     match others {
         [_program] if settings.is_empty() => Some(ask),
@@ -20,7 +22,9 @@ fn read_program(ask: Ask, settings: Settings, others: &[String]) -> Option<Ask>
 }
 
 fn read_run(settings: Settings, others: &[String]) -> Option<Ask>
-    ensures { result ≡ run_asked settings (map string_bytes others.now) }
+    requires { HaveRanges settings }
+    ensures range { IfSome result IsInRange }
+    ensures asked { result ≡ run_asked settings (map string_bytes others.now) }
 {
     match others {
         [_program, _config, _transform, inputs @ ..]
@@ -38,7 +42,9 @@ fn read_run(settings: Settings, others: &[String]) -> Option<Ask>
 }
 
 fn read_tune(settings: Settings, others: &[String]) -> Option<Ask>
-    ensures { result ≡ tune_asked settings (map string_bytes others.now) }
+    requires { HaveRanges settings }
+    ensures range { IfSome result IsInRange }
+    ensures asked { result ≡ tune_asked settings (map string_bytes others.now) }
 {
     let foreign = Settings {
         up_to: None,
@@ -53,7 +59,8 @@ fn read_tune(settings: Settings, others: &[String]) -> Option<Ask>
 }
 
 fn read_demo(settings: Settings, others: &[String]) -> Option<Ask>
-    ensures { result ≡ demo_asked settings (map string_bytes others.now) }
+    ensures range { IfSome result IsInRange }
+    ensures asked { result ≡ demo_asked settings (map string_bytes others.now) }
 {
     match others {
         [seed, size, workers] if settings.is_empty() => {
@@ -72,7 +79,9 @@ fn read_demo(settings: Settings, others: &[String]) -> Option<Ask>
 
 // What a command asks for with these options over these other words.
 fn read_ask(command: &str, settings: Settings, others: &[String]) -> Option<Ask>
-    ensures { result ≡ asked command.now settings (map string_bytes others.now) }
+    requires { HaveRanges settings }
+    ensures range { IfSome result IsInRange }
+    ensures asked { result ≡ asked command.now settings (map string_bytes others.now) }
 {
     match command {
         "check" => read_program(Ask::Check, settings, others),
@@ -88,6 +97,8 @@ fn read_ask(command: &str, settings: Settings, others: &[String]) -> Option<Ask>
 /// other words. `words` are those after the program's name. None exactly where they aren't in the grammar.
 pub fn read_words(words: &[String]) -> Option<(Ask, usize)>
     ensures found { IfSome result (λ r. Line (map string_bytes words.now) r.0 r.1) }
+    ensures enough { IfSome result (λ r. r.1 + least_others r.0 ≤ length words.now) }
+    ensures range { IfSome result (λ r. IsInRange r.0) }
     ensures none { IfNone result ((ask : Asked) (place : ℕ) → Line (map string_bytes words.now) ask place → ⊥) }
 {
     let (command, behind) = words.split_first()?;

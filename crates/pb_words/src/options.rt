@@ -1,5 +1,6 @@
-ghost use Rattle.std.specs.Prelude.{◌≡◌, map, None, Some, MatchOption, string_bytes, option_and_then};
+ghost use Rattle.std.specs.Prelude.{◌≡◌, map, None, Some, IfSome, MatchOption, string_bytes, option_and_then};
 ghost use Rattle.pb_words.specs.Options.{no_settings};
+ghost use Rattle.pb_words.specs.Ranges.{HasRange, HaveRanges};
 ghost use Rattle.pb_words.specs.Reading.{options_read, valued_option};
 
 use crate::ask::Pool;
@@ -28,7 +29,8 @@ pub(crate) struct Settings {
 }
 
 impl Settings {
-    ghost use Rattle.std.specs.Prelude.{◌≡◌};
+    ghost use Rattle.std.specs.Prelude.{◌≡◌, IfSome};
+    ghost use Rattle.pb_words.specs.Ranges.{HasRange, HaveRanges};
     ghost use Rattle.pb_words.specs.Options.{added, is_empty, no_settings};
 
     fn none() -> Settings
@@ -57,7 +59,8 @@ impl Settings {
 
     // With one more option, if it isn't given yet.
     fn with(self, setting: Setting) -> Option<Settings>
-        ensures { result ≡ added self setting }
+        ensures added { result ≡ added self setting }
+        ensures ranges { HaveRanges self → HasRange setting → IfSome result HaveRanges }
     {
         match setting {
             Setting::Workers(workers) if self.workers.is_none() => Some(Settings {
@@ -91,7 +94,8 @@ impl Settings {
 
 // The option that a name and its value spell.
 fn read_valued(name: &str, value: &str) -> Option<Setting>
-    ensures { result ≡ valued_option name.now value.now }
+    ensures option { result ≡ valued_option name.now value.now }
+    ensures range { IfSome result HasRange }
 {
     match name {
         "--workers" => Some(Setting::Workers(read_number(value, 1, 64)? as u32)),
@@ -105,7 +109,8 @@ fn read_valued(name: &str, value: &str) -> Option<Setting>
 
 /// The options that stand first among some words, and the words behind them.
 pub(crate) fn read_options(words: &[String]) -> Option<(Settings, &[String])>
-    ensures { MatchOption result (options_read no_settings None (map string_bytes words.now) ≡ None)
+    ensures ranges { IfSome result (λ found. HaveRanges found.0) }
+    ensures read { MatchOption result (options_read no_settings None (map string_bytes words.now) ≡ None)
         (λ found. options_read no_settings None (map string_bytes words.now) ≡ Some (found.0, map string_bytes found.1.now)) }
 {
     let mut settings = Settings::none();

@@ -1,6 +1,7 @@
-ghost use Rattle.std.specs.Prelude.{◌≡◌, ◌≤◌, IfSome};
+ghost use Rattle.std.specs.Prelude.{◌≡◌, IfSome};
 ghost use Rattle.std.specs.Char.{is_ascii_digit};
 ghost use Rattle.std.specs.List.{list_all};
+ghost use Rattle.pb_words.specs.Ranges.{IsWithin};
 ghost use Rattle.pb_words.specs.Values.{is_option, is_number, number_within, pool_named};
 
 use crate::ask::Pool;
@@ -33,11 +34,11 @@ fn is_number(word: &str) -> bool
     has_digits_alone(word.as_bytes())
 }
 
-#[tactic(auto, using(crate::proofs::NumberLemmas::number_parsed))]
 /// The value of one to ten digits, if it is within the range.
+#[tactic(auto, using(crate::proofs::NumberLemmas::number_parsed))]
 pub(crate) fn read_number(word: &str, least: u64, most: u64) -> Option<u64>
     ensures number { result ≡ number_within least most word.now }
-    ensures most { IfSome result (λ value. value ≤ most) }
+    ensures range { IfSome result (IsWithin least most) }
 {
     if !is_number(word) {
         return None;
