@@ -22,11 +22,8 @@ use Rattle.pb_matrix.specs.Spelling.{SpellsCells, LinesSpell, header}
 use Rattle.pb_matrix.specs.Text.{header_words, rows, matrix_rows, row_text, matrix_text}
 use Rattle.pb_matrix.proofs.LineLemmas.{body_words}
 use Rattle.pb_matrix.proofs.SpellLemmas.{spelled_lines}
+use Rattle.pb_matrix.proofs.TextLemmas.{AllFit}
 use Rattle.pb_matrix.proofs.WordLemmas.{some_bytes, words-append, first_part}
-
--- numbers of 64 bits
-abbrev AllFit : List ℤ → Type 0
-AllFit cells = All (λ z. IsTrue (fits_i64 z)) cells
 
 -- bytes that are no gap, at least one
 record IsWord (w : List ℕ) : Type 0 where

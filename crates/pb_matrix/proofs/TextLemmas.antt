@@ -1,9 +1,12 @@
--- The text of a row, from its first number on.
-use Rattle.std.proofs.Common.{◌≡◌, ℕ, suc, ◌+◌, ◌-◌, ◌*◌, ◌<◌, ◌≤◌, List, [], ◌∷◌, ◌++◌, length, get_or, take, drop, map, flat_map, ℤ, pos, ap, sym, arith}
+-- The text of a row, from its first number on, and the range of its numbers.
+use Rattle.std.proofs.Common.{◌≡◌, ℕ, suc, ◌+◌, ◌-◌, ◌*◌, ◌<◌, ◌≤◌, List, [], ◌∷◌, ◌++◌, length, get_or, take, drop, map, flat_map, ℤ, pos, negsuc, ◌^◌, IsTrue, All, w64, SFits, ap, sym, arith}
 use Rattle.std.specs.Fmt.{signed_decimal}
 use Rattle.std.specs.List.{join_with_byte}
-use Rattle.std.proofs.lemmas.List.{append_assoc, append-nil, take_all, take_more, length-drop}
+use Rattle.std.proofs.lemmas.List.{append_assoc, append-nil, take_all, take_more, take-append-drop, length-drop}
 use Rattle.std.proofs.lemmas.List.Concat.{flat_map-append}
+use Rattle.std.proofs.lemmas.List.Elements.{All-same, All-cons, All-append}
+use Rattle.std.proofs.lemmas.Bool.{lt-ltb}
+use Rattle.pb_values.specs.Checked.{fits_i64}
 use Rattle.pb_matrix.specs.Text.{row_text, rows}
 
 -- a number behind a blank
@@ -39,3 +42,21 @@ row_more h k w rest row behind text new l count r b n =
     let left : h - k ≡ suc (h - (k + 1)) = omega arith in
     let all : length rest ≡ suc (h - (k + 1)) * w = rw (← left) count in
     (rw b (omega (arith, length-drop w rest, all)), rw (n, r, b, left) (append_assoc text (row_text (take w rest)) (flat_map row_text (rows (h - (k + 1)) w (drop w rest)))))
+
+-- numbers of 64 bits
+abbrev pub Fits : ℤ → Type 0
+Fits z = IsTrue (fits_i64 z)
+
+abbrev pub AllFit : List ℤ → Type 0
+AllFit cells = All Fits cells
+
+pub in_range : (z : ℤ) → SFits w64 z → Fits z
+in_range (pos n) h = lt-ltb n (2 ^ 63) h.sfits
+in_range (negsuc n) h = lt-ltb n (2 ^ 63) h.sfits
+
+pub row_fits : (row : List ℤ) (n : ℕ) → 0 < length row → length row - 1 ≤ n → SFits w64 (get_or row 0 (pos 0)) → AllFit (take n (drop 1 row)) → AllFit row
+row_fits [] n some end first fits = absurd (omega arith)
+row_fits (z ∷ zs) n some end first fits = All-cons Fits z zs (in_range z first) (rw (take_all n zs (omega arith)) at fits)
+
+pub rest_fits : (w : ℕ) (rest row behind : List ℤ) → row ≡ take w rest → behind ≡ drop w rest → AllFit row → AllFit behind → AllFit rest
+rest_fits w rest row behind r b fits later = All-same Fits rest (row ++ behind) (rw (r, b) (sym (take-append-drop w rest))) (All-append Fits row behind fits later)

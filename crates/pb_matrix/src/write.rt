@@ -1,6 +1,8 @@
-ghost use Rattle.std.specs.Prelude.{◌≡◌, ◌*◌, ◌≤◌, ◌<◌, ◌++◌, length, IfOk, OnOk};
+ghost use Rattle.std.specs.Prelude.{◌≡◌, ◌*◌, ◌≤◌, ◌<◌, ◌++◌, length, Ok, IfOk, OnOk, IsTrue, All};
 ghost use Rattle.std.specs.Fmt.{signed_decimal};
+ghost use Rattle.pb_values.specs.Checked.{fits_i64};
 ghost use Rattle.pb_matrix.specs.Header.{IsMatrixShape, cell_count};
+ghost use Rattle.pb_matrix.specs.Reading.{matrix_read};
 ghost use Rattle.pb_matrix.specs.Text.{header_words, line_text, row_text, matrix_text};
 
 use itoa::Buffer;
@@ -37,7 +39,8 @@ fn write_number(text: &mut Vec<u8>, number: i64) -> Result<(), AllocError>
 
 fn write_row(text: &mut Vec<u8>, row: &[i64]) -> Result<(), AllocError>
     requires { 0 < length row.now }
-    ensures { OnOk result (text.new.items ≡ text.old.items ++ row_text row.now) }
+    ensures text { OnOk result (text.new.items ≡ text.old.items ++ row_text row.now) }
+    ensures fits { OnOk result (All (λ z. IsTrue (fits_i64 z)) row.now) }
 {
     write_number(text, row[0])?;
     for cell in &row[1..] {
@@ -53,7 +56,8 @@ fn write_row(text: &mut Vec<u8>, row: &[i64]) -> Result<(), AllocError>
 pub fn write_matrix(alloc: Global, shape: &Shape, cells: &[i64]) -> Result<Vec<u8>, AllocError>
     requires shape { IsMatrixShape shape.now }
     requires cells { length cells.now ≡ cell_count shape.now }
-    ensures { IfOk result (λ text. text.items ≡ matrix_text shape.now cells.now) }
+    ensures text { IfOk result (λ text. text.items ≡ matrix_text shape.now cells.now) }
+    ensures read_again { IfOk result (λ text. matrix_read text.items ≡ Ok (record { shape = shape.now; cells = cells.now })) }
 {
     let mut text = Vec::with_capacity(alloc, cells.len() * BYTES_PER_CELL + BYTES_OF_HEADER)?;
     write_header(&mut text, shape)?;
