@@ -1,0 +1,11 @@
+//! The data of a program: its tokens, the items that have limits, and why a text is refused.
+//!
+//! `specs/` says which tokens a text has, and where a text has none.
+#![tactic(auto)]
+
+mod refusal;
+mod token;
+
+pub use pb_values::Name;
+pub use refusal::{Item, Refusal};
+pub use token::{Token, TokenWhat};
