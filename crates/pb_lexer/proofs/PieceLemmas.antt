@@ -1,5 +1,5 @@
 -- What the first bytes of a text say is a blank, a comment or a token, and each of these is found by them.
-use Rattle.std.proofs.Common.{◌≡◌, ℕ, suc, ◌+◌, ◌<◌, ◌≤◌, Bool, true, false, ◌&&◌, ◌||◌, ◌==◌, nat_le, ◌⊎◌, inl, inr, List, [], ◌∷◌, ◌++◌, length, take, drop, Option, Some, None, is_some, cond, refl, sym, true≢false, ◌∙◌, ap, subst, arith, append_assoc, length-append}
+use Rattle.std.proofs.Common.{◌≡◌, ℕ, suc, ◌+◌, ◌≤◌, Bool, true, false, ◌&&◌, ◌||◌, ◌==◌, nat_le, ◌⊎◌, inl, inr, List, [], ◌∷◌, ◌++◌, length, Option, Some, None, is_some, cond, refl, sym, true≢false, ◌∙◌, ap, subst, arith, length-append}
 use Rattle.std.specs.List.{list_all, prefix_len}
 use Rattle.std.specs.Char.{is_ascii_digit}
 use Rattle.std.specs.Str.Parse.{digits_value}
@@ -139,6 +139,7 @@ close_found n (b ∷ rest) size e =
     here : (rest : List ℕ) → ((b == 42) ≡ true) × (begins_slash rest ≡ true) → n ≡ size → (k : ℕ) × (size ≡ n + k) × IsClosed (b ∷ rest) k
     here [] p s = absurd (cc)
     here (c ∷ back) p s = (0, omega arith, record { inside = []; back = back; parts = rw (is_byte b 42 p.0, is_byte c 47 p.1) refl; open_yet = refl; count = refl })
+
     later : (b == 42 && begins_slash rest) ≡ false → (k : ℕ) × (size ≡ n + 1 + k) × IsClosed rest k → (k : ℕ) × (size ≡ n + k) × IsClosed (b ∷ rest) k
     later h f =
         let g = f.2 in
@@ -225,7 +226,7 @@ number_found at b rest f d e =
     let r = run_found is_ascii_digit rest in
     let all : list_all is_ascii_digit (b ∷ r.front) ≡ true = rw d r.pass in
     let read : number_of (length (b ∷ r.front)) (value_within (b ∷ r.front)) ≡ Some f =
-        sym (number_is (b ∷ r.front) r.back all r.ends) ∙ ap (λ (l : List ℕ). number_read (b ∷ l)) (sym r.parts) ∙ e in
+    sym (number_is (b ∷ r.front) r.back all r.ends) ∙ ap (λ (l : List ℕ). number_read (b ∷ l)) (sym r.parts) ∙ e in
     let s = number_some (b ∷ r.front) f all read in
     says at (b ∷ rest) _ f s.1 (record { spelled = b ∷ r.front; behind = r.back; parts = ap (λ (l : List ℕ). b ∷ l) r.parts; size = refl; piece = number d r.pass r.ends s.0 })
 
@@ -251,7 +252,7 @@ block_found at inside (Some size) f c e =
       behind = g.back;
       parts = ap (λ (l : List ℕ). 47 ∷ 42 ∷ l) g.parts;
       size = omega (arith, k.1, g.count, length-append g.inside (42 ∷ 47 ∷ []));
-      piece = block_comment g.inside g.open_yet
+      piece = block_comment g.inside g.open_yet;
     })
 
 comment_found : (at a : ℕ) (behind : List ℕ) (f : Front) → (a == 47) ≡ true → comment_read behind ≡ Some f → IsFound at (a ∷ behind) f

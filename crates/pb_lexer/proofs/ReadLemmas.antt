@@ -1,5 +1,5 @@
 -- What the pass over a text keeps, and what follows from its answer.
-use Rattle.std.proofs.Common.{◌≡◌, ℕ, ◌+◌, ◌-◌, ◌<◌, ◌≤◌, ◌⊎◌, inl, inr, List, [], ◌∷◌, ◌++◌, length, take, drop, Option, Some, None, Result, Ok, Err, refl, sym, ◌∙◌, ap, subst, arith, append_assoc, length-append, length-take, length-drop, take_all}
+use Rattle.std.proofs.Common.{◌≡◌, ℕ, ◌+◌, ◌-◌, ◌<◌, ◌≤◌, ◌⊎◌, inl, inr, List, [], ◌∷◌, ◌++◌, length, take, drop, Some, None, Result, Ok, Err, refl, sym, ◌∙◌, ap, subst, arith, append_assoc, length-append, length-take, length-drop, take_all}
 use Rattle.std.specs.Result.{IfOk, IfErr, MatchResult}
 use Rattle.std.proofs.Math.Seq.{take-append_seam, drop-append_seam}
 use Rattle.std.proofs.lemmas.List.{take-append-drop}
@@ -8,9 +8,8 @@ use Rattle.pb_prog.specs.declared.refusal.Refusal.{Refusal}
 use Rattle.pb_prog.specs.declared.refusal.Refusal.TheVariants.{TooLong, BadToken, Memory}
 use Rattle.pb_prog.specs.Tokens.{Piece, Pieces, none, Spells, BadTokenAt}
 use Rattle.pb_lexer.specs.declared.piece.Front.{Front}
-use Rattle.pb_lexer.specs.declared.read.TheConstants.{MOST_BYTES}
 use Rattle.pb_lexer.specs.Reading.{piece_read, tokens_of}
-use Rattle.pb_lexer.specs.Refusing.{Refused}
+use Rattle.pb_lexer.specs.Refusing.{most_bytes, Refused}
 use Rattle.pb_lexer.proofs.PieceLemmas.{found}
 use Rattle.pb_lexer.proofs.EndLemmas.{begins_none, one_behind, one_list, no_fault, one_fault}
 
@@ -31,6 +30,7 @@ at_fault text at tokens more before nothing = step (drop at text) refl
   where
     e : piece_read (drop at text) ≡ None
     e = sym (ap piece_read (whole_rest text at)) ∙ nothing
+
     step : (rest : List ℕ) → drop at text ≡ rest → BadTokenAt text at
     step [] d = absurd (omega (arith, length-drop at text, ap length d))
     step (b ∷ behind) d = record {
@@ -41,7 +41,7 @@ at_fault text at tokens more before nothing = step (drop at text) refl
       parts = sym (take-append-drop at text) ∙ ap (λ (l : List ℕ). take at text ++ l) d;
       before = subst (λ (l : List ℕ). Pieces 0 (take at text) l tokens) d before;
       place = sym (front_length text at (omega arith));
-      begins_none = begins_none at (b ∷ behind) (sym (ap piece_read d) ∙ e)
+      begins_none = begins_none at (b ∷ behind) (sym (ap piece_read d) ∙ e);
     }
 
 seam : (P : List ℕ → List ℕ → Type 0) (text front back : List ℕ) (n : ℕ) → text ≡ front ++ back → n ≡ length front → P front back → P (take n text) (drop n text)
@@ -55,21 +55,21 @@ pub at_next : (text : List ℕ) (at : ℕ) (f : Front) (tokens new : List Token)
 at_next text at f tokens new few before read put =
     let e : piece_read (drop at text) ≡ Some f = sym (ap piece_read (whole_rest text at)) ∙ read in
     let now : new ≡ tokens ++ tokens_of at (take f.size (drop at text)) f.kind =
-        put ∙ ap (λ (l : List ℕ). tokens ++ tokens_of at (take f.size l) f.kind) (whole_rest text at) in
+    put ∙ ap (λ (l : List ℕ). tokens ++ tokens_of at (take f.size l) f.kind) (whole_rest text at) in
     let g = found at (drop at text) f e in
     let spelled : take f.size (drop at text) ≡ g.spelled = ap (λ (n : ℕ). take n (drop at text)) g.size ∙ ap (take (length g.spelled)) g.parts ∙ take-append_seam g.spelled g.behind in
     let place : at ≡ 0 + length (take at text) = omega (arith, front_length text at few) in
     let whole = one_behind before g.parts (subst (λ (n : ℕ). Piece n g.spelled g.behind (tokens_of at g.spelled f.kind)) place g.piece) in
     let says : new ≡ tokens ++ tokens_of at g.spelled f.kind = now ∙ ap (λ (l : List ℕ). tokens ++ tokens_of at l f.kind) spelled in
     let parts : text ≡ (take at text ++ g.spelled) ++ g.behind =
-        sym (take-append-drop at text) ∙ ap (λ (l : List ℕ). take at text ++ l) g.parts ∙ sym (append_assoc (take at text) g.spelled g.behind) in
+    sym (take-append-drop at text) ∙ ap (λ (l : List ℕ). take at text ++ l) g.parts ∙ sym (append_assoc (take at text) g.spelled g.behind) in
     let size : at + f.size ≡ length (take at text ++ g.spelled) = omega (arith, place, g.size, length-append (take at text) g.spelled) in
     subst (λ (t : List Token). Pieces 0 (take (at + f.size) text) (drop (at + f.size) text) t) (sym says)
     (seam (λ (a b : List ℕ). Pieces 0 a b (tokens ++ tokens_of at g.spelled f.kind)) text (take at text ++ g.spelled) g.behind (at + f.size) parts size whole)
 
 module _ {V : Type 0} (items : V → List Token) (text : List ℕ) where
   pub complete : (r : Result V Refusal) → IfOk r (λ v. Spells text (items v)) → IfErr r (Refused text) → (spelled : List Token)
-      → length text ≤ MOST_BYTES → Spells text spelled → MatchResult r (λ v. items v ≡ spelled) (λ e. e ≡ Memory)
+      → length text ≤ most_bytes → Spells text spelled → MatchResult r (λ v. items v ≡ spelled) (λ e. e ≡ Memory)
   complete (Ok v) one why spelled few h = one_list text (items v) spelled one h
   complete (Err e) one why spelled few h = refused e why
     where
@@ -80,7 +80,7 @@ module _ {V : Type 0} (items : V → List Token) (text : List ℕ) where
       refused other no_cause = absurd no_cause
 
   pub faulty : (r : Result V Refusal) → IfOk r (λ v. Spells text (items v)) → IfErr r (Refused text) → (at : ℕ)
-      → length text ≤ MOST_BYTES → BadTokenAt text at → MatchResult r (λ _. ⊥) (λ e. (e ≡ BadToken at) ⊎ (e ≡ Memory))
+      → length text ≤ most_bytes → BadTokenAt text at → MatchResult r (λ _. ⊥) (λ e. (e ≡ BadToken at) ⊎ (e ≡ Memory))
   faulty (Ok v) one why at few h = no_fault text (items v) at one h
   faulty (Err e) one why at few h = refused e why
     where

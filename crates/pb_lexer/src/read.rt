@@ -3,7 +3,7 @@ ghost use Rattle.pb_prog.specs.declared.token.Token.{Token as AToken};
 ghost use Rattle.pb_prog.specs.declared.refusal.Refusal.TheVariants.{TooLong, BadToken, Memory};
 ghost use Rattle.pb_prog.specs.Tokens.{Spells, BadTokenAt};
 ghost use Rattle.pb_lexer.specs.Reading.{tokens_of};
-ghost use Rattle.pb_lexer.specs.Refusing.{Refused};
+ghost use Rattle.pb_lexer.specs.Refusing.{most_bytes, Refused};
 
 use crate::piece::{Kind, read_front};
 use pb_prog::{Name, Refusal, Token, TokenWhat};
@@ -13,7 +13,13 @@ use std::alloc::Global;
 pub const MOST_BYTES: usize = 1_048_576;
 
 // Puts the token of some bytes behind the others, if they are one.
-fn put_token(alloc: Global, found: &mut Vec<Token>, at: u32, spelled: &[u8], kind: Kind) -> Result<(), Refusal>
+fn put_token(
+    alloc: Global,
+    found: &mut Vec<Token>,
+    at: u32,
+    spelled: &[u8],
+    kind: Kind,
+) -> Result<(), Refusal>
     ensures put { IfOk result (λ _. found.new.items ≡ found.old.items ++ tokens_of at spelled.now kind) }
     ensures memory { IfErr result (λ e. e ≡ Memory) }
 {
@@ -28,7 +34,7 @@ fn put_token(alloc: Global, found: &mut Vec<Token>, at: u32, spelled: &[u8], kin
 }
 
 fn read_pieces(alloc: Global, text: &[u8]) -> Result<Vec<Token>, Refusal>
-    requires { length text.now ≤ MOST_BYTES }
+    requires { length text.now ≤ most_bytes }
     ensures found { IfOk result (λ found. Spells text.now found.items) }
     ensures refused { IfErr result (Refused text.now) }
 {
@@ -39,7 +45,13 @@ fn read_pieces(alloc: Global, text: &[u8]) -> Result<Vec<Token>, Refusal>
         let Some(front) = read_front(rest) else {
             return Err(Refusal::BadToken { at: at as u32 });
         };
-        put_token(alloc, &mut found, at as u32, &rest[..front.size], front.kind)?;
+        put_token(
+            alloc,
+            &mut found,
+            at as u32,
+            &rest[..front.size],
+            front.kind,
+        )?;
         at += front.size;
     }
     Ok(found)
@@ -50,12 +62,12 @@ fn read_pieces(alloc: Global, text: &[u8]) -> Result<Vec<Token>, Refusal>
 pub fn tokens(alloc: Global, text: &[u8]) -> Result<Vec<Token>, Refusal>
     ensures found { IfOk result (λ found. Spells text.now found.items) }
     ensures refused { IfErr result (Refused text.now) }
-    ensures complete { (spelled : List AToken) → length text.now ≤ MOST_BYTES → Spells text.now spelled
+    ensures short { IfOk result (λ _. length text.now ≤ most_bytes) }
+    ensures complete { (spelled : List AToken) → length text.now ≤ most_bytes → Spells text.now spelled
         → MatchResult result (λ found. found.items ≡ spelled) (λ e. e ≡ Memory) }
-    ensures too_long { MOST_BYTES < length text.now → MatchResult result (λ _. ⊥) (λ e. e ≡ TooLong) }
-    ensures bad_token { (at : ℕ) → length text.now ≤ MOST_BYTES → BadTokenAt text.now at
+    ensures too_long { most_bytes < length text.now → MatchResult result (λ _. ⊥) (λ e. e ≡ TooLong) }
+    ensures bad_token { (at : ℕ) → length text.now ≤ most_bytes → BadTokenAt text.now at
         → MatchResult result (λ _. ⊥) (λ e. (e ≡ BadToken at) ⊎ (e ≡ Memory)) }
-    ensures not_too_long { IfOk result (λ _. length text.now ≤ MOST_BYTES) }
 {
     if text.len() > MOST_BYTES {
         return Err(Refusal::TooLong);

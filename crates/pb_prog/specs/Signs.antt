@@ -1,5 +1,5 @@
 -- The signs, by their places in the list `( ) { } [ ] , ; . .. = == != < <= > >= + - * / % && || !`.
-use Rattle.std.specs.Prelude.{ℕ, Bool, true, false, ◌&&◌, ◌||◌, ◌==◌, Option, Some, None, is_some, if◌then◌else◌}
+use Rattle.std.specs.Prelude.{ℕ, Bool, ◌&&◌, ◌||◌, ◌==◌, Option, Some, None, is_some, if◌then◌else◌}
 
 -- `..` `==` `!=` `<=` `>=` `&&` `||`
 abbrev pub long_sign : ℕ → ℕ → Option ℕ

@@ -26,21 +26,73 @@ pub enum Item {
 #[derive(Drop)]
 pub enum Refusal {
     TooLong,
-    BadToken { at: u32 },
-    BadSyntax { at: u32 },
-    OverLimit { what: Item, at: u32 },
-    DuplicateName { name: Name, at: u32 },
-    UnknownName { name: Name, at: u32 },
-    SizeNotBound { name: Name, at: u32 },
-    BadOutput { at: u32 },
-    BadType { at: u32 },
-    NegativeDim { transform: u32, matrix: u32, axis: u8, sizes: Sizes },
-    OverlapOutputs { transform: u32, rule: u32, first: u32, second: u32 },
-    NotABox { transform: u32, rule: u32, condition: u32 },
-    Crossing { transform: u32, matrix: u32, axis: u8, first: Form, second: Form, over: Sizes, under: Sizes },
-    Uncovered { transform: u32, matrix: u32, area: SymBox },
-    TooManySegments { transform: u32, matrix: u32 },
-    NoOrder { transform: u32, segments: Vec<u32> },
+    BadToken {
+        at: u32,
+    },
+    BadSyntax {
+        at: u32,
+    },
+    OverLimit {
+        what: Item,
+        at: u32,
+    },
+    DuplicateName {
+        name: Name,
+        at: u32,
+    },
+    UnknownName {
+        name: Name,
+        at: u32,
+    },
+    SizeNotBound {
+        name: Name,
+        at: u32,
+    },
+    BadOutput {
+        at: u32,
+    },
+    BadType {
+        at: u32,
+    },
+    NegativeDim {
+        transform: u32,
+        matrix: u32,
+        axis: u8,
+        sizes: Sizes,
+    },
+    OverlapOutputs {
+        transform: u32,
+        rule: u32,
+        first: u32,
+        second: u32,
+    },
+    NotABox {
+        transform: u32,
+        rule: u32,
+        condition: u32,
+    },
+    Crossing {
+        transform: u32,
+        matrix: u32,
+        axis: u8,
+        first: Form,
+        second: Form,
+        over: Sizes,
+        under: Sizes,
+    },
+    Uncovered {
+        transform: u32,
+        matrix: u32,
+        area: SymBox,
+    },
+    TooManySegments {
+        transform: u32,
+        matrix: u32,
+    },
+    NoOrder {
+        transform: u32,
+        segments: Vec<u32>,
+    },
     Memory,
 }
 
