@@ -1,5 +1,5 @@
 -- The signs, by their places in the list `( ) { } [ ] , ; . .. = == != < <= > >= + - * / % && || !`.
-use Rattle.std.specs.Prelude.{ℕ, Bool, ◌&&◌, ◌||◌, ◌==◌, Option, Some, None, is_some, if◌then◌else◌}
+use Rattle.std.specs.Prelude.{ℕ, Bool, ◌&&◌, ◌||◌, ◌==◌, List, [], ◌∷◌, Option, Some, None, is_some, codes, if◌then◌else◌}
 
 -- `..` `==` `!=` `<=` `>=` `&&` `||`
 abbrev pub long_sign : ℕ → ℕ → Option ℕ
@@ -41,3 +41,20 @@ begins_comment a b = a == 47 && (b == 47 || b == 42)
 -- the first byte isn't a sign by itself: with the next it is a longer one, or begins a comment
 abbrev pub goes_on : ℕ → ℕ → Bool
 goes_on a b = is_some (long_sign a b) || begins_comment a b
+
+-- the signs in order
+abbrev pub signs : List (List ℕ)
+signs = codes "(" ∷ codes ")" ∷ codes "{" ∷ codes "}" ∷ codes "[" ∷ codes "]" ∷ codes "," ∷ codes ";" ∷ codes "."
+    ∷ codes ".." ∷ codes "=" ∷ codes "==" ∷ codes "!=" ∷ codes "<" ∷ codes "<=" ∷ codes ">" ∷ codes ">=" ∷ codes "+"
+    ∷ codes "-" ∷ codes "*" ∷ codes "/" ∷ codes "%" ∷ codes "&&" ∷ codes "||" ∷ codes "!" ∷ []
+
+-- the place of a sign, by its bytes
+abbrev pub sign_place : List ℕ → Option ℕ
+sign_place [] = None
+sign_place (a ∷ []) = short_sign a
+sign_place (a ∷ b ∷ []) = long_sign a b
+sign_place (a ∷ b ∷ c ∷ _) = None
+
+-- the numbers from 0 to 24
+abbrev pub places : List ℕ
+places = 0 ∷ 1 ∷ 2 ∷ 3 ∷ 4 ∷ 5 ∷ 6 ∷ 7 ∷ 8 ∷ 9 ∷ 10 ∷ 11 ∷ 12 ∷ 13 ∷ 14 ∷ 15 ∷ 16 ∷ 17 ∷ 18 ∷ 19 ∷ 20 ∷ 21 ∷ 22 ∷ 23 ∷ 24 ∷ []

@@ -3,9 +3,11 @@
 //! `specs/` says which tokens a text has, and where a text has none.
 #![tactic(auto)]
 
+mod laws;
 mod refusal;
 mod token;
 
+pub use laws::signs_are_those_listed;
 pub use pb_values::Name;
 pub use refusal::{Item, Refusal};
 pub use token::{Token, TokenWhat};

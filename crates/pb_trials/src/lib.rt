@@ -5,3 +5,5 @@
 mod linear;
 #[cfg(test)]
 mod matrix;
+#[cfg(test)]
+mod tokens;
