@@ -6,4 +6,6 @@ mod linear;
 #[cfg(test)]
 mod matrix;
 #[cfg(test)]
+mod tokens;
+#[cfg(test)]
 mod words;

@@ -1,0 +1,65 @@
+-- Pieces one behind the other: how one more is put behind them, and that a text has them in one way alone.
+use Rattle.std.proofs.Common.{◌≡◌, ℕ, ◌+◌, List, [], ◌∷◌, ◌++◌, length, take, drop, Option, Some, None, refl, sym, ◌∙◌, ap, subst, arith, append_assoc, append-nil, length-append}
+use Rattle.std.proofs.Math.Seq.{take-append_seam, drop-append_seam}
+use Rattle.std.proofs.lemmas.Option.{none-some, same_Some}
+use Rattle.pb_prog.specs.declared.token.Token.{Token}
+use Rattle.pb_prog.specs.Tokens.{Piece, Pieces, none, one_more, Spells, BadTokenAt}
+use Rattle.pb_lexer.specs.declared.piece.Front.{Front}
+use Rattle.pb_lexer.specs.Reading.{piece_read, tokens_of}
+use Rattle.pb_lexer.proofs.PieceLemmas.{taken, found}
+
+-- where something stands first, nothing is read only if it is no piece
+pub stops : (at : ℕ) (x : List ℕ) → ((first rest : List ℕ) (here : List Token) → x ≡ first ++ rest → Piece at first rest here → ⊥) → piece_read x ≡ None
+stops at x h = step (piece_read x) refl
+  where
+    step : (o : Option Front) → piece_read x ≡ o → o ≡ None
+    step None e = refl
+    step (Some f) e = let g = found at x f e in absurd (h g.spelled g.behind _ g.parts g.piece)
+
+pub begins_none : (at : ℕ) (x : List ℕ) → piece_read x ≡ None → (first rest : List ℕ) (here : List Token) → x ≡ first ++ rest → Piece at first rest here → ⊥
+begins_none at x e first rest here parts piece = none-some _ (sym e ∙ ap piece_read parts ∙ (taken piece).read)
+
+pub one_behind : {at : ℕ} {a b first rest : List ℕ} {ts here : List Token} → Pieces at a b ts → b ≡ first ++ rest → Piece (at + length a) first rest here
+    → Pieces at (a ++ first) rest (ts ++ here)
+one_behind {at = at} {first = first} {rest = rest} {here = here} none e p =
+    let whole : Pieces at (first ++ []) rest (here ++ []) = one_more (subst (λ (n : ℕ). Piece n first rest here) (omega arith) p) none in
+    subst (λ (l : List ℕ). Pieces at l rest here) (append-nil first) (subst (λ (t : List Token). Pieces at (first ++ []) rest t) (append-nil here) whole)
+one_behind {at = at} {first = first} {rest = rest} {here = here} (one_more {first = f} {rest = r} {behind = b} {here = h} {later = l} q qs) e p =
+    let place : at + length (f ++ r) ≡ at + length f + length r = omega (arith, length-append f r) in
+    let behind : r ++ b ≡ (r ++ first) ++ rest = ap (λ (m : List ℕ). r ++ m) e ∙ sym (append_assoc r first rest) in
+    let more : Pieces (at + length f) (r ++ first) rest (l ++ here) = one_behind qs e (subst (λ (n : ℕ). Piece n first rest here) place p) in
+    rw (append_assoc f r first, append_assoc h l here) (one_more (subst (λ (m : List ℕ). Piece at f m h) behind q) more)
+
+-- two ways to read one text, each up to where nothing can be read, are the same
+pub one_end : {at other : ℕ} {a b x y : List ℕ} {ts us : List Token} → Pieces at a x ts → Pieces other b y us → at ≡ other
+    → piece_read x ≡ None → piece_read y ≡ None → a ++ x ≡ b ++ y → (a ≡ b) × (ts ≡ us) × (x ≡ y)
+one_end none none s f g e = (refl, refl, e)
+one_end none (one_more {first = first} {rest = rest} {behind = behind} p ps) s f g e =
+    absurd (none-some _ (sym f ∙ ap piece_read (e ∙ append_assoc first rest behind) ∙ (taken p).read))
+one_end (one_more {first = first} {rest = rest} {behind = behind} p ps) none s f g e =
+    absurd (none-some _ (sym g ∙ ap piece_read (sym e ∙ append_assoc first rest behind) ∙ (taken p).read))
+one_end {at = at} {other = other} (one_more {first = c} {rest = r} {behind = x} p ps) (one_more {first = d} {rest = s} {behind = y} q qs) w f g e =
+    let t = taken p in
+    let u = taken q in
+    let texts : c ++ (r ++ x) ≡ d ++ (s ++ y) = sym (append_assoc c r x) ∙ e ∙ append_assoc d s y in
+    let fronts = same_Some _ _ (sym t.read ∙ ap piece_read texts ∙ u.read) in
+    let kinds : t.kind ≡ u.kind = ap (λ (i : Front). i.kind) fronts in
+    let sizes : length c ≡ length d = ap (λ (i : Front). i.size) fronts in
+    let firsts : c ≡ d = sym (take-append_seam c (r ++ x)) ∙ ap (take (length c)) texts ∙ ap (λ (n : ℕ). take n (d ++ (s ++ y))) sizes ∙ take-append_seam d (s ++ y) in
+    let rests : r ++ x ≡ s ++ y = sym (drop-append_seam c (r ++ x)) ∙ ap (drop (length c)) texts ∙ ap (λ (n : ℕ). drop n (d ++ (s ++ y))) sizes ∙ drop-append_seam d (s ++ y) in
+    let here = t.says ∙ ap (tokens_of at c) kinds ∙ ap (λ (l : List ℕ). tokens_of at l u.kind) firsts ∙ ap (λ (n : ℕ). tokens_of n d u.kind) w ∙ sym u.says in
+    let later = one_end ps qs (omega (arith, w, sizes)) f g rests in
+    (ap (λ (l : List ℕ). l ++ r) firsts ∙ ap (λ (l : List ℕ). d ++ l) later.0, rw (here, later.1) refl, later.2)
+
+pub one_list : (text : List ℕ) (first second : List Token) → Spells text first → Spells text second → first ≡ second
+one_list text first second one two = (one_end one two refl refl refl refl).1
+
+pub no_fault : (text : List ℕ) (tokens : List Token) (at : ℕ) → Spells text tokens → BadTokenAt text at → ⊥
+no_fault text tokens at one bad =
+    let both = one_end one bad.before refl refl (stops at (bad.fault ∷ bad.behind) bad.begins_none) (append-nil text ∙ bad.parts) in
+    absurd (cc)
+
+pub one_fault : (text : List ℕ) (at other : ℕ) → BadTokenAt text at → BadTokenAt text other → at ≡ other
+one_fault text at other bad worse =
+    let both = one_end bad.before worse.before refl (stops at _ bad.begins_none) (stops other _ worse.begins_none) (sym bad.parts ∙ worse.parts) in
+    bad.place ∙ ap length both.0 ∙ sym worse.place

@@ -1,0 +1,4 @@
+pub mod DigitLemmas
+pub mod EndLemmas
+pub mod PieceLemmas
+pub mod ReadLemmas

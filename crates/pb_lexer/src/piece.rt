@@ -1,0 +1,175 @@
+ghost use Rattle.std.specs.Prelude.{◌≡◌, ◌+◌, ◌≤◌, ◌<◌, length, IfSome};
+ghost use Rattle.pb_prog.specs.Signs.{long_sign, short_sign, begins_comment};
+ghost use Rattle.pb_lexer.specs.Reading.{value_within, number_read, word_read, comment_read, sign_read, piece_read};
+
+use crate::bytes::{Run, before_close, begins_name, is_blank, run_length};
+
+// Another digit behind a larger number would pass the greatest.
+const MOST_BEFORE_DIGIT: u64 = 922_337_203_685_477_580;
+
+const MOST: u64 = 9_223_372_036_854_775_807;
+
+/// What some bytes are: a blank or comment, a word, a number with its value, a sign with its place.
+#[derive(Clone, Copy)]
+pub(crate) enum Kind {
+    Gap,
+    Word,
+    Number(u64),
+    Sign(u8),
+}
+
+/// What stands first in a text, and how many bytes it has.
+#[derive(Clone, Copy)]
+pub(crate) struct Front {
+    pub kind: Kind,
+    pub size: usize,
+}
+
+// The value of digits, up to the greatest number.
+#[tactic(auto, using(crate::proofs::DigitLemmas::digit_too_many_at))]
+fn read_value(digits: &[u8]) -> Option<u64>
+    ensures { result ≡ value_within digits.now }
+{
+    let mut value: u64 = 0;
+    for byte in digits {
+        if !byte.is_ascii_digit() {
+            return None;
+        }
+        if value > MOST_BEFORE_DIGIT {
+            return None;
+        }
+        value = value * 10 + (*byte - b'0') as u64;
+    }
+    if value > MOST { None } else { Some(value) }
+}
+
+fn read_number(text: &[u8]) -> Option<Front>
+    ensures front { result ≡ number_read text.now }
+    ensures within { IfSome result (λ f. f.size ≤ length text.now) }
+{
+    let size = run_length(Run::InNumber, text);
+    let value = read_value(&text[..size])?;
+    Some(Front {
+        kind: Kind::Number(value),
+        size,
+    })
+}
+
+fn long_sign(first: u8, second: u8) -> Option<u8>
+    ensures { result ≡ long_sign first second }
+{
+    match (first, second) {
+        (b'.', b'.') => Some(9),
+        (b'=', b'=') => Some(11),
+        (b'!', b'=') => Some(12),
+        (b'<', b'=') => Some(14),
+        (b'>', b'=') => Some(16),
+        (b'&', b'&') => Some(22),
+        (b'|', b'|') => Some(23),
+        _ => None,
+    }
+}
+
+fn short_sign(byte: u8) -> Option<u8>
+    ensures { result ≡ short_sign byte }
+{
+    match byte {
+        b'(' => Some(0),
+        b')' => Some(1),
+        b'{' => Some(2),
+        b'}' => Some(3),
+        b'[' => Some(4),
+        b']' => Some(5),
+        b',' => Some(6),
+        b';' => Some(7),
+        b'.' => Some(8),
+        b'=' => Some(10),
+        b'<' => Some(13),
+        b'>' => Some(15),
+        b'+' => Some(17),
+        b'-' => Some(18),
+        b'*' => Some(19),
+        b'/' => Some(20),
+        b'%' => Some(21),
+        b'!' => Some(24),
+        _ => None,
+    }
+}
+
+fn begins_comment(first: u8, second: u8) -> bool
+    ensures { result ≡ begins_comment first second }
+{
+    first == b'/' && matches!(second, b'/' | b'*')
+}
+
+// A comment: what stands behind its `/`.
+fn read_comment(behind: &[u8]) -> Option<Front>
+    ensures front { result ≡ comment_read behind.now }
+    ensures within { IfSome result (λ f. f.size ≤ 1 + length behind.now) }
+    ensures some { IfSome result (λ f. 0 < f.size) }
+{
+    match behind {
+        [b'/', inside @ ..] => Some(Front {
+            kind: Kind::Gap,
+            size: 2 + run_length(Run::InLine, inside),
+        }),
+        [b'*', inside @ ..] => {
+            let size = before_close(inside)?;
+            Some(Front {
+                kind: Kind::Gap,
+                size: 4 + size,
+            })
+        }
+        _ => None,
+    }
+}
+
+fn read_sign(first: u8, behind: &[u8]) -> Option<Front>
+    ensures front { result ≡ sign_read first behind.now }
+    ensures within { IfSome result (λ f. f.size ≤ 1 + length behind.now) }
+    ensures some { IfSome result (λ f. 0 < f.size) }
+{
+    if let [second, ..] = behind {
+        if let Some(place) = long_sign(first, *second) {
+            return Some(Front {
+                kind: Kind::Sign(place),
+                size: 2,
+            });
+        }
+        if begins_comment(first, *second) {
+            return read_comment(behind);
+        }
+    }
+    let place = short_sign(first)?;
+    Some(Front {
+        kind: Kind::Sign(place),
+        size: 1,
+    })
+}
+
+/// The blank, comment or token that stands first in a text, if one does.
+pub(crate) fn read_front(text: &[u8]) -> Option<Front>
+    ensures front { result ≡ piece_read text.now }
+    ensures within { IfSome result (λ f. f.size ≤ length text.now) }
+    ensures some { IfSome result (λ f. 0 < f.size) }
+{
+    let [first, behind @ ..] = text else {
+        return None;
+    };
+    if is_blank(*first) {
+        return Some(Front {
+            kind: Kind::Gap,
+            size: 1,
+        });
+    }
+    if begins_name(*first) {
+        return Some(Front {
+            kind: Kind::Word,
+            size: 1 + run_length(Run::InName, behind),
+        });
+    }
+    if first.is_ascii_digit() {
+        return read_number(text);
+    }
+    read_sign(*first, behind)
+}

@@ -1,0 +1,13 @@
+//! The data of a program: its tokens, the items that have limits, and why a text is refused.
+//!
+//! `specs/` says which tokens a text has, and where a text has none.
+#![tactic(auto)]
+
+mod laws;
+mod refusal;
+mod token;
+
+pub use laws::signs_are_those_listed;
+pub use pb_values::Name;
+pub use refusal::{Item, Refusal};
+pub use token::{Token, TokenWhat};
