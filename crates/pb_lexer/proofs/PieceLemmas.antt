@@ -1,5 +1,5 @@
 -- What the first bytes of a text say is a blank, a comment or a token, and each of these is found by them.
-use Rattle.std.proofs.Common.{◌≡◌, ℕ, suc, ◌+◌, ◌≤◌, Bool, true, false, ◌&&◌, ◌||◌, ◌==◌, nat_le, ◌⊎◌, inl, inr, List, [], ◌∷◌, ◌++◌, length, Option, Some, None, is_some, cond, refl, sym, true≢false, ◌∙◌, ap, subst, arith, length-append}
+use Rattle.std.proofs.Common.{◌≡◌, ℕ, suc, ◌+◌, ◌≤◌, Bool, true, false, ◌&&◌, ◌||◌, ◌==◌, nat_le, inl, inr, List, [], ◌∷◌, ◌++◌, length, Option, Some, None, is_some, cond, refl, sym, true≢false, ◌∙◌, ap, subst, arith, length-append}
 use Rattle.std.specs.List.{list_all, prefix_len}
 use Rattle.std.specs.Char.{is_ascii_digit}
 use Rattle.std.specs.Str.Parse.{digits_value}
@@ -7,6 +7,7 @@ use Rattle.std.proofs.Math.Numerals.{one-add}
 use Rattle.std.proofs.Math.Seq.{take-append_seam}
 use Rattle.std.proofs.lemmas.Option.{none-some, same_Some}
 use Rattle.std.proofs.lemmas.Bool.Decides.{nat_tests}
+use Rattle.pb_prog.proofs.TestLemmas.{is_byte, if_parts, and_parts}
 use Rattle.pb_prog.specs.declared.token.Token.{Token}
 use Rattle.pb_prog.specs.Bytes.{is_blank, begins_name, is_in_name, is_in_line, EndsBefore, begins_slash, has_close}
 use Rattle.pb_prog.specs.Signs.{long_sign, short_sign, begins_comment, goes_on}
@@ -16,20 +17,9 @@ use Rattle.pb_lexer.specs.declared.piece.Kind.{Kind}
 use Rattle.pb_lexer.specs.declared.piece.Kind.TheVariants.{Gap, Word, Number, Sign}
 use Rattle.pb_lexer.specs.Reading.{close_from, value_within, number_of, number_read, word_read, closed, comment_read, sign_of, two_read, sign_read, piece_read, tokens_of}
 
-pub if_parts : {A : Type 0} (b : Bool) (x y z : A) → cond b x y ≡ z → ((b ≡ true) × (x ≡ z)) ⊎ ((b ≡ false) × (y ≡ z))
-if_parts true x y z e = inl (refl, e)
-if_parts false x y z e = inr (refl, e)
-
-and_parts : (a b : Bool) → (a && b) ≡ true → (a ≡ true) × (b ≡ true)
-and_parts true b e = (refl, e)
-and_parts false b e = absurd (cc)
-
 or_parts : (a b : Bool) → (a || b) ≡ false → (a ≡ false) × (b ≡ false)
 or_parts true b e = absurd (cc)
 or_parts false b e = (refl, e)
-
-is_byte : (a k : ℕ) → (a == k) ≡ true → a ≡ k
-is_byte a k e = grind (arith, nat_tests)
 
 -- a byte is the known one, or another
 at_byte : (P : ℕ → Type 0) (a k : ℕ) → P k → ((a == k) ≡ false → P a) → P a

@@ -1,19 +1,8 @@
 -- The table of the signs' places is the list of the signs.
-use Rattle.std.proofs.Common.{◌≡◌, ℕ, Bool, true, false, ◌&&◌, ◌==◌, ◌⊎◌, inl, inr, [], ◌∷◌, get_or, Option, Some, cond, refl, arith}
+use Rattle.std.proofs.Common.{◌≡◌, ℕ, ◌&&◌, ◌==◌, inl, inr, [], ◌∷◌, get_or, Option, Some, cond, refl}
 use Rattle.std.proofs.lemmas.Option.{none-some, same_Some}
-use Rattle.std.proofs.lemmas.Bool.Decides.{nat_tests}
+use Rattle.pb_prog.proofs.TestLemmas.{is_byte, if_parts, and_parts}
 use Rattle.pb_prog.specs.Signs.{long_sign, short_sign, signs}
-
-is_byte : (a k : ℕ) → (a == k) ≡ true → a ≡ k
-is_byte a k e = grind (arith, nat_tests)
-
-if_parts : {A : Type 0} (b : Bool) (x y z : A) → cond b x y ≡ z → ((b ≡ true) × (x ≡ z)) ⊎ ((b ≡ false) × (y ≡ z))
-if_parts true x y z e = inl (refl, e)
-if_parts false x y z e = inr (refl, e)
-
-and_parts : (a b : Bool) → (a && b) ≡ true → (a ≡ true) × (b ≡ true)
-and_parts true b e = (refl, e)
-and_parts false b e = absurd (cc)
 
 one_row : (a k place found : ℕ) (others : Option ℕ) → get_or signs place [] ≡ k ∷ [] → (others ≡ Some found → get_or signs found [] ≡ a ∷ [])
     → cond (a == k) (Some place) others ≡ Some found → get_or signs found [] ≡ a ∷ []
