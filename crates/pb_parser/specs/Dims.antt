@@ -1,0 +1,45 @@
+-- The sizes that are counted while dimensions are read.
+use Rattle.std.specs.Prelude.{◌≡◌, ℕ, List, map, Vec, Option, Some, None, Result, Ok, Err}
+use Rattle.std.specs.Borrow.{Bor}
+use Rattle.std.specs.declared.alloc.Global.{Global}
+use Rattle.pb_values.specs.Name.{NameValue}
+use Rattle.pb_prog.specs.declared.refusal.Refusal.{Refusal}
+use Rattle.pb_prog.specs.declared.refusal.Refusal.TheVariants.{OverLimit}
+use Rattle.pb_prog.specs.Forms.{FormValue}
+use Rattle.pb_prog.specs.Trees.{Transform}
+use Rattle.pb_parser.specs.Want.{Want}
+use Rattle.pb_prog.specs.Limits.{Sizes, after_form, sizes_in}
+use Rattle.pb_prog.specs.Limits.{Excess, excess_of}
+use Rattle.pb_parser.specs.declared.cursor.Cursor.{Cursor}
+use Rattle.pb_parser.specs.Leads.{Fails, from, told}
+
+abbrev pub names_of : List NameValue → List (List ℕ)
+names_of ns = map (λ (n : NameValue). n.bytes) ns
+
+-- the name behind a reference
+abbrev pub name_seen : Option (Bor NameValue) → Option NameValue
+name_seen None = None
+name_seen (Some n) = Some n.now
+
+abbrev pub sizes_known : Option (Vec NameValue Global) → Sizes
+sizes_known None = None
+sizes_known (Some v) = Some (names_of v.items)
+
+abbrev pub after_dims : Sizes → List FormValue → Sizes
+after_dims None dims = None
+after_dims (Some known) dims = Some (sizes_in known dims)
+
+-- a size too many, as a refusal, or else what is told further on
+abbrev pub excess_told : Option Excess → Result (List Transform) Refusal → Result (List Transform) Refusal
+excess_told None further = further
+excess_told (Some x) further = Err (OverLimit x.what x.at)
+
+-- a dimension is counted, or is a size too many, or memory ran out
+abbrev pub Counts : {A : Type 0} → Result A Refusal → Sizes → FormValue → Sizes → Type 0
+Counts (Ok x) before form after = (excess_of before form ≡ None) × (after ≡ after_form before form)
+Counts (Err e) before form after = Fails e ((further : Result (List Transform) Refusal) → excess_told (excess_of before form) further ≡ Err e)
+
+-- `Leads` where nothing is told to what comes next
+abbrev pub LeadsBehind : {A : Type 0} → Result A Refusal → (Want → Want) → Cursor → Cursor → Type 0
+LeadsBehind (Ok x) want before after = (w : Want) → from before (want w) ≡ from after w
+LeadsBehind (Err e) want before after = Fails e ((w : Want) → told (from before (want w)) ≡ Err e)

@@ -1,0 +1,64 @@
+ghost use Rattle.std.specs.Prelude.{◌≡◌, ◌≢◌, ◌≤◌, ◌<◌, suc, length, OnOk, IfOk};
+ghost use Rattle.pb_prog.specs.Kinds.{name_in};
+ghost use Rattle.pb_prog.specs.declared.kind.Kind.TheVariants as k;
+ghost use Rattle.pb_parser.specs.Numbers.{same};
+ghost use Rattle.pb_parser.specs.Next.{next_kind, next_place};
+ghost use Rattle.pb_parser.specs.Want.{name_token, bracket, a_sign, word};
+ghost use Rattle.pb_parser.specs.Leads.{Leads, LeadsOn};
+
+use crate::cursor::{Cursor, name_in};
+use pb_prog::{Item, Kind, Name, Refusal};
+use std::alloc::Global;
+
+/// Takes a bracket of this kind where so many are open, and gives how many are open behind it.
+#[tactic(auto, using(crate::proofs::ReadLemmas::fails_then, crate::proofs::ReadLemmas::unlimited, crate::proofs::ReadLemmas::over_token, crate::proofs::ReadLemmas::bad_token))]
+pub(crate) fn open(cursor: &mut Cursor<'_>, kind: Kind, depth: u32) -> Result<u32, Refusal>
+    requires known { kind ≢ k.End }
+    requires nested { depth ≤ 32 }
+    ensures leads { LeadsOn result (bracket depth kind) cursor.old cursor.new }
+    ensures deeper { OnOk result (depth < 32) }
+    ensures depth { IfOk result (λ d. d ≡ suc depth) }
+    ensures shorter { OnOk result (length cursor.new.rest.now < length cursor.old.rest.now) }
+{
+    if depth < 32 {
+        cursor.expect(kind)?;
+        return Ok(depth + 1);
+    }
+    if cursor.sees(kind) {
+        return Err(cursor.over(Item::Nesting));
+    }
+    Err(cursor.bad())
+}
+
+/// Takes a sign.
+#[tactic(auto, using(crate::proofs::ReadLemmas::fails_then))]
+pub(crate) fn sign(cursor: &mut Cursor<'_>, kind: Kind) -> Result<(), Refusal>
+    requires known { kind ≢ k.End }
+    ensures leads { LeadsOn result (a_sign kind) cursor.old cursor.new }
+    ensures shorter { OnOk result (length cursor.new.rest.now < length cursor.old.rest.now) }
+{
+    cursor.expect(kind)?;
+    Ok(())
+}
+
+/// Takes a name.
+#[tactic(auto, using(crate::proofs::ReadLemmas::fails_then), unfolding(crate::specs::Want::name_token))]
+pub(crate) fn name(alloc: Global, cursor: &mut Cursor<'_>) -> Result<Name, Refusal>
+    ensures leads { Leads (λ n. n) result name_token cursor.old cursor.new }
+    ensures shorter { OnOk result (length cursor.new.rest.now < length cursor.old.rest.now) }
+{
+    name_in(alloc, cursor.expect(Kind::Name)?)
+}
+
+/// Takes this very name.
+#[tactic(auto, using(crate::proofs::ReadLemmas::word_taken, crate::proofs::ReadLemmas::word_else, crate::proofs::ReadLemmas::next_is_not_end))]
+pub(crate) fn word(cursor: &mut Cursor<'_>, of: &[u8]) -> Result<(), Refusal>
+    ensures leads { LeadsOn result (word of.now) cursor.old cursor.new }
+    ensures shorter { OnOk result (length cursor.new.rest.now < length cursor.old.rest.now) }
+{
+    if cursor.next_is(of) {
+        cursor.take();
+        return Ok(());
+    }
+    Err(cursor.bad())
+}

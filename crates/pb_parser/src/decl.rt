@@ -1,0 +1,152 @@
+ghost use Rattle.std.specs.Prelude.{◌≡◌, ◌+◌, ◌<◌, ◌≤◌, [], ◌∷◌, length, OnOk, IfOk};
+ghost use Rattle.pb_parser.specs.Want.{a_decl, decls, through, minimum, minimums, more_minimums};
+ghost use Rattle.pb_prog.specs.Limits.{counted};
+ghost use Rattle.pb_parser.specs.Dims.{sizes_known, after_dims};
+ghost use Rattle.pb_parser.specs.Leads.{Leads};
+
+use crate::begin::begin_name;
+use crate::cursor::{Cursor, name_in};
+use crate::dims::counted_dims;
+use crate::form::small;
+use pb_prog::{DeclText, Item, Kind, Name, Refusal};
+use std::alloc::Global;
+
+const MOST_MATRICES: usize = 16;
+
+const MOST_MINIMUMS: usize = 8;
+
+fn no_sizes(alloc: Global, sized: bool) -> Option<Vec<Name>>
+    ensures { sizes_known result ≡ counted sized [] }
+{
+    if sized {
+        return Some(Vec::new(alloc));
+    }
+    None
+}
+
+fn decl(
+    alloc: Global,
+    cursor: &mut Cursor<'_>,
+    before: usize,
+    known: &mut Option<Vec<Name>>,
+) -> Result<DeclText, Refusal>
+    ensures leads { Leads (λ d. d) result (a_decl before (sizes_known known.old)) cursor.old cursor.new }
+    ensures counted { IfOk result (λ d. sizes_known known.new ≡ after_dims (sizes_known known.old) d.dims) }
+    ensures within { OnOk result (before < 16) }
+    ensures shorter { OnOk result (length cursor.new.rest.now < length cursor.old.rest.now) }
+{
+    let name = name_in(
+        alloc,
+        begin_name(cursor, MOST_MATRICES, before, Item::Matrices)?,
+    )?;
+    cursor.expect(Kind::OpenBracket)?;
+    let dims = counted_dims(alloc, cursor, known)?;
+    Ok(DeclText { name, dims })
+}
+
+/// Matrices, of which so many of the transform stand before; `sized` where names that stand alone as their
+/// dimensions are counted.
+#[tactic(auto, using(crate::proofs::DeclLemmas::counted_more))]
+pub(crate) fn decls(
+    alloc: Global,
+    cursor: &mut Cursor<'_>,
+    before: usize,
+    sized: bool,
+) -> Result<Vec<DeclText>, Refusal>
+    requires { before ≤ 16 }
+    ensures leads { Leads (λ v. v.items) result (decls before sized) cursor.old cursor.new }
+    ensures within { IfOk result (λ v. before + length v.items ≤ 16) }
+    ensures shorter { OnOk result (length cursor.new.rest.now < length cursor.old.rest.now) }
+{
+    let mut known = no_sizes(alloc, sized);
+    let mut found = Vec::new(alloc);
+    found.push(decl(alloc, cursor, before, &mut known)?)?;
+    loop {
+        match cursor.peek() {
+            Kind::Comma => {}
+            _ => return Ok(found),
+        }
+        cursor.take();
+        let further = decl(alloc, cursor, before + found.len(), &mut known)?;
+        found.push(further)?;
+    }
+}
+
+/// `through` and matrices, or none, and `to`.
+pub(crate) fn through(
+    alloc: Global,
+    cursor: &mut Cursor<'_>,
+    before: usize,
+) -> Result<Vec<DeclText>, Refusal>
+    requires { before ≤ 16 }
+    ensures leads { Leads (λ v. v.items) result (through before) cursor.old cursor.new }
+    ensures within { IfOk result (λ v. before + length v.items ≤ 16) }
+    ensures shorter { OnOk result (length cursor.new.rest.now < length cursor.old.rest.now) }
+{
+    match cursor.peek() {
+        Kind::Through => {
+            cursor.take();
+            let kept = decls(alloc, cursor, before, false)?;
+            cursor.expect(Kind::To)?;
+            Ok(kept)
+        }
+        Kind::To => {
+            cursor.take();
+            Ok(Vec::new(alloc))
+        }
+        _ => Err(cursor.bad()),
+    }
+}
+
+fn minimum(alloc: Global, cursor: &mut Cursor<'_>, before: usize) -> Result<(Name, u64), Refusal>
+    ensures leads { Leads (λ m. m) result (minimum before) cursor.old cursor.new }
+    ensures shorter { OnOk result (length cursor.new.rest.now < length cursor.old.rest.now) }
+{
+    let name = name_in(
+        alloc,
+        begin_name(cursor, MOST_MINIMUMS, before, Item::Minimums)?,
+    )?;
+    cursor.expect(Kind::GreaterOrEqual)?;
+    let least = small(cursor)?;
+    Ok((name, least))
+}
+
+fn some_minimums(alloc: Global, cursor: &mut Cursor<'_>) -> Result<Vec<(Name, u64)>, Refusal>
+    ensures leads { Leads (λ v. v.items) result (λ f. minimum 0 (λ m. more_minimums (m ∷ []) f)) cursor.old cursor.new }
+    ensures shorter { OnOk result (length cursor.new.rest.now < length cursor.old.rest.now) }
+{
+    let mut found = Vec::new(alloc);
+    found.push(minimum(alloc, cursor, 0)?)?;
+    loop {
+        match cursor.peek() {
+            Kind::Comma => {
+                cursor.take();
+                let further = minimum(alloc, cursor, found.len())?;
+                found.push(further)?;
+            }
+            Kind::From => {
+                cursor.take();
+                return Ok(found);
+            }
+            _ => return Err(cursor.bad()),
+        }
+    }
+}
+
+/// `where` and least values of sizes, or none, and `from`.
+pub(crate) fn minimums(alloc: Global, cursor: &mut Cursor<'_>) -> Result<Vec<(Name, u64)>, Refusal>
+    ensures leads { Leads (λ v. v.items) result minimums cursor.old cursor.new }
+    ensures shorter { OnOk result (length cursor.new.rest.now < length cursor.old.rest.now) }
+{
+    match cursor.peek() {
+        Kind::Where => {
+            cursor.take();
+            some_minimums(alloc, cursor)
+        }
+        Kind::From => {
+            cursor.take();
+            Ok(Vec::new(alloc))
+        }
+        _ => Err(cursor.bad()),
+    }
+}

@@ -1,0 +1,270 @@
+ghost use Rattle.std.specs.Prelude.{◌≡◌, ◌<◌, ◌≤◌, [], ◌∷◌, length, map, OnOk};
+ghost use Rattle.pb_prog.specs.Trees.{bare_rule};
+ghost use Rattle.pb_prog.specs.declared.refusal.Item.TheVariants.{Conditions, Rules};
+ghost use Rattle.pb_prog.specs.declared.kind.Kind.TheVariants.{To};
+ghost use Rattle.pb_parser.specs.Want.{a_use, uses, rules, reads, condition, conditions, more_conditions, relation, form, begin, after_mark, a_sign, rule};
+ghost use Rattle.pb_prog.specs.Limits.{limited};
+ghost use Rattle.pb_parser.specs.Leads.{Leads};
+
+use crate::begin::begin_name;
+use crate::cursor::{Cursor, name_in};
+use crate::form::{form, small};
+use crate::statement::statements;
+use crate::view::view_or_none;
+use pb_prog::{CondText, FormText, Item, Kind, MarkText, Refusal, Relation, RuleText, UseText};
+use std::alloc::Global;
+
+const MOST_USES: usize = 16;
+
+const MOST_CONDITIONS: usize = 16;
+
+const MOST_RULES: usize = 32;
+
+fn one_use(
+    alloc: Global,
+    cursor: &mut Cursor<'_>,
+    what: Item,
+    before: usize,
+) -> Result<UseText, Refusal>
+    ensures leads { Leads (λ u. u) result (a_use what before) cursor.old cursor.new }
+    ensures shorter { OnOk result (length cursor.new.rest.now < length cursor.old.rest.now) }
+{
+    let matrix = name_in(alloc, begin_name(cursor, MOST_USES, before, what)?)?;
+    let view = view_or_none(alloc, cursor)?;
+    let bound = name_in(alloc, cursor.expect(Kind::Name)?)?;
+    Ok(UseText {
+        matrix,
+        view,
+        bound,
+    })
+}
+
+fn uses(alloc: Global, cursor: &mut Cursor<'_>, what: Item) -> Result<Vec<UseText>, Refusal>
+    ensures leads { Leads (λ v. v.items) result (uses what) cursor.old cursor.new }
+    ensures shorter { OnOk result (length cursor.new.rest.now < length cursor.old.rest.now) }
+{
+    let mut found = Vec::new(alloc);
+    found.push(one_use(alloc, cursor, what, 0)?)?;
+    loop {
+        match cursor.peek() {
+            Kind::Comma => {
+                cursor.take();
+                let further = one_use(alloc, cursor, what, found.len())?;
+                found.push(further)?;
+            }
+            Kind::Close => {
+                cursor.take();
+                return Ok(found);
+            }
+            _ => return Err(cursor.bad()),
+        }
+    }
+}
+
+#[tactic(auto, using(crate::proofs::RuleLemmas::some_reads))]
+fn reads(alloc: Global, cursor: &mut Cursor<'_>) -> Result<Vec<UseText>, Refusal>
+    ensures leads { Leads (λ v. v.items) result reads cursor.old cursor.new }
+    ensures shorter { OnOk result (length cursor.new.rest.now < length cursor.old.rest.now) }
+{
+    match cursor.peek() {
+        Kind::Close => {
+            cursor.take();
+            Ok(Vec::new(alloc))
+        }
+        _ => uses(alloc, cursor, Item::Reads),
+    }
+}
+
+fn relation(cursor: &mut Cursor<'_>) -> Result<Relation, Refusal>
+    ensures leads { Leads (λ r. r) result relation cursor.old cursor.new }
+    ensures shorter { OnOk result (length cursor.new.rest.now < length cursor.old.rest.now) }
+{
+    match cursor.peek() {
+        Kind::Less => {
+            cursor.take();
+            Ok(Relation::Less)
+        }
+        Kind::LessOrEqual => {
+            cursor.take();
+            Ok(Relation::LessOrEqual)
+        }
+        Kind::Greater => {
+            cursor.take();
+            Ok(Relation::Greater)
+        }
+        Kind::GreaterOrEqual => {
+            cursor.take();
+            Ok(Relation::GreaterOrEqual)
+        }
+        Kind::Equal => {
+            cursor.take();
+            Ok(Relation::Equal)
+        }
+        _ => Err(cursor.bad()),
+    }
+}
+
+#[tactic(auto, using(crate::proofs::BeginLemmas::begin_within))]
+fn begin_form(alloc: Global, cursor: &mut Cursor<'_>, before: usize) -> Result<FormText, Refusal>
+    ensures leads { Leads (λ x. x) result (λ f. begin (limited 16 before Conditions) (form f)) cursor.old cursor.new }
+    ensures shorter { OnOk result (length cursor.new.rest.now < length cursor.old.rest.now) }
+{
+    if before < MOST_CONDITIONS {
+        return form(alloc, cursor);
+    }
+    match cursor.peek() {
+        Kind::Minus => Err(cursor.over(Item::Conditions)),
+        Kind::Number => Err(cursor.over(Item::Conditions)),
+        Kind::Name => Err(cursor.over(Item::Conditions)),
+        _ => Err(cursor.bad()),
+    }
+}
+
+fn condition(alloc: Global, cursor: &mut Cursor<'_>, before: usize) -> Result<CondText, Refusal>
+    ensures leads { Leads (λ c. c) result (condition before) cursor.old cursor.new }
+    ensures shorter { OnOk result (length cursor.new.rest.now < length cursor.old.rest.now) }
+{
+    let left = begin_form(alloc, cursor, before)?;
+    let relation = relation(cursor)?;
+    let right = form(alloc, cursor)?;
+    Ok(CondText {
+        left,
+        relation,
+        right,
+    })
+}
+
+fn some_conditions(alloc: Global, cursor: &mut Cursor<'_>) -> Result<Vec<CondText>, Refusal>
+    ensures leads { Leads (λ v. v.items) result (λ f. condition 0 (λ c. more_conditions (c ∷ []) f)) cursor.old cursor.new }
+    ensures shorter { OnOk result (length cursor.new.rest.now < length cursor.old.rest.now) }
+{
+    let mut found = Vec::new(alloc);
+    found.push(condition(alloc, cursor, 0)?)?;
+    loop {
+        match cursor.peek() {
+            Kind::Comma => {
+                cursor.take();
+                let further = condition(alloc, cursor, found.len())?;
+                found.push(further)?;
+            }
+            Kind::OpenBrace => {
+                cursor.take();
+                return Ok(found);
+            }
+            _ => return Err(cursor.bad()),
+        }
+    }
+}
+
+fn conditions(alloc: Global, cursor: &mut Cursor<'_>) -> Result<Vec<CondText>, Refusal>
+    ensures leads { Leads (λ v. v.items) result conditions cursor.old cursor.new }
+    ensures shorter { OnOk result (length cursor.new.rest.now < length cursor.old.rest.now) }
+{
+    match cursor.peek() {
+        Kind::Where => {
+            cursor.take();
+            some_conditions(alloc, cursor)
+        }
+        Kind::OpenBrace => {
+            cursor.take();
+            Ok(Vec::new(alloc))
+        }
+        _ => Err(cursor.bad()),
+    }
+}
+
+#[tactic(auto, unfolding(crate::specs::Want::after_mark))]
+fn behind_mark(alloc: Global, cursor: &mut Cursor<'_>, mark: MarkText) -> Result<RuleText, Refusal>
+    ensures leads { Leads bare_rule result (after_mark mark) cursor.old cursor.new }
+    ensures shorter { OnOk result (length cursor.new.rest.now < length cursor.old.rest.now) }
+{
+    cursor.expect(Kind::Open)?;
+    let outs = uses(alloc, cursor, Item::Outputs)?;
+    cursor.expect(Kind::From)?;
+    cursor.expect(Kind::Open)?;
+    let reads = reads(alloc, cursor)?;
+    let conds = conditions(alloc, cursor)?;
+    let mut count = 0u32;
+    let stmts = statements(alloc, cursor, 1, &mut count)?;
+    Ok(RuleText {
+        mark,
+        outs,
+        reads,
+        conds,
+        stmts,
+    })
+}
+
+fn marked(alloc: Global, cursor: &mut Cursor<'_>, mark: MarkText) -> Result<RuleText, Refusal>
+    ensures leads { Leads bare_rule result (λ f. a_sign To (after_mark mark f)) cursor.old cursor.new }
+    ensures shorter { OnOk result (length cursor.new.rest.now < length cursor.old.rest.now) }
+{
+    cursor.expect(Kind::To)?;
+    behind_mark(alloc, cursor, mark)
+}
+
+fn rule(alloc: Global, cursor: &mut Cursor<'_>) -> Result<RuleText, Refusal>
+    ensures leads { Leads bare_rule result rule cursor.old cursor.new }
+    ensures shorter { OnOk result (length cursor.new.rest.now < length cursor.old.rest.now) }
+{
+    match cursor.peek() {
+        Kind::To => {
+            cursor.take();
+            behind_mark(alloc, cursor, MarkText::Unmarked)
+        }
+        Kind::Primary => {
+            cursor.take();
+            marked(alloc, cursor, MarkText::Primary)
+        }
+        Kind::Secondary => {
+            cursor.take();
+            marked(alloc, cursor, MarkText::Secondary)
+        }
+        Kind::Priority => {
+            cursor.take();
+            cursor.expect(Kind::Open)?;
+            let priority = small(cursor)?;
+            cursor.expect(Kind::Close)?;
+            marked(alloc, cursor, MarkText::Priority(priority))
+        }
+        _ => Err(cursor.bad()),
+    }
+}
+
+#[tactic(auto, using(crate::proofs::BeginLemmas::begin_within))]
+fn further_rule(alloc: Global, cursor: &mut Cursor<'_>, before: usize) -> Result<RuleText, Refusal>
+    ensures leads { Leads bare_rule result (λ f. begin (limited 32 before Rules) (rule f)) cursor.old cursor.new }
+    ensures shorter { OnOk result (length cursor.new.rest.now < length cursor.old.rest.now) }
+{
+    if before < MOST_RULES {
+        return rule(alloc, cursor);
+    }
+    match cursor.peek() {
+        Kind::To => Err(cursor.over(Item::Rules)),
+        Kind::Primary => Err(cursor.over(Item::Rules)),
+        Kind::Secondary => Err(cursor.over(Item::Rules)),
+        Kind::Priority => Err(cursor.over(Item::Rules)),
+        _ => Err(cursor.bad()),
+    }
+}
+
+/// The rules of a transform, and the `}` behind them.
+#[tactic(auto, using(crate::proofs::RuleLemmas::further_rule, crate::proofs::RuleLemmas::rules_more))]
+pub(crate) fn rules(alloc: Global, cursor: &mut Cursor<'_>) -> Result<Vec<RuleText>, Refusal>
+    ensures leads { Leads (λ v. map bare_rule v.items) result rules cursor.old cursor.new }
+    ensures shorter { OnOk result (length cursor.new.rest.now < length cursor.old.rest.now) }
+{
+    let mut found = Vec::new(alloc);
+    found.push(rule(alloc, cursor)?)?;
+    loop {
+        match cursor.peek() {
+            Kind::CloseBrace => {
+                cursor.take();
+                return Ok(found);
+            }
+            _ => {}
+        }
+        let further = further_rule(alloc, cursor, found.len())?;
+        found.push(further)?;
+    }
+}

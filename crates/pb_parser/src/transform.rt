@@ -1,0 +1,91 @@
+ghost use Rattle.std.specs.Prelude.{◌≡◌, ◌<◌, ◌⊎◌, ℕ, List, [], length, OnOk, IfOk, IfErr, MatchResult};
+ghost use Rattle.pb_prog.specs.declared.refusal.Item.{Item as AnItem};
+ghost use Rattle.pb_prog.specs.declared.refusal.Refusal.TheVariants.{BadSyntax, OverLimit, Memory};
+ghost use Rattle.pb_prog.specs.Trees.{Transform, bare_transform, bare_text};
+ghost use Rattle.pb_prog.specs.Grammar.{Program};
+ghost use Rattle.pb_prog.specs.TooMany.{in_program};
+ghost use Rattle.pb_prog.specs.Faults.{Accepted, RefusedTokens, BadSyntaxAt, OverLimitAt};
+ghost use Rattle.pb_prog.specs.declared.refusal.Item.TheVariants.{Transforms};
+ghost use Rattle.pb_parser.specs.Want.{a_transform, begin, program};
+ghost use Rattle.pb_prog.specs.Limits.{limited};
+ghost use Rattle.pb_parser.specs.Reading.{read};
+ghost use Rattle.pb_parser.specs.Leads.{Leads};
+ghost use Rattle.pb_parser.specs.Gives.{Gives};
+
+use crate::cursor::{Cursor, name_in};
+use crate::decl::{decls, minimums, through};
+use crate::rule::rules;
+use pb_prog::{Item, Kind, Refusal, Text, Token, TransformText};
+use std::alloc::Global;
+
+const MOST_TRANSFORMS: usize = 64;
+
+fn transform(alloc: Global, cursor: &mut Cursor<'_>) -> Result<TransformText, Refusal>
+    ensures leads { Leads bare_transform result a_transform cursor.old cursor.new }
+    ensures shorter { OnOk result (length cursor.new.rest.now < length cursor.old.rest.now) }
+{
+    cursor.expect(Kind::Transform)?;
+    let name = name_in(alloc, cursor.expect(Kind::Name)?)?;
+    let minimums = minimums(alloc, cursor)?;
+    let from = decls(alloc, cursor, 0, true)?;
+    let kept = through(alloc, cursor, from.len())?;
+    let to = decls(alloc, cursor, from.len() + kept.len(), false)?;
+    cursor.expect(Kind::OpenBrace)?;
+    let rules = rules(alloc, cursor)?;
+    Ok(TransformText {
+        name,
+        minimums,
+        from,
+        through: kept,
+        to,
+        rules,
+    })
+}
+
+#[tactic(auto, using(crate::proofs::BeginLemmas::begin_within))]
+fn further_transform(
+    alloc: Global,
+    cursor: &mut Cursor<'_>,
+    before: usize,
+) -> Result<TransformText, Refusal>
+    ensures leads { Leads bare_transform result (λ f. begin (limited 64 before Transforms) (a_transform f)) cursor.old cursor.new }
+    ensures shorter { OnOk result (length cursor.new.rest.now < length cursor.old.rest.now) }
+{
+    if before < MOST_TRANSFORMS {
+        return transform(alloc, cursor);
+    }
+    match cursor.peek() {
+        Kind::Transform => Err(cursor.over(Item::Transforms)),
+        _ => Err(cursor.bad()),
+    }
+}
+
+#[tactic(auto, using(crate::proofs::RuleLemmas::further_transform, crate::proofs::RuleLemmas::transforms_more))]
+fn read_program(alloc: Global, tokens: &[Token], end: u32) -> Result<Text, Refusal>
+    ensures read { Gives result (read end tokens.now program) }
+{
+    let mut cursor = Cursor { rest: tokens, end };
+    let mut transforms = Vec::new(alloc);
+    transforms.push(transform(alloc, &mut cursor)?)?;
+    while !cursor.rest.is_empty() {
+        let further = further_transform(alloc, &mut cursor, transforms.len())?;
+        transforms.push(further)?;
+    }
+    Ok(Text { transforms })
+}
+
+/// The tree of a text's tokens; `end` is the length of the text in bytes. `BadSyntax` with the place of the first token
+/// such that the tokens up to and with it begin no program, or `end` where all of them begin one; `OverLimit` where an
+/// item is too many before such a place, with the first item that is and the place where it begins.
+pub fn parse(alloc: Global, tokens: &[Token], end: u32) -> Result<Text, Refusal>
+    ensures found { IfOk result (λ t. Accepted (bare_text t) tokens.now) }
+    ensures refused { IfErr result (RefusedTokens tokens.now end) }
+    ensures complete { (tree : List Transform) (p : Program tree tokens.now) → in_program p ≡ []
+        → MatchResult result (λ t. bare_text t ≡ tree) (λ e. e ≡ Memory) }
+    ensures bad_syntax { (at : ℕ) → BadSyntaxAt tokens.now end at
+        → MatchResult result (λ _. ⊥) (λ e. (e ≡ BadSyntax at) ⊎ (e ≡ Memory)) }
+    ensures over_limit { (what : AnItem) (at : ℕ) → OverLimitAt tokens.now what at
+        → MatchResult result (λ _. ⊥) (λ e. (e ≡ OverLimit what at) ⊎ (e ≡ Memory)) }
+{
+    read_program(alloc, tokens, end)
+}

@@ -1,0 +1,136 @@
+ghost use Rattle.std.specs.Prelude.{◌≡◌, ◌<◌, ◌≤◌, length, OnOk};
+ghost use Rattle.pb_prog.specs.Kinds.{name_in};
+ghost use Rattle.pb_prog.specs.declared.kind.Kind.TheVariants.{Open, Close};
+ghost use Rattle.pb_prog.specs.declared.tree.view.ViewText.TheVariants.{Row, Column};
+ghost use Rattle.pb_parser.specs.Want.{form, a_sign, after_x, view_or_none, view_name};
+ghost use Rattle.pb_parser.specs.Reading.{between};
+ghost use Rattle.pb_parser.specs.Leads.{Leads};
+
+use crate::cursor::Cursor;
+use crate::form::form;
+use pb_prog::{Kind, Refusal, Token, TokenWhat, ViewText};
+use std::alloc::Global;
+
+/// The bytes of the name that a token is.
+pub(crate) fn word_in(token: &Token) -> &[u8]
+    ensures { result.now ≡ (name_in token.now).bytes }
+{
+    match &token.what {
+        TokenWhat::Word(name) => name.bytes(),
+        _ => &[],
+    }
+}
+
+fn row(alloc: Global, cursor: &mut Cursor<'_>) -> Result<ViewText, Refusal>
+    ensures leads { Leads (λ v. v) result (λ f. a_sign Open (form (λ y. a_sign Close (f (Row y))))) cursor.old cursor.new }
+    ensures shorter { OnOk result (length cursor.new.rest.now < length cursor.old.rest.now) }
+{
+    cursor.expect(Kind::Open)?;
+    let y = form(alloc, cursor)?;
+    cursor.expect(Kind::Close)?;
+    Ok(ViewText::Row(y))
+}
+
+fn column(alloc: Global, cursor: &mut Cursor<'_>) -> Result<ViewText, Refusal>
+    ensures leads { Leads (λ v. v) result (λ f. a_sign Open (form (λ x. a_sign Close (f (Column x))))) cursor.old cursor.new }
+    ensures shorter { OnOk result (length cursor.new.rest.now < length cursor.old.rest.now) }
+{
+    cursor.expect(Kind::Open)?;
+    let x = form(alloc, cursor)?;
+    cursor.expect(Kind::Close)?;
+    Ok(ViewText::Column(x))
+}
+
+fn cell(alloc: Global, cursor: &mut Cursor<'_>) -> Result<ViewText, Refusal>
+    ensures leads { Leads (λ v. v) result (λ f. a_sign Open (form (λ x. after_x x f))) cursor.old cursor.new }
+    ensures shorter { OnOk result (length cursor.new.rest.now < length cursor.old.rest.now) }
+{
+    cursor.expect(Kind::Open)?;
+    let x = form(alloc, cursor)?;
+    match cursor.peek() {
+        Kind::Comma => {
+            cursor.take();
+            let y = form(alloc, cursor)?;
+            cursor.expect(Kind::Close)?;
+            Ok(ViewText::Cell { x, y: Some(y) })
+        }
+        Kind::Close => {
+            cursor.take();
+            Ok(ViewText::Cell { x, y: None })
+        }
+        _ => Err(cursor.bad()),
+    }
+}
+
+fn region(alloc: Global, cursor: &mut Cursor<'_>) -> Result<ViewText, Refusal>
+    ensures leads { Leads (λ v. v) result between cursor.old cursor.new }
+    ensures shorter { OnOk result (length cursor.new.rest.now < length cursor.old.rest.now) }
+{
+    cursor.expect(Kind::Open)?;
+    let first = form(alloc, cursor)?;
+    cursor.expect(Kind::Comma)?;
+    let second = form(alloc, cursor)?;
+    match cursor.peek() {
+        Kind::Comma => {
+            cursor.take();
+            let third = form(alloc, cursor)?;
+            cursor.expect(Kind::Comma)?;
+            let fourth = form(alloc, cursor)?;
+            cursor.expect(Kind::Close)?;
+            Ok(ViewText::Region {
+                x0: first,
+                y0: second,
+                x1: third,
+                y1: fourth,
+            })
+        }
+        Kind::Close => {
+            cursor.take();
+            Ok(ViewText::Between {
+                low: first,
+                high: second,
+            })
+        }
+        _ => Err(cursor.bad()),
+    }
+}
+
+fn view(alloc: Global, cursor: &mut Cursor<'_>) -> Result<ViewText, Refusal>
+    ensures leads { Leads (λ v. v) result view_name cursor.old cursor.new }
+    ensures shorter { OnOk result (length cursor.new.rest.now < length cursor.old.rest.now) }
+{
+    match cursor.peek() {
+        Kind::Name => {
+            let bad = cursor.bad();
+            let word = word_in(cursor.take());
+            if word == b"cell".as_slice() {
+                return cell(alloc, cursor);
+            }
+            if word == b"row".as_slice() {
+                return row(alloc, cursor);
+            }
+            if word == b"column".as_slice() {
+                return column(alloc, cursor);
+            }
+            if word == b"region".as_slice() {
+                return region(alloc, cursor);
+            }
+            Err(bad)
+        }
+        _ => Err(cursor.bad()),
+    }
+}
+
+/// `.` and a view, or the whole matrix where no `.` comes next.
+pub(crate) fn view_or_none(alloc: Global, cursor: &mut Cursor<'_>) -> Result<ViewText, Refusal>
+    ensures leads { Leads (λ v. v) result view_or_none cursor.old cursor.new }
+    ensures shorter { OnOk result (length cursor.new.rest.now ≤ length cursor.old.rest.now) }
+{
+    match cursor.peek() {
+        Kind::Dot => {
+            cursor.take();
+            view(alloc, cursor)
+        }
+        _ => Ok(ViewText::Whole),
+    }
+}
