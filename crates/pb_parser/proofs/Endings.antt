@@ -21,7 +21,7 @@ use Rattle.pb_prog.specs.Grammar.{no_comma, no_minimums, IsTerm, number_term, na
 use Rattle.pb_parser.specs.Want as w
 use Rattle.pb_parser.specs.Want.{Want, a_sign, bracket, token}
 use Rattle.pb_parser.specs.Reading.{term_of}
-use Rattle.pb_parser.proofs.Spelled.{Fits, FitsWord, Spelled}
+use Rattle.pb_parser.proofs.Spelled.{put, Fits, FitsWord, Spelled}
 use Rattle.pb_prog.specs.declared.token.TokenWhat.TheVariants as what
 
 abbrev a_word : List ℕ → Token
@@ -142,180 +142,106 @@ completes (w.word n v) = let r = completes v in
 completes (w.begin m v) = let r = completes v in record { tokens = r.tokens; tree = r.tree; spelled = r.spelled }
 completes (w.more_transforms xs) = record { tokens = []; tree = xs; spelled = ([], (no_transforms, sym (append-nil xs))) }
 completes (w.minimums f) = let r = completes (f []) in
-    record { tokens = token_of k.From ∷ r.tokens; tree = r.tree; spelled = ([], (token_of k.From ∷ r.tokens, (no_minimums, (refl, r.spelled)))) }
+    record { tokens = token_of k.From ∷ r.tokens; tree = r.tree; spelled = (put [] (token_of k.From ∷ r.tokens) no_minimums (refl, r.spelled)) }
 completes (w.more_minimums xs f) = let r = completes (f (xs ++ [])) in
-    record { tokens = token_of k.From ∷ r.tokens; tree = r.tree; spelled = ([], (token_of k.From ∷ r.tokens, (no_comma, (refl, r.spelled)))) }
+    record { tokens = token_of k.From ∷ r.tokens; tree = r.tree; spelled = (put [] (token_of k.From ∷ r.tokens) no_comma (refl, r.spelled)) }
 completes (w.more_decls n from xs f) = let r = completes (f (xs ++ [])) in
-    record { tokens = r.tokens; tree = r.tree; spelled = ([], (r.tokens, (no_comma, r.spelled))) }
+    record { tokens = r.tokens; tree = r.tree; spelled = (put [] r.tokens no_comma r.spelled) }
 completes (w.through n f) = let r = completes (f []) in
-    record { tokens = token_of k.To ∷ r.tokens; tree = r.tree; spelled = ([], (token_of k.To ∷ r.tokens, (no_through, (refl, r.spelled)))) }
+    record { tokens = token_of k.To ∷ r.tokens; tree = r.tree; spelled = (put [] (token_of k.To ∷ r.tokens) no_through (refl, r.spelled)) }
 completes (w.after_dim known e f) = let r = completes (f (e ∷ [])) in
-    record { tokens = the_sign 5 ∷ r.tokens; tree = r.tree; spelled = (e ∷ [], (r.tokens, ((λ all i. one_dim i refl), r.spelled))) }
+    record { tokens = the_sign 5 ∷ r.tokens; tree = r.tree; spelled = (put (e ∷ []) r.tokens (λ all i. one_dim i refl) r.spelled) }
 completes (w.last_dim known e v) = let r = completes v in record { tokens = the_sign 5 ∷ r.tokens; tree = r.tree; spelled = (refl, r.spelled) }
-completes (w.rule f) = let r = completes (f the_rule) in record { tokens = rule_tokens r.tokens; tree = r.tree; spelled = (the_rule, (r.tokens, (a_small_rule, r.spelled))) }
+completes (w.rule f) = let r = completes (f the_rule) in record { tokens = rule_tokens r.tokens; tree = r.tree; spelled = (put the_rule r.tokens a_small_rule r.spelled) }
 completes (w.more_rules xs f) = let r = completes (f (xs ++ [])) in
-    record { tokens = the_sign 3 ∷ r.tokens; tree = r.tree; spelled = ([], (the_sign 3 ∷ r.tokens, (no_rules, (refl, r.spelled)))) }
+    record { tokens = the_sign 3 ∷ r.tokens; tree = r.tree; spelled = (put [] (the_sign 3 ∷ r.tokens) no_rules (refl, r.spelled)) }
 completes (w.small f) = let r = completes (f 2) in record { tokens = a_number_token 2 ∷ r.tokens; tree = r.tree; spelled = (refl, r.spelled) }
 completes (w.more_uses what xs f) = let r = completes (f (xs ++ [])) in
-    record { tokens = the_sign 1 ∷ r.tokens; tree = r.tree; spelled = ([], (the_sign 1 ∷ r.tokens, (no_comma, (refl, r.spelled)))) }
+    record { tokens = the_sign 1 ∷ r.tokens; tree = r.tree; spelled = (put [] (the_sign 1 ∷ r.tokens) no_comma (refl, r.spelled)) }
 completes (w.reads f) = let r = completes (f []) in
-    record { tokens = the_sign 1 ∷ r.tokens; tree = r.tree; spelled = ([], (the_sign 1 ∷ r.tokens, (no_reads, (refl, r.spelled)))) }
+    record { tokens = the_sign 1 ∷ r.tokens; tree = r.tree; spelled = (put [] (the_sign 1 ∷ r.tokens) no_reads (refl, r.spelled)) }
 completes (w.conditions f) = let r = completes (f []) in
-    record { tokens = the_sign 2 ∷ r.tokens; tree = r.tree; spelled = ([], (the_sign 2 ∷ r.tokens, (no_conds, (refl, r.spelled)))) }
+    record { tokens = the_sign 2 ∷ r.tokens; tree = r.tree; spelled = (put [] (the_sign 2 ∷ r.tokens) no_conds (refl, r.spelled)) }
 completes (w.more_conditions xs f) = let r = completes (f (xs ++ [])) in
-    record { tokens = the_sign 2 ∷ r.tokens; tree = r.tree; spelled = ([], (the_sign 2 ∷ r.tokens, (no_comma, (refl, r.spelled)))) }
-completes (w.view_or_none f) = let r = completes (f view.Whole) in record { tokens = r.tokens; tree = r.tree; spelled = (view.Whole, (r.tokens, (whole, r.spelled))) }
+    record { tokens = the_sign 2 ∷ r.tokens; tree = r.tree; spelled = (put [] (the_sign 2 ∷ r.tokens) no_comma (refl, r.spelled)) }
+completes (w.view_or_none f) = let r = completes (f view.Whole) in record { tokens = r.tokens; tree = r.tree; spelled = (put view.Whole r.tokens whole r.spelled) }
 completes (w.view_name f) = let r = completes (f (view.Row a_form)) in
     record {
       tokens = a_word (codes "row") ∷ the_sign 0 ∷ a_number_token 2 ∷ the_sign 1 ∷ r.tokens;
       tree = r.tree;
-      spelled = (view.Row a_form, (r.tokens, ((λ d i. row i (refl, refl) refl one_form refl), r.spelled)));
+      spelled = (put (view.Row a_form) r.tokens (λ d i. row i (refl, refl) refl one_form refl) r.spelled);
     }
 completes (w.after_x x f) = let r = completes (f (view.Cell x None)) in
-    record { tokens = the_sign 1 ∷ r.tokens; tree = r.tree; spelled = (view.Cell x None, (r.tokens, ((λ d n o all i j m a. cell_x i j m a refl), r.spelled))) }
+    record { tokens = the_sign 1 ∷ r.tokens; tree = r.tree; spelled = (put (view.Cell x None) r.tokens (λ d n o all i j m a. cell_x i j m a refl) r.spelled) }
 completes (w.after_high a b f) = let r = completes (f (view.Between a b)) in
-    record { tokens = the_sign 1 ∷ r.tokens; tree = r.tree; spelled = (view.Between a b, (r.tokens, ((λ d n o m all mid i j q x c y. region_2 i j q x c y refl), r.spelled))) }
-completes (w.form f) = let r = completes (f a_form) in record { tokens = a_number_token 2 ∷ r.tokens; tree = r.tree; spelled = (a_form, (r.tokens, (one_form, r.spelled))) }
+    record { tokens = the_sign 1 ∷ r.tokens; tree = r.tree; spelled = (put (view.Between a b) r.tokens (λ d n o m all mid i j q x c y. region_2 i j q x c y refl) r.spelled) }
+completes (w.form f) = let r = completes (f a_form) in record { tokens = a_number_token 2 ∷ r.tokens; tree = r.tree; spelled = (put a_form r.tokens one_form r.spelled) }
 completes (w.term m f) = let r = completes (f (term_of m 2 None 0)) in
-    record { tokens = a_number_token 2 ∷ r.tokens; tree = r.tree; spelled = (term_of m 2 None 0, (r.tokens, (number_term refl, r.spelled))) }
+    record { tokens = a_number_token 2 ∷ r.tokens; tree = r.tree; spelled = (put (term_of m 2 None 0) r.tokens (number_term refl) r.spelled) }
 completes (w.times m n f) = let r = completes (f (term_of m n None 0)) in record {
   tokens = r.tokens;
   tree = r.tree;
-  spelled = (
-    term_of m n None 0,
-    (
-      r.tokens,
-      ((λ u i e. subst (λ (a : ℕ). IsTerm m (term_of m a None 0) (u ∷ r.tokens) r.tokens) e (number_term i)), r.spelled),
-    ),
-  );
+  spelled = (put (term_of m n None 0) r.tokens (λ u i e. subst (λ (a : ℕ). IsTerm m (term_of m a None 0) (u ∷ r.tokens) r.tokens) e (number_term i)) r.spelled);
 }
 completes (w.quotient m n f) = let r = completes (f (term_of m 1 (Some n) 0)) in record {
   tokens = r.tokens;
   tree = r.tree;
-  spelled = (
-    term_of m 1 (Some n) 0,
-    (
-      r.tokens,
-      ((λ u i e. subst (λ (a : NameValue). IsTerm m (term_of m 1 (Some a) 0) (u ∷ r.tokens) r.tokens) e (name_term i)), r.spelled),
-    ),
-  );
+  spelled = (put (term_of m 1 (Some n) 0) r.tokens (λ u i e. subst (λ (a : NameValue). IsTerm m (term_of m 1 (Some a) 0) (u ∷ r.tokens) r.tokens) e (name_term i)) r.spelled);
 }
 completes (w.divisor f) = let r = completes (f 2) in record { tokens = a_number_token 2 ∷ r.tokens; tree = r.tree; spelled = (refl, omega arith, omega arith, r.spelled) }
-completes (w.more_terms xs f) = let r = completes (f (xs ++ [])) in record { tokens = r.tokens; tree = r.tree; spelled = ([], (r.tokens, (no_terms, r.spelled))) }
+completes (w.more_terms xs f) = let r = completes (f (xs ++ [])) in record { tokens = r.tokens; tree = r.tree; spelled = (put [] r.tokens no_terms r.spelled) }
 completes (w.relation f) = let r = completes (f relation.Less) in record { tokens = the_sign 13 ∷ r.tokens; tree = r.tree; spelled = (relation.Less, (refl, r.spelled)) }
 completes (w.statements d n found f) = let r = completes (f (found ++ []) n) in
-    record { tokens = the_sign 3 ∷ r.tokens; tree = r.tree; spelled = ([], (r.tokens, (no_stmt refl, (n, r.spelled)))) }
+    record { tokens = the_sign 3 ∷ r.tokens; tree = r.tree; spelled = (put [] r.tokens (no_stmt refl) (n, r.spelled)) }
 completes (w.statement d n f) = let r = completes (f (assign x_name one) n) in
     record {
       tokens = x_token ∷ the_sign 10 ∷ a_number_token 2 ∷ the_sign 7 ∷ r.tokens;
       tree = r.tree;
-      spelled = (assign x_name one, (r.tokens, (an_assignment {n = x_token} refl refl one_expr refl, (n, r.spelled))));
+      spelled = (put (assign x_name one) r.tokens (an_assignment {n = x_token} refl refl one_expr refl) (n, r.spelled));
     }
 completes (w.after_let d at n f) = let r = completes (f (let_number at n one)) in
     record {
       tokens = the_sign 10 ∷ a_number_token 2 ∷ the_sign 7 ∷ r.tokens;
       tree = r.tree;
-      spelled = (
-        let_number at n one,
-        (
-          r.tokens,
-          (
-            (λ u b i ea j en. subst (λ (a : Stmt). IsStmt a (u ∷ b ∷ the_sign 10 ∷ a_number_token 2 ∷ the_sign 7 ∷ r.tokens) r.tokens) (ap₂ (λ a m. let_number a m one) ea en)
-                (let_a_number i j refl one_expr refl)),
-            r.spelled,
-          ),
-        ),
-      );
+      spelled = (put (let_number at n one) r.tokens (λ u b i ea j en. subst (λ (a : Stmt). IsStmt a (u ∷ b ∷ the_sign 10 ∷ a_number_token 2 ∷ the_sign 7 ∷ r.tokens) r.tokens) (ap₂ (λ a m. let_number a m one) ea en) (let_a_number i j refl one_expr refl)) r.spelled);
     }
 completes (w.after_target d n f) = let r = completes (f (assign n one)) in
     record {
       tokens = the_sign 10 ∷ a_number_token 2 ∷ the_sign 7 ∷ r.tokens;
       tree = r.tree;
-      spelled = (
-        assign n one,
-        (
-          r.tokens,
-          ((λ u i e. subst (λ (a : NameValue). IsStmt (assign a one) (u ∷ the_sign 10 ∷ a_number_token 2 ∷ the_sign 7 ∷ r.tokens) r.tokens) e (an_assignment i refl one_expr refl)), r.spelled),
-        ),
-      );
+      spelled = (put (assign n one) r.tokens (λ u i e. subst (λ (a : NameValue). IsStmt (assign a one) (u ∷ the_sign 10 ∷ a_number_token 2 ∷ the_sign 7 ∷ r.tokens) r.tokens) e (an_assignment i refl one_expr refl)) r.spelled);
     }
 completes (w.more_targets d ns f) = let r = completes (f (call_stmt (ns ++ []) x_name (one ∷ []))) in
     record {
       tokens = the_sign 10 ∷ x_token ∷ the_sign 0 ∷ a_number_token 2 ∷ the_sign 1 ∷ the_sign 7 ∷ r.tokens;
       tree = r.tree;
-      spelled = (
-        call_stmt (ns ++ []) x_name (one ∷ []),
-        (
-          r.tokens,
-          (
-            record {
-              ms = [];
-              xs = one ∷ [];
-              e = the_sign 10;
-              c = x_token;
-              o = the_sign 0;
-              q = the_sign 7;
-              mid = a_number_token 2 ∷ the_sign 1 ∷ the_sign 7 ∷ r.tokens;
-              more = no_comma;
-              assign = refl;
-              called = refl;
-              opened = refl;
-              given = last_argument {c = the_sign 1} one_expr refl;
-              end = refl;
-              is = refl;
-            },
-            r.spelled,
-          ),
-        ),
-      );
+      spelled = (put (call_stmt (ns ++ []) x_name (one ∷ [])) r.tokens (record { ms = []; xs = one ∷ []; e = the_sign 10; c = x_token; o = the_sign 0; q = the_sign 7; mid = a_number_token 2 ∷ the_sign 1 ∷ the_sign 7 ∷ r.tokens; more = no_comma; assign = refl; called = refl; opened = refl; given = last_argument {c = the_sign 1} one_expr refl; end = refl; is = refl }) r.spelled);
     }
 completes (w.otherwise d n at e ss f) = let r = completes (f (if_stmt at e (stmts ss)) n) in
     record {
       tokens = r.tokens;
       tree = r.tree;
-      spelled = (
-        if_stmt at e (stmts ss),
-        (
-          r.tokens,
-          ((λ u o c all mid i ea j x q body. subst (λ (a : ℕ). IsStmt (if_stmt a e (stmts ss)) (u ∷ o ∷ all) r.tokens) ea (an_if i j x q body)), (n, r.spelled)),
-        ),
-      );
+      spelled = (put (if_stmt at e (stmts ss)) r.tokens (λ u o c all mid i ea j x q body. subst (λ (a : ℕ). IsStmt (if_stmt a e (stmts ss)) (u ∷ o ∷ all) r.tokens) ea (an_if i j x q body)) (n, r.spelled));
     }
-completes (w.factor d f) = let r = completes (f one) in record { tokens = a_number_token 2 ∷ r.tokens; tree = r.tree; spelled = (one, (r.tokens, (unsigned one_prim, r.spelled))) }
-completes (w.primary d f) = let r = completes (f one) in record { tokens = a_number_token 2 ∷ r.tokens; tree = r.tree; spelled = (one, (r.tokens, (one_prim, r.spelled))) }
+completes (w.factor d f) = let r = completes (f one) in record { tokens = a_number_token 2 ∷ r.tokens; tree = r.tree; spelled = (put one r.tokens (unsigned one_prim) r.spelled) }
+completes (w.primary d f) = let r = completes (f one) in record { tokens = a_number_token 2 ∷ r.tokens; tree = r.tree; spelled = (put one r.tokens one_prim r.spelled) }
 completes (w.after_name d n f) = let r = completes (f (name n)) in record {
   tokens = r.tokens;
   tree = r.tree;
-  spelled = (
-    name n,
-    (
-      r.tokens,
-      ((λ u i e. subst (λ (a : NameValue). IsPrim (name a) (u ∷ r.tokens) r.tokens) e (the_name i)), r.spelled),
-    ),
-  );
+  spelled = (put (name n) r.tokens (λ u i e. subst (λ (a : NameValue). IsPrim (name a) (u ∷ r.tokens) r.tokens) e (the_name i)) r.spelled);
 }
 completes (w.member d n f) = let r = completes (f (width n)) in
     record {
       tokens = a_word (codes "width") ∷ the_sign 0 ∷ the_sign 1 ∷ r.tokens;
       tree = r.tree;
-      spelled = (
-        width n,
-        (
-          r.tokens,
-          (
-            (λ u q i e j. subst (λ (a : NameValue). IsPrim (width a) (u ∷ q ∷ a_word (codes "width") ∷ the_sign 0 ∷ the_sign 1 ∷ r.tokens) r.tokens) e
-                (width_of i j (refl, refl) refl refl)),
-            r.spelled,
-          ),
-        ),
-      );
+      spelled = (put (width n) r.tokens (λ u q i e j. subst (λ (a : NameValue). IsPrim (width a) (u ∷ q ∷ a_word (codes "width") ∷ the_sign 0 ∷ the_sign 1 ∷ r.tokens) r.tokens) e (width_of i j (refl, refl) refl refl)) r.spelled);
     }
 completes (w.arguments d f) = let r = completes (f []) in
-    record { tokens = the_sign 1 ∷ r.tokens; tree = r.tree; spelled = ([], (r.tokens, ((λ n o i j. call_of_none i j refl), r.spelled))) }
+    record { tokens = the_sign 1 ∷ r.tokens; tree = r.tree; spelled = (put [] r.tokens (λ n o i j. call_of_none i j refl) r.spelled) }
 completes (w.more_arguments d xs f) = let r = completes (f (xs ++ [])) in
-    record { tokens = the_sign 1 ∷ r.tokens; tree = r.tree; spelled = ([], (r.tokens, ((λ x all i. last_argument i refl), r.spelled))) }
+    record { tokens = the_sign 1 ∷ r.tokens; tree = r.tree; spelled = (put [] r.tokens (λ x all i. last_argument i refl) r.spelled) }
 completes (w.after_coordinate d x f) = let r = completes (f (x ∷ [])) in
-    record { tokens = the_sign 1 ∷ r.tokens; tree = r.tree; spelled = (x ∷ [], (r.tokens, ((λ all i. one_coordinate i refl), r.spelled))) }
+    record { tokens = the_sign 1 ∷ r.tokens; tree = r.tree; spelled = (put (x ∷ []) r.tokens (λ all i. one_coordinate i refl) r.spelled) }
 completes (w.more_operands p d x xs f) = let r = completes (f (chained p x (xs ++ []))) in
-    record { tokens = r.tokens; tree = r.tree; spelled = ([], (r.tokens, (no_operand, r.spelled))) }
-completes (w.comparison d e f) = let r = completes (f e) in record { tokens = r.tokens; tree = r.tree; spelled = (e, (r.tokens, ((λ all a. a_sum a), r.spelled))) }
+    record { tokens = r.tokens; tree = r.tree; spelled = (put [] r.tokens no_operand r.spelled) }
+completes (w.comparison d e f) = let r = completes (f e) in record { tokens = r.tokens; tree = r.tree; spelled = (put e r.tokens (λ all a. a_sum a) r.spelled) }

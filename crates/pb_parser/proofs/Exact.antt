@@ -24,7 +24,7 @@ use Rattle.pb_parser.specs.Want.{Want, program}
 use Rattle.pb_parser.specs.Reading.{Step, take, refuse, step, term_of, Verdict, accepted, bad, too_many, finish, on_with, read}
 use Rattle.pb_parser.proofs.Steps.{caught}
 use Rattle.pb_parser.proofs.ProgramLaws.{reads_program}
-use Rattle.pb_parser.proofs.Spelled.{Spelled}
+use Rattle.pb_parser.proofs.Spelled.{put, Spelled}
 use Rattle.pb_parser.proofs.Keeps.{spelled_program}
 use Rattle.pb_parser.proofs.Taken.{Kept, keeps}
 use Rattle.pb_parser.proofs.Endings.{completes}
@@ -130,22 +130,22 @@ module _ (end : ℕ) where
   finished (w.more_transforms ts) = ([], (no_transforms, sym (append-nil ts)))
   finished (w.begin m v) = finished_on (w.begin m v) v (finish end v) (λ tree s. s) (finished v)
   finished (w.more_decls n from ds f) = finished_on (w.more_decls n from ds f) (f ds) (finish end (f ds))
-      (λ tree s. ([], ([], (no_comma, subst (λ b. Spelled (f b) [] tree) (sym (append-nil ds)) s)))) (finished (f ds))
-  finished (w.view_or_none f) = finished_on (w.view_or_none f) (f view.Whole) (finish end (f view.Whole)) (λ tree s. (view.Whole, ([], (whole, s)))) (finished (f view.Whole))
+      (λ tree s. (put [] [] no_comma (subst (λ b. Spelled (f b) [] tree) (sym (append-nil ds)) s))) (finished (f ds))
+  finished (w.view_or_none f) = finished_on (w.view_or_none f) (f view.Whole) (finish end (f view.Whole)) (λ tree s. (put view.Whole [] whole s)) (finished (f view.Whole))
   finished (w.times m n f) = finished_on (w.times m n f) (f (term_of m n None 0)) (finish end (f (term_of m n None 0)))
-      (λ tree s. (term_of m n None 0, ([], ((λ u i e. subst (λ a. IsTerm m (term_of m a None 0) (u ∷ []) []) e (number_term i)), s)))) (finished (f (term_of m n None 0)))
+      (λ tree s. (put (term_of m n None 0) [] (λ u i e. subst (λ a. IsTerm m (term_of m a None 0) (u ∷ []) []) e (number_term i)) s)) (finished (f (term_of m n None 0)))
   finished (w.quotient m n f) = finished_on (w.quotient m n f) (f (term_of m 1 (Some n) 0)) (finish end (f (term_of m 1 (Some n) 0)))
-      (λ tree s. (term_of m 1 (Some n) 0, ([], ((λ u i e. subst (λ a. IsTerm m (term_of m 1 (Some a) 0) (u ∷ []) []) e (name_term i)), s)))) (finished (f (term_of m 1 (Some n) 0)))
+      (λ tree s. (put (term_of m 1 (Some n) 0) [] (λ u i e. subst (λ a. IsTerm m (term_of m 1 (Some a) 0) (u ∷ []) []) e (name_term i)) s)) (finished (f (term_of m 1 (Some n) 0)))
   finished (w.more_terms xs f) = finished_on (w.more_terms xs f) (f xs) (finish end (f xs))
-      (λ tree s. ([], ([], (no_terms, subst (λ b. Spelled (f b) [] tree) (sym (append-nil xs)) s)))) (finished (f xs))
+      (λ tree s. (put [] [] no_terms (subst (λ b. Spelled (f b) [] tree) (sym (append-nil xs)) s))) (finished (f xs))
   finished (w.otherwise d n at e ss f) = finished_on (w.otherwise d n at e ss f) (f (if_stmt at e (stmts ss)) n) (finish end (f (if_stmt at e (stmts ss)) n))
-      (λ tree s. (if_stmt at e (stmts ss), ([], ((λ u o c all mid i ea j x q body. subst (λ a. IsStmt (if_stmt a e (stmts ss)) (u ∷ o ∷ all) []) ea (an_if i j x q body)), (n, s)))))
+      (λ tree s. (put (if_stmt at e (stmts ss)) [] (λ u o c all mid i ea j x q body. subst (λ a. IsStmt (if_stmt a e (stmts ss)) (u ∷ o ∷ all) []) ea (an_if i j x q body)) (n, s)))
       (finished (f (if_stmt at e (stmts ss)) n))
   finished (w.after_name d n f) = finished_on (w.after_name d n f) (f (name n)) (finish end (f (name n)))
-      (λ tree s. (name n, ([], ((λ u i e. subst (λ a. IsPrim (name a) (u ∷ []) []) e (the_name i)), s)))) (finished (f (name n)))
+      (λ tree s. (put (name n) [] (λ u i e. subst (λ a. IsPrim (name a) (u ∷ []) []) e (the_name i)) s)) (finished (f (name n)))
   finished (w.more_operands p d x xs f) = finished_on (w.more_operands p d x xs f) (f (chained p x xs)) (finish end (f (chained p x xs)))
-      (λ tree s. ([], ([], (no_operand, subst (λ b. Spelled (f (chained p x b)) [] tree) (sym (append-nil xs)) s)))) (finished (f (chained p x xs)))
-  finished (w.comparison d e f) = finished_on (w.comparison d e f) (f e) (finish end (f e)) (λ tree s. (e, ([], ((λ all a. a_sum a), s)))) (finished (f e))
+      (λ tree s. (put [] [] no_operand (subst (λ b. Spelled (f (chained p x b)) [] tree) (sym (append-nil xs)) s))) (finished (f (chained p x xs)))
+  finished (w.comparison d e f) = finished_on (w.comparison d e f) (f e) (finish end (f e)) (λ tree s. (put e [] (λ all a. a_sum a) s)) (finished (f e))
   finished _ = refl
 
   begins_on : (front : List Token) (next : Want) → ((others : List Token) (tree : List Transform) → Spelled next others tree → Spelled program (front ++ others) tree) → Begins front

@@ -27,8 +27,15 @@ abbrev pub FitsWord : List ℕ → Token → Type 0
 FitsWord w t = IsWord w t ⊎ (bytes_eq w (codes "cell") ≡ false)
 
 -- something is spelled, and then something else
-abbrev pub Then : {A : Type 0} → (A → List Token → List Token → Type 0) → (A → List Token → Type 0) → List Token → Type 0
-Then {A} is further ts = (x : A) × ((rest : List Token) × (is x ts rest × further x rest))
+pub record Then {A : Type 0} (is : A → List Token → List Token → Type 0) (further : A → List Token → Type 0) (ts : List Token) : Type 0 where
+  pub value : A
+  pub rest : List Token
+  pub part : is value ts rest
+  pub more : further value rest
+
+abbrev pub put : {A : Type 0} {is : A → List Token → List Token → Type 0} {further : A → List Token → Type 0} {ts : List Token}
+    (x : A) (rest : List Token) → is x ts rest → further x rest → Then is further ts
+put x rest i h = record { value = x; rest = rest; part = i; more = h }
 
 -- something is spelled, then a token of a kind, and then something else
 abbrev pub Past : Kind → (List Token → Type 0) → List Token → Type 0

@@ -7,11 +7,9 @@ use Rattle.pb_prog.specs.declared.refusal.Refusal.{Refusal}
 use Rattle.pb_prog.specs.declared.refusal.Refusal.TheVariants.{OverLimit}
 use Rattle.pb_prog.specs.Forms.{FormValue}
 use Rattle.pb_prog.specs.Trees.{Transform}
-use Rattle.pb_parser.specs.Want.{Want}
 use Rattle.pb_prog.specs.Limits.{Sizes, after_form, sizes_in}
 use Rattle.pb_prog.specs.Limits.{Excess, excess_of}
-use Rattle.pb_parser.specs.declared.cursor.Cursor.{Cursor}
-use Rattle.pb_parser.specs.Leads.{Fails, from, told}
+use Rattle.pb_parser.specs.Leads.{Fails}
 
 abbrev pub names_of : List NameValue → List (List ℕ)
 names_of ns = map (λ (n : NameValue). n.bytes) ns
@@ -38,8 +36,3 @@ excess_told (Some x) further = Err (OverLimit x.what x.at)
 abbrev pub Counts : {A : Type 0} → Result A Refusal → Sizes → FormValue → Sizes → Type 0
 Counts (Ok x) before form after = (excess_of before form ≡ None) × (after ≡ after_form before form)
 Counts (Err e) before form after = Fails e ((further : Result (List Transform) Refusal) → excess_told (excess_of before form) further ≡ Err e)
-
--- `Leads` where nothing is told to what comes next
-abbrev pub LeadsBehind : {A : Type 0} → Result A Refusal → (Want → Want) → Cursor → Cursor → Type 0
-LeadsBehind (Ok x) want before after = (w : Want) → from before (want w) ≡ from after w
-LeadsBehind (Err e) want before after = Fails e ((w : Want) → told (from before (want w)) ≡ Err e)

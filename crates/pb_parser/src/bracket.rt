@@ -10,6 +10,8 @@ use crate::cursor::{Cursor, name_in};
 use pb_prog::{Item, Kind, Name, Refusal};
 use std::alloc::Global;
 
+const MOST_OPEN: u32 = 32;
+
 /// Takes a bracket of this kind where so many are open, and gives how many are open behind it.
 #[tactic(auto, using(crate::proofs::ReadLemmas::fails_then, crate::proofs::ReadLemmas::unlimited, crate::proofs::ReadLemmas::over_token, crate::proofs::ReadLemmas::bad_token))]
 pub(crate) fn open(cursor: &mut Cursor<'_>, kind: Kind, depth: u32) -> Result<u32, Refusal>
@@ -20,7 +22,7 @@ pub(crate) fn open(cursor: &mut Cursor<'_>, kind: Kind, depth: u32) -> Result<u3
     ensures depth { IfOk result (λ d. d ≡ suc depth) }
     ensures shorter { OnOk result (length cursor.new.rest.now < length cursor.old.rest.now) }
 {
-    if depth < 32 {
+    if depth < MOST_OPEN {
         cursor.expect(kind)?;
         return Ok(depth + 1);
     }

@@ -2,8 +2,8 @@ ghost use Rattle.std.specs.Prelude.{◌≡◌, ◌<◌, ◌≤◌, length, None,
 ghost use Rattle.pb_prog.specs.declared.refusal.Refusal.TheVariants.{Memory};
 ghost use Rattle.pb_parser.specs.Want.{form, dims_known, after_dim, last_dim};
 ghost use Rattle.pb_prog.specs.Limits.{after_form, alone, is_known};
-ghost use Rattle.pb_parser.specs.Dims.{name_seen, names_of, sizes_known, after_dims, Counts, LeadsBehind};
-ghost use Rattle.pb_parser.specs.Leads.{Leads};
+ghost use Rattle.pb_parser.specs.Dims.{name_seen, names_of, sizes_known, after_dims, Counts};
+ghost use Rattle.pb_parser.specs.Leads.{Leads, LeadsOn};
 
 use crate::cursor::Cursor;
 use crate::form::form;
@@ -74,7 +74,7 @@ fn last_dim(
     known: &mut Option<Vec<Name>>,
     form: &FormText,
 ) -> Result<(), Refusal>
-    ensures leads { LeadsBehind result (last_dim (sizes_known known.old) form.now) cursor.old cursor.new }
+    ensures leads { LeadsOn result (last_dim (sizes_known known.old) form.now) cursor.old cursor.new }
     ensures counted { OnOk result (sizes_known known.new ≡ after_form (sizes_known known.old) form.now) }
     ensures shorter { OnOk result (length cursor.new.rest.now < length cursor.old.rest.now) }
 {

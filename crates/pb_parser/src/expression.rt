@@ -19,6 +19,8 @@ use crate::make::{
 use pb_prog::{ExprText, Item, Kind, Level, Name, Operator, Refusal, Relation, Sign};
 use std::alloc::Global;
 
+const MOST_ARGUMENTS: usize = 16;
+
 /// What may stand behind a view's `.`.
 #[derive(Clone, Copy)]
 enum Part {
@@ -273,7 +275,7 @@ fn next_argument(
     ensures leads { Leads bare result (λ f. begin (limited 16 before Arguments) (expression depth f)) cursor.old cursor.new }
     ensures shorter { OnOk result (length cursor.new.rest.now < length cursor.old.rest.now) }
 {
-    if before < 16 {
+    if before < MOST_ARGUMENTS {
         return expression(alloc, cursor, depth);
     }
     Err(too_many(cursor))

@@ -20,6 +20,10 @@ use crate::make::{
 use pb_prog::{ExprText, FormText, Item, Kind, Name, Refusal, StmtText};
 use std::alloc::Global;
 
+const MOST_TARGETS: usize = 16;
+
+const MOST_STATEMENTS: u32 = 256;
+
 fn begins_statement(kind: Kind) -> bool
     ensures { result ≡ begins_statement kind }
 {
@@ -137,7 +141,7 @@ fn next_target(alloc: Global, cursor: &mut Cursor<'_>, before: usize) -> Result<
     ensures leads { Leads (λ n. n) result (λ f. begin (limited 16 before Targets) (name_token f)) cursor.old cursor.new }
     ensures shorter { OnOk result (length cursor.new.rest.now < length cursor.old.rest.now) }
 {
-    if before < 16 {
+    if before < MOST_TARGETS {
         return name(alloc, cursor);
     }
     if cursor.sees(Kind::Name) {
@@ -354,7 +358,7 @@ fn next_statement(
     ensures counted { OnOk result (count.new ≤ 256) }
     ensures shorter { OnOk result (length cursor.new.rest.now < length cursor.old.rest.now) }
 {
-    if *count < 256 {
+    if *count < MOST_STATEMENTS {
         return statement(alloc, cursor, depth, count);
     }
     Err(too_many(cursor))

@@ -8,6 +8,7 @@ use Rattle.pb_prog.specs.declared.kind.Kind.TheVariants as k
 use Rattle.pb_prog.specs.declared.tree.expression.Level.{Level}
 use Rattle.pb_prog.specs.declared.tree.expression.Level.TheVariants as level
 use Rattle.pb_prog.specs.declared.tree.expression.Operator.{Operator}
+use Rattle.pb_prog.specs.declared.tree.expression.Relation.{Relation}
 use Rattle.pb_prog.specs.declared.tree.expression.Sign.TheVariants as sign
 use Rattle.pb_prog.specs.declared.tree.form.TermText.{TermText}
 use Rattle.pb_prog.specs.declared.tree.view.ViewText.{ViewText}
@@ -131,7 +132,7 @@ pub data IsReads : List UseText → List Token → List Token → Type 0 where
 
 -- cond = form ( "<" | "<=" | ">" | ">=" | "==" ) form
 pub data IsCond : CondText → List Token → List Token → Type 0 where
-  a_cond : {a b : FormValue} {t : Token} {all mid rest : List Token} {r : _}
+  a_cond : {a b : FormValue} {t : Token} {all mid rest : List Token} {r : Relation}
       → IsForm a all (t ∷ mid) → condition_relation (kind_of t) ≡ Some r → IsForm b mid rest
       → IsCond (record { left = a; relation = r; right = b }) all rest
 
@@ -172,7 +173,7 @@ mutual
   -- comp = sum [ ( "<" | "<=" | ">" | ">=" | "==" | "!=" ) sum ]
   pub data IsComp : Expr → List Token → List Token → Type 0 where
     a_sum : {x : Expr} {all rest : List Token} → IsLine level.Sum x all rest → IsComp x all rest
-    two_sums : {x y : Expr} {t : Token} {all mid rest : List Token} {r : _}
+    two_sums : {x y : Expr} {t : Token} {all mid rest : List Token} {r : Relation}
         → IsLine level.Sum x all (t ∷ mid) → relation_of (kind_of t) ≡ Some r → IsLine level.Sum y mid rest
         → IsComp (compare x r y) all rest
 
