@@ -6,6 +6,8 @@ mod linear;
 #[cfg(test)]
 mod matrix;
 #[cfg(test)]
+mod programs;
+#[cfg(test)]
 mod tokens;
 #[cfg(test)]
 mod words;
