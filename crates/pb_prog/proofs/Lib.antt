@@ -1,2 +1,4 @@
 pub mod SignLemmas
 pub mod TestLemmas
+pub mod TreeLemmas
+pub mod WriterLemmas

@@ -1,4 +1,5 @@
 pub mod Bytes
+pub mod Canonical
 pub mod Exprs
 pub mod Faults
 pub mod Forms
@@ -8,8 +9,10 @@ pub mod Limits
 pub mod Operators
 pub mod Rules
 pub mod Signs
+pub mod Spelling
 pub mod Stmts
 pub mod Tokens
 pub mod TooMany
 pub mod Transforms
 pub mod Trees
+pub mod Writing

@@ -51,7 +51,7 @@ pub enum Kind {
     End,
 }
 
-fn word_kind(word: &Name) -> Kind
+pub(crate) fn word_kind(word: &Name) -> Kind
     ensures { result ≡ word_kind word.now.bytes }
 {
     let bytes = word.bytes();
@@ -94,7 +94,7 @@ fn word_kind(word: &Name) -> Kind
     Kind::Name
 }
 
-fn sign_kind(place: u8) -> Kind
+pub(crate) fn sign_kind(place: u8) -> Kind
     ensures { result ≡ sign_kind place }
 {
     match place {

@@ -5,6 +5,7 @@
 
 mod kind;
 mod laws;
+mod print;
 mod refusal;
 mod token;
 mod tree;
@@ -12,6 +13,7 @@ mod tree;
 pub use kind::{Kind, kind_of};
 pub use laws::signs_are_those_listed;
 pub use pb_values::Name;
+pub use print::print_text;
 pub use refusal::{Item, Refusal};
 pub use token::{Token, TokenWhat};
 pub use tree::{

@@ -1,0 +1,7 @@
+use Rattle.std.proofs.Common.{◌≡◌, drop}
+use Rattle.pb_prog.specs.Spelling.{with_commas, cond_tokens}
+use Rattle.pb_prog.specs.Writing.{puts, commas_from}
+use Rattle.pb_prog.proofs.print.writer.Writer.some_conds.Given as goal
+
+abbrev pub invariant-loop-next : goal.invariant-loop-next
+invariant-loop-next l = puts l.self (commas_from l.is_first cond_tokens (drop l.next-index l.some_conds)) ≡ puts l.initial.self (with_commas cond_tokens l.some_conds)

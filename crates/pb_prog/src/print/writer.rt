@@ -1,0 +1,244 @@
+ghost use Rattle.std.specs.Prelude.{◌≡◌, ◌+◌, ◌≤◌, ◌<◌, ◌^◌, ◌++◌, [], None, OnOk, length, slice_index_or};
+ghost use Rattle.pb_prog.specs.Canonical.{ends_line, joins_before, joins_behind, joins_both, joined, outside, indentation, space, depth_behind};
+ghost use Rattle.pb_prog.specs.Kinds.{word_kind};
+ghost use Rattle.pb_prog.specs.Signs.{signs};
+ghost use Rattle.pb_prog.specs.Spelling.{word, numeral, sign_at};
+ghost use Rattle.pb_prog.specs.Writing.{put, put_bytes};
+
+use crate::kind::{Kind, sign_kind, word_kind};
+use itoa::Buffer;
+use pb_values::Name;
+use std::alloc::{AllocError, Global};
+use std::marker::Model;
+
+/// Puts tokens one behind the other: the bytes so far, how many braces are open, and the last token.
+#[derive(Drop)]
+pub(crate) struct Writer {
+    text: Vec<u8>,
+    depth: usize,
+    last: Option<Kind>,
+}
+
+impl Model for Writer {
+    ghost use Rattle.std.specs.Prelude.{◌≤◌, length};
+    ghost use Rattle.pb_prog.specs.Writing.{WriterValue};
+
+    ghost Value = { WriterValue };
+
+    ghost view = { λ w. record { text = w.text.items; depth = w.depth; last = w.last } };
+
+    ghost invariant = { λ w. w.depth ≤ length w.text.items };
+}
+
+fn ends_line(kind: Kind) -> bool
+    ensures { result ≡ ends_line kind }
+{
+    match kind {
+        Kind::Semicolon | Kind::OpenBrace | Kind::CloseBrace => true,
+        _ => false,
+    }
+}
+
+fn joins_before(kind: Kind) -> bool
+    ensures { result ≡ joins_before kind }
+{
+    match kind {
+        Kind::Comma
+        | Kind::Semicolon
+        | Kind::Close
+        | Kind::CloseBracket
+        | Kind::Dot
+        | Kind::OpenBracket => true,
+        _ => false,
+    }
+}
+
+fn joins_behind(kind: Kind) -> bool
+    ensures { result ≡ joins_behind kind }
+{
+    match kind {
+        Kind::Open | Kind::OpenBracket | Kind::Dot => true,
+        _ => false,
+    }
+}
+
+fn joins_both(kind: Kind, next: Kind) -> bool
+    ensures { result ≡ joins_both kind next }
+{
+    match (kind, next) {
+        (Kind::Name, Kind::Open) => true,
+        (Kind::Priority, Kind::Open) => true,
+        _ => false,
+    }
+}
+
+/// Whether no blank stands between two tokens of a line.
+fn joined(kind: Kind, next: Kind) -> bool
+    ensures { result ≡ joined kind next }
+{
+    if joins_behind(kind) {
+        return true;
+    }
+    if joins_before(next) {
+        return true;
+    }
+    joins_both(kind, next)
+}
+
+fn outside(depth: usize, next: Kind) -> usize
+    ensures { result ≡ outside depth next }
+{
+    match next {
+        Kind::CloseBrace => depth.saturating_sub(1),
+        _ => depth,
+    }
+}
+
+fn depth_behind(depth: usize, kind: Kind) -> usize
+    requires { depth + 1 < 2 ^ 64 }
+    ensures { result ≡ depth_behind depth kind }
+{
+    match kind {
+        Kind::OpenBrace => depth + 1,
+        Kind::CloseBrace => depth.saturating_sub(1),
+        _ => depth,
+    }
+}
+
+#[tactic(auto, using(crate::proofs::WriterLemmas::indentation_more))]
+fn write_indentation(text: &mut Vec<u8>, depth: usize) -> Result<(), AllocError>
+    ensures written { OnOk result (text.new.items ≡ text.old.items ++ indentation depth) }
+    ensures kept { length text.old.items ≤ length text.new.items }
+{
+    for _ in 0..depth {
+        text.extend_from_slice(b"  ")?;
+    }
+    Ok(())
+}
+
+/// What stands before a token.
+#[tactic(auto, unfolding(crate::specs::Canonical::space))]
+fn write_space(
+    text: &mut Vec<u8>,
+    depth: usize,
+    last: Option<Kind>,
+    next: Kind,
+) -> Result<(), AllocError>
+    ensures written { OnOk result (text.new.items ≡ text.old.items ++ space depth last next) }
+    ensures kept { length text.old.items ≤ length text.new.items }
+{
+    match last {
+        None => write_indentation(text, outside(depth, next)),
+        Some(kind) => {
+            if ends_line(kind) {
+                return write_indentation(text, outside(depth, next));
+            }
+            if !joined(kind, next) {
+                text.push(b' ')?;
+            }
+            Ok(())
+        }
+    }
+}
+
+fn sign_bytes(place: u8) -> &'static [u8]
+    requires { place < 25 }
+    ensures { result.now ≡ slice_index_or signs place [] }
+{
+    match place {
+        0 => b"(",
+        1 => b")",
+        2 => b"{",
+        3 => b"}",
+        4 => b"[",
+        5 => b"]",
+        6 => b",",
+        7 => b";",
+        8 => b".",
+        9 => b"..",
+        10 => b"=",
+        11 => b"==",
+        12 => b"!=",
+        13 => b"<",
+        14 => b"<=",
+        15 => b">",
+        16 => b">=",
+        17 => b"+",
+        18 => b"-",
+        19 => b"*",
+        20 => b"/",
+        21 => b"%",
+        22 => b"&&",
+        23 => b"||",
+        _ => b"!",
+    }
+}
+
+impl Writer {
+    /// A writer of an empty text.
+    pub(crate) fn new(alloc: Global) -> Writer
+        ensures { result ≡ record { text = []; depth = 0; last = None } }
+    {
+        Writer {
+            text: Vec::new(alloc),
+            depth: 0,
+            last: None,
+        }
+    }
+
+    /// The text.
+    pub(crate) fn into_text(self) -> Vec<u8>
+        ensures { result.items ≡ self.text }
+    {
+        self.text
+    }
+
+    /// Puts a token of this kind with these bytes.
+    fn put(&mut self, kind: Kind, bytes: &[u8]) -> Result<(), AllocError>
+        ensures { OnOk result (self.new ≡ put_bytes self.old kind bytes.now) }
+    {
+        write_space(&mut self.text, self.depth, self.last, kind)?;
+        self.text.extend_from_slice(bytes)?;
+        if ends_line(kind) {
+            self.text.push(b'\n')?;
+        }
+        self.depth = depth_behind(self.depth, kind);
+        self.last = Some(kind);
+        Ok(())
+    }
+
+    /// Puts a keyword.
+    #[tactic(auto, unfolding(crate::specs::Writing::put))]
+    pub(crate) fn keyword(&mut self, kind: Kind, bytes: &[u8]) -> Result<(), AllocError>
+        requires { word_kind bytes.now ≡ kind }
+        ensures { OnOk result (self.new ≡ put self.old (word bytes.now)) }
+    {
+        self.put(kind, bytes)
+    }
+
+    /// Puts a name.
+    #[tactic(auto, unfolding(crate::specs::Writing::put))]
+    pub(crate) fn name(&mut self, name: &Name) -> Result<(), AllocError>
+        ensures { OnOk result (self.new ≡ put self.old (word name.now.bytes)) }
+    {
+        self.put(word_kind(name), name.bytes())
+    }
+
+    /// Puts a number.
+    #[tactic(auto, unfolding(crate::specs::Writing::put))]
+    pub(crate) fn number(&mut self, value: u64) -> Result<(), AllocError>
+        ensures { OnOk result (self.new ≡ put self.old (numeral value)) }
+    {
+        let mut buffer = Buffer::new();
+        self.put(Kind::Number, buffer.format(value).as_bytes())
+    }
+
+    /// Puts the sign at this place in the list of signs.
+    #[tactic(auto, unfolding(crate::specs::Writing::put))]
+    pub(crate) fn sign(&mut self, place: u8) -> Result<(), AllocError>
+        requires { place < 25 }
+        ensures { OnOk result (self.new ≡ put self.old (sign_at place)) }
+    {
+        self.put(sign_kind(place), sign_bytes(place))
+    }
+}
