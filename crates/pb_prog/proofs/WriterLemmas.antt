@@ -85,4 +85,3 @@ pub keyword_some : {A : Type 0} (keyword : List ℕ) (tokens : A → List Writte
     → behind_keyword keyword tokens xs ≡ word keyword ∷ with_commas tokens xs
 keyword_some keyword tokens [] within = absurd (omega arith)
 keyword_some keyword tokens (x ∷ xs) within = refl
-

@@ -24,7 +24,7 @@ abbrev pub put_bytes : WriterValue → Kind → List ℕ → WriterValue
 put_bytes w kind bytes = record {
   text = w.text ++ (space w.depth w.last kind ++ (bytes ++ line_end kind));
   depth = depth_behind w.depth kind;
-  last = Some kind
+  last = Some kind;
 }
 
 -- a token behind the text

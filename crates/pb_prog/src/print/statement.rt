@@ -59,7 +59,12 @@ impl Writer {
     }
 
     #[tactic(auto, using(crate::proofs::WriterLemmas::puts_append), unfolding(crate::specs::Spelling::stmt_tokens, crate::specs::Writing::expr_in, crate::specs::Writing::args_in))]
-    fn call_statement(&mut self, targets: &[Name], called: &Name, arguments: &[ExprText]) -> Result<(), AllocError>
+    fn call_statement(
+        &mut self,
+        targets: &[Name],
+        called: &Name,
+        arguments: &[ExprText],
+    ) -> Result<(), AllocError>
         ensures { OnOk result (self.new ≡ puts self.old (stmt_tokens (call_stmt targets.now called.now (map bare arguments.now)))) }
     {
         self.names(targets)?;
@@ -72,7 +77,12 @@ impl Writer {
     }
 
     #[tactic(auto, using(crate::proofs::WriterLemmas::puts_append), unfolding(crate::specs::Spelling::stmt_tokens, crate::specs::Writing::expr_in, crate::specs::Writing::args_in))]
-    fn assign_cell(&mut self, target: &Name, coordinates: &[ExprText], value: &ExprText) -> Result<(), AllocError>
+    fn assign_cell(
+        &mut self,
+        target: &Name,
+        coordinates: &[ExprText],
+        value: &ExprText,
+    ) -> Result<(), AllocError>
         ensures { OnOk result (self.new ≡ puts self.old (stmt_tokens (assign_cell target.now (map bare coordinates.now) (bare value.now)))) }
     {
         self.name(target)?;
