@@ -11,7 +11,7 @@ use Rattle.pb_prog.specs.Stmts.{bare_stmt}
 use Rattle.pb_prog.specs.Rules.{RuleValue}
 use Rattle.pb_prog.specs.Transforms.{TransformValue}
 use Rattle.pb_prog.specs.Trees.{bare_rule, bare_transform}
-use Rattle.pb_prog.specs.Spelling.{Written, sign_at, comma, operator_sign, unary_sign, in_order, behind_commas, with_commas, expr_tokens, more_arguments_tokens, stmt_tokens, rule_tokens, transform_tokens}
+use Rattle.pb_prog.specs.Spelling.{sign_at, comma, operator_sign, unary_sign, in_order, behind_commas, with_commas, expr_tokens, more_arguments_tokens, stmt_tokens, rule_tokens, transform_tokens}
 use Rattle.pb_prog.specs.Writing.{WriterValue, put, puts, expr_in, operand_in, stmt_in, rule_in, transform_in, args_in, operands_in, body_in}
 use Rattle.pb_prog.proofs.WriterLemmas.{order_more}
 

@@ -1,5 +1,5 @@
 -- The tokens of a tree, in the order of the grammar.
-use Rattle.std.specs.Prelude.{ℕ, Bool, true, false, ◌==◌, List, [], ◌∷◌, ◌++◌, map, Option, Some, None, codes, if◌then◌else◌}
+use Rattle.std.specs.Prelude.{ℕ, Bool, true, false, ◌==◌, List, [], ◌∷◌, ◌++◌, Option, Some, None, codes, if◌then◌else◌}
 use Rattle.pb_values.specs.Name.{NameValue}
 use Rattle.pb_prog.specs.declared.tree.expression.Operator.{Operator}
 use Rattle.pb_prog.specs.declared.tree.expression.Operator.TheVariants as operator
@@ -16,7 +16,7 @@ use Rattle.pb_prog.specs.declared.tree.view.MarkText.{MarkText}
 use Rattle.pb_prog.specs.declared.tree.view.MarkText.TheVariants as mark
 use Rattle.pb_prog.specs.Forms.{FormValue, DeclValue}
 use Rattle.pb_prog.specs.Exprs.{Expr, Exprs, Operands, number, name, call, parentheses, cell, width, height, signed, chain, compare, no_exprs, an_expr, no_operands, an_operand, exprs}
-use Rattle.pb_prog.specs.Stmts.{Stmt, Stmts, let_number, let_matrix, assign, call_stmt, assign_cell, if_stmt, if_else, for_stmt, no_stmts, a_stmt, stmts}
+use Rattle.pb_prog.specs.Stmts.{Stmt, Stmts, let_number, let_matrix, assign, call_stmt, assign_cell, if_stmt, if_else, for_stmt, no_stmts, a_stmt}
 use Rattle.pb_prog.specs.Trees.{Rule, Transform}
 
 -- a token as it is written: a name or keyword by its bytes, a number, or a sign by its place in the list of signs

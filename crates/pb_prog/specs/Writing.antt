@@ -1,5 +1,5 @@
 -- What a writer of tokens has done so far.
-use Rattle.std.specs.Prelude.{ℕ, ◌≤◌, Bool, true, false, map, List, [], ◌∷◌, ◌++◌, length, Option, Some}
+use Rattle.std.specs.Prelude.{ℕ, Bool, true, false, map, List, [], ◌∷◌, ◌++◌, Option, Some}
 use Rattle.pb_prog.specs.declared.kind.Kind.{Kind}
 use Rattle.pb_prog.specs.Canonical.{written_kind, written_bytes, space, line_end, depth_behind}
 use Rattle.pb_prog.specs.declared.tree.expression.Operator.{Operator}

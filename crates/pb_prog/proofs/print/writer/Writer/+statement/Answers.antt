@@ -1,4 +1,4 @@
-use Rattle.std.proofs.Common.{◌≡◌, [], ◌∷◌, ◌++◌, Some, None, codes, map, ap, ◌∙◌, rules}
+use Rattle.std.proofs.Common.{◌≡◌, ◌∷◌, ◌++◌, Some, None, codes, map, ap, ◌∙◌, rules}
 use Rattle.pb_prog.specs.declared.tree.statement.StmtText.{If, For, the_lemmas}
 use Rattle.pb_prog.specs.Exprs.{bare}
 use Rattle.pb_prog.specs.Stmts.{bare_stmt, if_stmt, if_else, for_stmt, stmts}

@@ -1,5 +1,5 @@
 use Rattle.std.proofs.Common.{◌≡◌, [], ◌∷◌, OnOk, codes, ap, sym, subst}
-use Rattle.pb_prog.specs.Spelling.{Written, word, mark_tokens}
+use Rattle.pb_prog.specs.Spelling.{word, mark_tokens}
 use Rattle.pb_prog.specs.Writing.{puts}
 use Rattle.pb_prog.proofs.print.writer.Writer.mark.Goals as goal
 
