@@ -1,3 +1,4 @@
+pub mod CanonicalExample
 pub mod SignLemmas
 pub mod TestLemmas
 pub mod TreeLemmas
