@@ -4,6 +4,7 @@ mod examples;
 mod large;
 mod layout;
 mod limits;
+mod printed;
 mod small;
 
 use broken::BROKEN;
@@ -13,7 +14,8 @@ use layout::LAID_OUT;
 use limits::LIMITS;
 use pb_lexer::{MOST_BYTES, tokens};
 use pb_parser::parse;
-use pb_prog::{Item, Refusal};
+use pb_prog::{Item, Refusal, print_text};
+use printed::PRINTED;
 use small::{SAID, WHOLE};
 use std::alloc::{AllocError, Global};
 use std::test::Fail;
@@ -194,6 +196,27 @@ fn large_programs_are_read(rt: HostRuntime) -> Result<(), Fail> {
             says(rt.alloc(), text.as_str(), expected)?,
             "{count} of {part}"
         );
+    }
+    Ok(())
+}
+
+// The canonical text of a program, if it is one.
+fn print(alloc: Global, text: &str) -> Result<Vec<u8>, Refusal> {
+    let found = tokens(alloc, text.as_bytes())?;
+    let tree = parse(alloc, &found, text.len() as u32)?;
+    Ok(print_text(alloc, &tree)?)
+}
+
+// Whether a program has this canonical text, and that text has it too.
+fn prints(alloc: Global, text: &str, expected: &str) -> bool {
+    matches!(print(alloc, text), Ok(bytes) if bytes.as_slice() == expected.as_bytes())
+        && matches!(print(alloc, expected), Ok(bytes) if bytes.as_slice() == expected.as_bytes())
+}
+
+#[test]
+fn a_program_is_printed_in_one_layout(rt: HostRuntime) -> Result<(), Fail> {
+    for (text, expected) in &PRINTED {
+        assert!(rt; prints(rt.alloc(), text, expected), "{text}");
     }
     Ok(())
 }
