@@ -196,6 +196,10 @@ fn large_programs_are_read(rt: HostRuntime) -> Result<(), Fail> {
             says(rt.alloc(), text.as_str(), expected)?,
             "{count} of {part}"
         );
+        assert!(rt;
+            *expected != "accepted" || print(rt.alloc(), text.as_str()).is_ok(),
+            "{count} of {part}"
+        );
     }
     Ok(())
 }
