@@ -211,16 +211,19 @@ fn print(alloc: Global, text: &str) -> Result<Vec<u8>, Refusal> {
     Ok(print_text(alloc, &tree)?)
 }
 
-// Whether a program has this canonical text, and that text has it too.
+// Whether a program has this canonical text.
 fn prints(alloc: Global, text: &str, expected: &str) -> bool {
-    matches!(print(alloc, text), Ok(bytes) if bytes.as_slice() == expected.as_bytes())
-        && matches!(print(alloc, expected), Ok(bytes) if bytes.as_slice() == expected.as_bytes())
+    match print(alloc, text) {
+        Ok(bytes) => bytes.as_slice() == expected.as_bytes(),
+        Err(_) => false,
+    }
 }
 
 #[test]
 fn a_program_is_printed_in_one_layout(rt: HostRuntime) -> Result<(), Fail> {
     for (text, expected) in &PRINTED {
         assert!(rt; prints(rt.alloc(), text, expected), "{text}");
+        assert!(rt; prints(rt.alloc(), expected, expected), "{text}");
     }
     Ok(())
 }
