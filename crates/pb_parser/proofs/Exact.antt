@@ -346,3 +346,39 @@ module _ (end : ℕ) where
     over_limit (Ok t) g what at o = subst IsTooMany g (over_reads ts what at o (read end ts program) refl).0
     over_limit (Err y) g what at o = let d = over_reads ts what at o (read end ts program) refl in
         by_reading (λ x. (x ≡ OverLimit what at) ⊎ (x ≡ Memory)) (inr refl) (λ x f. inl (told_many (read end ts program) x what at d.0 d.1 d.2 f)) y g
+
+-- a list of tokens has one of three answers
+apart : (c : Verdict) → IsBad c → IsTooMany c → ⊥
+apart (accepted t) b m = b
+apart (bad l a) b m = m
+apart (too_many w l a) b m = b
+
+pub some_answer : (ts : List Token) (end : ℕ) → ((tree : List Transform) × Accepted tree ts)
+    ⊎ (((at : ℕ) × BadSyntaxAt ts end at) ⊎ ((what : Item) × (at : ℕ) × OverLimitAt ts what at))
+some_answer ts end = go (answer end ts)
+  where
+    go : Answer end ts → ((tree : List Transform) × Accepted tree ts) ⊎ (((at : ℕ) × BadSyntaxAt ts end at) ⊎ ((what : Item) × (at : ℕ) × OverLimitAt ts what at))
+    go (good tree q a) = inl (tree, a)
+    go (faulty left at q b) = inr (inl (at, b))
+    go (excess what left at q o) = inr (inr (what, at, o))
+
+pub one_place : (ts : List Token) (end at other : ℕ) → BadSyntaxAt ts end at → BadSyntaxAt ts end other → at ≡ other
+one_place ts end at other b c = sym (bad_reads end ts at b (read end ts program) refl).1 ∙ (bad_reads end ts other c (read end ts program) refl).1
+
+pub one_item : (ts : List Token) (what other : Item) (at place : ℕ) → OverLimitAt ts what at → OverLimitAt ts other place → (what ≡ other) × (at ≡ place)
+one_item ts what other at place o p =
+    let a = over_reads 0 ts what at o (read 0 ts program) refl in
+    let b = over_reads 0 ts other place p (read 0 ts program) refl in
+    (sym a.1 ∙ b.1, sym a.2 ∙ b.2)
+
+pub not_both : (ts : List Token) (end at : ℕ) (what : Item) (place : ℕ) → BadSyntaxAt ts end at → OverLimitAt ts what place → ⊥
+not_both ts end at what place b o =
+    apart (read end ts program) (bad_reads end ts at b (read end ts program) refl).0 (over_reads end ts what place o (read end ts program) refl).0
+
+pub no_bad_program : (ts : List Token) (end at : ℕ) (tree : List Transform) → BadSyntaxAt ts end at → Accepted tree ts → ⊥
+no_bad_program ts end at tree b a = not_bad (in_program a.0) tree (read end ts program) (read_of end a.0) (bad_reads end ts at b (read end ts program) refl).0
+
+pub no_large_program : (ts : List Token) (what : Item) (at : ℕ) (tree : List Transform) → OverLimitAt ts what at → Accepted tree ts → ⊥
+no_large_program ts what at tree o a =
+    let e : accepted tree ≡ read 0 ts program = ap (λ l. caught true l (accepted tree)) (sym a.1) ∙ read_of 0 a.0 in
+    subst IsTooMany (sym e) (over_reads 0 ts what at o (read 0 ts program) refl).0

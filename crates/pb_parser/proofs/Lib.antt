@@ -2,7 +2,7 @@ mod BeginLemmas
 mod DeclLemmas
 mod DimLemmas
 mod Endings
-mod Exact
+pub mod Exact
 mod ExprLaws
 mod FormLaws
 mod FormLemmas

@@ -19,5 +19,5 @@ mod statement;
 mod transform;
 mod view;
 
-pub use laws::a_list_has_one_tree;
+pub use laws::{a_list_has_one_tree, tokens_have_one_answer};
 pub use transform::parse;

@@ -1,0 +1,31 @@
+-- How a program text is read, and when it is refused.
+use Rattle.std.specs.Prelude.{ℕ, ◌≤◌, ◌<◌, List, length}
+use Rattle.pb_prog.specs.declared.token.Token.{Token}
+use Rattle.pb_prog.specs.declared.refusal.Refusal.{Refusal}
+use Rattle.pb_prog.specs.declared.refusal.Refusal.TheVariants.{TooLong, BadToken, BadSyntax, OverLimit}
+use Rattle.pb_prog.specs.Tokens.{Spells, BadTokenAt}
+use Rattle.pb_prog.specs.Trees.{Transform}
+use Rattle.pb_prog.specs.Faults.{Accepted, BadSyntaxAt, OverLimitAt}
+use Rattle.pb_lexer.specs.Refusing.{most_bytes}
+
+-- the text isn't too long, and its tokens spell this tree, in which nothing is too many
+pub record IsRead (text : List ℕ) (tree : List Transform) : Type 0 where
+  pub short : length text ≤ most_bytes
+  pub tokens : List Token
+  pub spelled : Spells text tokens
+  pub accepted : Accepted tree tokens
+
+-- the text isn't too long, and its tokens have this fault
+pub record HasTokens (text : List ℕ) (Faulty : List Token → Type 0) : Type 0 where
+  pub short : length text ≤ most_bytes
+  pub tokens : List Token
+  pub spelled : Spells text tokens
+  pub faulty : Faulty tokens
+
+-- why a text is refused: its length, a byte that begins no token, a token at which no program goes on, or an item too many
+abbrev pub IsRefused : List ℕ → Refusal → Type 0
+IsRefused text TooLong = most_bytes < length text
+IsRefused text (BadToken at) = (length text ≤ most_bytes) × BadTokenAt text at
+IsRefused text (BadSyntax at) = HasTokens text (λ tokens. BadSyntaxAt tokens (length text) at)
+IsRefused text (OverLimit what at) = HasTokens text (λ tokens. OverLimitAt tokens what at)
+IsRefused text _ = ⊥
