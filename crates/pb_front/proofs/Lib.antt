@@ -1,2 +1,7 @@
 pub mod ReadLemmas
 pub mod Written
+pub mod Again
+pub mod Unplaced
+pub mod Fewer
+pub mod AgainForms
+pub mod AgainBodies
