@@ -5,3 +5,4 @@ pub mod Unplaced
 pub mod Fewer
 pub mod AgainForms
 pub mod AgainBodies
+pub mod AgainPrograms
