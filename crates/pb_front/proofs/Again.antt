@@ -67,6 +67,10 @@ pub record Again {A : Type 0} (R : A → List Token → List Token → Type 0) (
   pub same : g tree ≡ g x
   pub few : Few tree spelled
 
+pub made : {A : Type 0} {R : A → List Token → List Token → Type 0} {g : A → A} {x : A} {all rest : List Token} {Few : (y : A) → R y all rest → Type 0}
+    (tree : A) (spelled : R tree all rest) → g tree ≡ g x → Few tree spelled → Again R g x all rest Few
+made tree spelled same few = record { tree = tree; spelled = spelled; same = same; few = few }
+
 -- items with commas before them
 pub again_commas : {A : Type 0} {R : A → List Token → List Token → Type 0} (g : A → A) (tokens : A → List Written)
     (each : (x : A) (all rest : List Token) → R x all rest → List TooMany → List TooMany)
@@ -75,10 +79,6 @@ pub again_commas : {A : Type 0} {R : A → List Token → List Token → Type 0}
     → Again (Commas R) (map g) xs all' rest' (λ ys d'. (what : Item) (n : ℕ) → Adds (in_commas what each n d) (in_commas what each n d'))
 again_commas g tokens each item no_comma nothing = record { tree = []; spelled = no_comma; same = refl; few = λ what n l m h. h }
 again_commas g tokens each item (a_comma {x = x} {xs = xs} {all = old} i d ds) (one {t = c} {all = new} e t) = elim (split {a = tokens x} {b = behind_commas tokens xs} t) [
-      | cut a b ↦ let r = item x _ _ _ _ d a in let s = again_commas g tokens each item ds b in record {
-        tree = r.tree ∷ s.tree;
-        spelled = a_comma (is c e) r.spelled s.spelled;
-        same = ap₂ (λ y ys. y ∷ ys) r.same s.same;
-        few = λ what n l m h. begun_fewer (over what n) old new (r.few _ _ (s.few what (suc n) l m h));
-      }
+      | cut a b ↦ let r = item x _ _ _ _ d a in let s = again_commas g tokens each item ds b in made (r.tree ∷ s.tree) (a_comma (is c e) r.spelled s.spelled)
+        (ap₂ (λ y ys. y ∷ ys) r.same s.same) (λ what n l m h. begun_fewer (over what n) old new (r.few _ _ (s.few what (suc n) l m h)))
     ]

@@ -21,30 +21,22 @@ use Rattle.pb_front.specs.Places.{unplaced_name, unplaced_minimum, unplaced_use,
 use Rattle.pb_front.proofs.Written.{Takes, nothing, one}
 use Rattle.pb_front.proofs.Unplaced.{same_length}
 use Rattle.pb_front.proofs.Fewer.{Fewer, Adds, begun_fewer, number_fewer}
-use Rattle.pb_front.proofs.Again.{cut, split, is, number_is, is_name, same_name, Again, again_commas}
+use Rattle.pb_front.proofs.Again.{cut, split, is, number_is, is_name, same_name, Again, made, again_commas}
 use Rattle.pb_front.proofs.AgainForms.{again_decls, UseAgain, again_use, again_cond}
 use Rattle.pb_front.proofs.AgainBodies.{again_block}
 
 again_minimum : (x : NameValue × ℕ) (all rest all' rest' : List Token) (d : IsMinimum x all rest) → Takes (minimum_tokens x) all' rest'
     → Again IsMinimum unplaced_minimum x all' rest' (λ y d'. Adds (in_minimum d) (in_minimum d'))
 unfolding minimum_tokens
-again_minimum x all rest all' rest' (a_minimum {n = t} {v = o} {rest = old} i j q) (one {t = u} e (one {t = v} f (one {t = w} {all = new} g nothing))) = record {
-  tree = (name_in u, number_in w);
-  spelled = a_minimum (is_name t u i e) (is v f) (is w g);
-  same = ap₂ (λ y z. (y, z)) (same_name t u e) (number_is w g);
-  few = λ l m h. number_fewer o w (o ∷ old) (w ∷ new) (number_is w g) h;
-}
+again_minimum x all rest all' rest' (a_minimum {n = t} {v = o} {rest = old} i j q) (one {t = u} e (one {t = v} f (one {t = w} {all = new} g nothing))) = made (name_in u, number_in w)
+  (a_minimum (is_name t u i e) (is v f) (is w g)) (ap₂ (λ y z. (y, z)) (same_name t u e) (number_is w g)) (λ l m h. number_fewer o w (o ∷ old) (w ∷ new) (number_is w g) h)
 
 again_minimums : {xs : List (NameValue × ℕ)} {all rest all' rest' : List Token} (d : IsMinimums xs all rest) → Takes (minimums_tokens xs) all' rest'
     → Again IsMinimums (map unplaced_minimum) xs all' rest' (λ y d'. Adds (in_minimums d) (in_minimums d'))
 again_minimums no_minimums nothing = record { tree = []; spelled = no_minimums; same = refl; few = λ l m h. h }
 again_minimums (some_minimums {x = x} {xs = xs} i d ds) (one {t = u} e t) = elim (split {a = minimum_tokens x} {b = behind_commas minimum_tokens xs} t) [
-      | cut a b ↦ let r = again_minimum x _ _ _ _ d a in let s = again_commas unplaced_minimum minimum_tokens (λ x a b. in_minimum) again_minimum ds b in record {
-        tree = r.tree ∷ s.tree;
-        spelled = some_minimums (is u e) r.spelled s.spelled;
-        same = ap₂ (λ y ys. y ∷ ys) r.same s.same;
-        few = λ l m h. r.few _ _ (s.few item.Minimums 1 l m h);
-      }
+      | cut a b ↦ let r = again_minimum x _ _ _ _ d a in let s = again_commas unplaced_minimum minimum_tokens (λ x a b. in_minimum) again_minimum ds b in made (r.tree ∷ s.tree)
+        (some_minimums (is u e) r.spelled s.spelled) (ap₂ (λ y ys. y ∷ ys) r.same s.same) (λ l m h. r.few _ _ (s.few item.Minimums 1 l m h))
     ]
 
 again_through : {ds : List DeclValue} {all rest all' rest' : List Token} (d : IsThrough ds all rest) → Takes (through_tokens ds) all' rest'
@@ -54,12 +46,8 @@ again_through (some_through {ds = []} i d) t = absurd (no_decls d)
   where
     no_decls : {all rest : List Token} → IsDecls [] all rest → ⊥
     no_decls d = elim d [ ]
-again_through (some_through {ds = x ∷ xs} i d) (one {t = u} e t) = let r = again_decls d t in record {
-  tree = r.tree;
-  spelled = some_through (is u e) r.spelled;
-  same = r.same;
-  few = λ n l m h. r.few n false l m h;
-}
+again_through (some_through {ds = x ∷ xs} i d) (one {t = u} e t) = let r = again_decls d t in made r.tree (some_through (is u e) r.spelled) r.same
+  (λ n l m h. r.few n false l m h)
 
 use_again : (x : UseText) (all rest all' rest' : List Token) (d : IsUse x all rest) → Takes (use_tokens x) all' rest' → UseAgain d all' rest'
 use_again x all rest all' rest' d t = again_use d t
@@ -68,12 +56,8 @@ again_reads : {us : List UseText} {all rest all' rest' : List Token} (d : IsRead
     → Again IsReads (map unplaced_use) us all' rest' (λ y d'. Adds (in_reads d) (in_reads d'))
 again_reads no_reads nothing = record { tree = []; spelled = no_reads; same = refl; few = λ l m h. h }
 again_reads (some_reads {u = x} {us = xs} d ds) t = elim (split {a = use_tokens x} {b = behind_commas use_tokens xs} t) [
-      | cut a b ↦ let r = again_use d a in let s = again_commas unplaced_use use_tokens (λ x a b. in_use) use_again ds b in record {
-        tree = r.tree ∷ s.tree;
-        spelled = some_reads r.spelled s.spelled;
-        same = ap₂ (λ y ys. y ∷ ys) r.same s.same;
-        few = λ l m h. r.few _ _ (s.few item.Reads 1 l m h);
-      }
+      | cut a b ↦ let r = again_use d a in let s = again_commas unplaced_use use_tokens (λ x a b. in_use) use_again ds b in made (r.tree ∷ s.tree)
+        (some_reads r.spelled s.spelled) (ap₂ (λ y ys. y ∷ ys) r.same s.same) (λ l m h. r.few _ _ (s.few item.Reads 1 l m h))
     ]
 
 cond_again : (x : CondText) (all rest all' rest' : List Token) (d : IsCond x all rest) → Takes (cond_tokens x) all' rest'
@@ -84,12 +68,8 @@ again_conds : {cs : List CondText} {all rest all' rest' : List Token} (d : IsCon
     → Again IsConds (map unplaced_cond) cs all' rest' (λ y d'. Adds (in_conds d) (in_conds d'))
 again_conds no_conds nothing = record { tree = []; spelled = no_conds; same = refl; few = λ l m h. h }
 again_conds (some_conds {c = x} {cs = xs} i d ds) (one {t = u} e t) = elim (split {a = cond_tokens x} {b = behind_commas cond_tokens xs} t) [
-      | cut a b ↦ let r = again_cond d a in let s = again_commas unplaced_cond cond_tokens (λ x a b. in_cond) cond_again ds b in record {
-        tree = r.tree ∷ s.tree;
-        spelled = some_conds (is u e) r.spelled s.spelled;
-        same = ap₂ (λ y ys. y ∷ ys) r.same s.same;
-        few = λ l m h. r.few _ _ (s.few item.Conditions 1 l m h);
-      }
+      | cut a b ↦ let r = again_cond d a in let s = again_commas unplaced_cond cond_tokens (λ x a b. in_cond) cond_again ds b in made (r.tree ∷ s.tree)
+        (some_conds (is u e) r.spelled s.spelled) (ap₂ (λ y ys. y ∷ ys) r.same s.same) (λ l m h. r.few _ _ (s.few item.Conditions 1 l m h))
     ]
 
 again_mark : {x : MarkText} {all rest all' rest' : List Token} (d : IsMark x all rest) → Takes (mark_tokens x) all' rest'
@@ -98,12 +78,8 @@ unfolding mark_tokens
 again_mark unmarked nothing = record { tree = mark.Unmarked; spelled = unmarked; same = refl; few = λ l m h. h }
 again_mark (primary i) (one {t = u} e nothing) = record { tree = mark.Primary; spelled = primary (is u e); same = refl; few = λ l m h. h }
 again_mark (secondary i) (one {t = u} e nothing) = record { tree = mark.Secondary; spelled = secondary (is u e); same = refl; few = λ l m h. h }
-again_mark (priority {n = o} {c = c} {rest = old} i j k' q) (one {t = u} e (one {t = v} f (one {t = w} g (one {t = z} {all = new} p nothing)))) = record {
-  tree = mark.Priority (number_in w);
-  spelled = priority (is u e) (is v f) (is w g) (is z p);
-  same = ap mark.Priority (number_is w g);
-  few = λ l m h. number_fewer o w (o ∷ c ∷ old) (w ∷ z ∷ new) (number_is w g) h;
-}
+again_mark (priority {n = o} {c = c} {rest = old} i j k' q) (one {t = u} e (one {t = v} f (one {t = w} g (one {t = z} {all = new} p nothing)))) = made (mark.Priority (number_in w))
+  (priority (is u e) (is v f) (is w g) (is z p)) (ap mark.Priority (number_is w g)) (λ l m h. number_fewer o w (o ∷ c ∷ old) (w ∷ z ∷ new) (number_is w g) h)
 
 body_tokens : (ss : List Stmt) → in_order stmt_tokens ss ≡ stmts_tokens (stmts ss)
 unfolding stmt_tokens
@@ -136,12 +112,10 @@ again_rule (a_rule {m = x} {u = u} {us = us} {rs = rs} {cs = cs} {ss = ss} m t o
                   let r₃ = again_commas unplaced_use use_tokens (λ x a b. in_use) use_again ds b₂ in
                   let r₄ = again_reads reads c' in
                   let r₅ = again_conds conds d' in
-                  let r₆ = again_block body (is t₇ e₇) (takes_same (body_tokens ss) z) (is t₈ e₈) in record {
-                    tree = record { mark = r₁.tree; outs = r₂.tree ∷ r₃.tree; reads = r₄.tree; conds = r₅.tree; body = r₆.tree };
-                    spelled = a_rule r₁.spelled (is t₁ e₁) (is t₂ e₂) r₂.spelled r₃.spelled (is t₃ e₃) (is t₄ e₄) (is t₅ e₅) r₄.spelled (is t₆ e₆) r₅.spelled r₆.spelled;
-                    same = same_parts r₁.same (ap₂ (λ y ys. y ∷ ys) r₂.same r₃.same) r₄.same r₅.same r₆.same;
-                    few = λ l m' h. r₁.few _ _ (r₂.few _ _ (r₃.few item.Outputs 1 _ _ (r₄.few _ _ (r₅.few _ _ (r₆.few 0 0 l m' h)))));
-                  }
+                  let r₆ = again_block body (is t₇ e₇) (takes_same (body_tokens ss) z) (is t₈ e₈) in made (record { mark = r₁.tree; outs = r₂.tree ∷ r₃.tree; reads = r₄.tree; conds = r₅.tree; body = r₆.tree })
+                    (a_rule r₁.spelled (is t₁ e₁) (is t₂ e₂) r₂.spelled r₃.spelled (is t₃ e₃) (is t₄ e₄) (is t₅ e₅) r₄.spelled (is t₆ e₆) r₅.spelled r₆.spelled)
+                    (same_parts r₁.same (ap₂ (λ y ys. y ∷ ys) r₂.same r₃.same) r₄.same r₅.same r₆.same)
+                    (λ l m' h. r₁.few _ _ (r₂.few _ _ (r₃.few item.Outputs 1 _ _ (r₄.few _ _ (r₅.few _ _ (r₆.few 0 0 l m' h))))))
               ]
             ]
           ]
@@ -153,12 +127,8 @@ again_rules : {xs : List Rule} {all rest all' rest' : List Token} (d : IsRules x
     → Again IsRules (map unplaced_rule) xs all' rest' (λ y d'. (n : ℕ) → Adds (in_rules n d) (in_rules n d'))
 again_rules no_rules nothing = record { tree = []; spelled = no_rules; same = refl; few = λ n l m h. h }
 again_rules {all' = new} (one_rule {r = x} {rs = xs} {all = old} d ds) t = elim (split {a = rule_tokens x} {b = in_order rule_tokens xs} t) [
-      | cut a b ↦ let r = again_rule d a in let s = again_rules ds b in record {
-        tree = r.tree ∷ s.tree;
-        spelled = one_rule r.spelled s.spelled;
-        same = ap₂ (λ y ys. y ∷ ys) r.same s.same;
-        few = λ n l m h. begun_fewer (over item.Rules n) old new (r.few _ _ (s.few (suc n) l m h));
-      }
+      | cut a b ↦ let r = again_rule d a in let s = again_rules ds b in made (r.tree ∷ s.tree) (one_rule r.spelled s.spelled) (ap₂ (λ y ys. y ∷ ys) r.same s.same)
+        (λ n l m h. begun_fewer (over item.Rules n) old new (r.few _ _ (s.few (suc n) l m h)))
     ]
 
 -- a transform of these parts
@@ -185,20 +155,10 @@ again_transform (a_transform {ms = ms} {from = given} {kept = kept} {to = to'} {
                   let r₃ = again_through through a₃ in
                   let r₄ = again_decls to a₄ in
                   let r₅ = again_rule r b₁ in
-                  let r₆ = again_rules rs b₂ in record {
-                    tree = record { name = name_in t₂; minimums = r₁.tree; from = r₂.tree; through = r₃.tree; to = r₄.tree; rules = r₅.tree ∷ r₆.tree };
-                    spelled = a_transform (is t₁ e₁) (is_name n' t₂ n e₂) r₁.spelled (is t₃ e₃) r₂.spelled r₃.spelled (is t₄ e₄) r₄.spelled (is t₅ e₅) r₅.spelled r₆.spelled (is t₆ e₆);
-                    same = same_whole (same_name n' t₂ e₂) r₁.same r₂.same r₃.same r₄.same (ap₂ (λ y ys. y ∷ ys) r₅.same r₆.same);
-                    few = λ l m h.
-                        let later : Fewer (in_rule r (in_rules 1 rs l)) (in_rule r₅.spelled (in_rules 1 r₆.spelled m)) = r₅.few _ _ (r₆.few 1 l m h) in
-                        let matrices = subst (λ k. Fewer (in_decls (length given + length kept) false to (in_rule r (in_rules 1 rs l)))
-                            (in_decls k false r₄.spelled (in_rule r₅.spelled (in_rules 1 r₆.spelled m))))
-                            (sym (ap₂ (λ a b. a + b) (same_length unplaced_decl r₂.tree given r₂.same) (same_length unplaced_decl r₃.tree kept r₃.same)))
-                            (r₄.few (length given + length kept) false _ _ later) in
-                        r₁.few _ _ (r₂.few 0 true _ _ (subst (λ k. Fewer (in_through (length given) through (in_decls (length given + length kept) false to (in_rule r (in_rules 1 rs l))))
-                        (in_through k r₃.spelled (in_decls (length r₂.tree + length r₃.tree) false r₄.spelled (in_rule r₅.spelled (in_rules 1 r₆.spelled m)))))
-                        (sym (same_length unplaced_decl r₂.tree given r₂.same)) (r₃.few (length given) _ _ matrices)));
-                  }
+                  let r₆ = again_rules rs b₂ in made (record { name = name_in t₂; minimums = r₁.tree; from = r₂.tree; through = r₃.tree; to = r₄.tree; rules = r₅.tree ∷ r₆.tree })
+                    (a_transform (is t₁ e₁) (is_name n' t₂ n e₂) r₁.spelled (is t₃ e₃) r₂.spelled r₃.spelled (is t₄ e₄) r₄.spelled (is t₅ e₅) r₅.spelled r₆.spelled (is t₆ e₆))
+                    (same_whole (same_name n' t₂ e₂) r₁.same r₂.same r₃.same r₄.same (ap₂ (λ y ys. y ∷ ys) r₅.same r₆.same))
+                    (λ l m h. let later : Fewer (in_rule r (in_rules 1 rs l)) (in_rule r₅.spelled (in_rules 1 r₆.spelled m)) = r₅.few _ _ (r₆.few 1 l m h) in let matrices = subst (λ k. Fewer (in_decls (length given + length kept) false to (in_rule r (in_rules 1 rs l))) (in_decls k false r₄.spelled (in_rule r₅.spelled (in_rules 1 r₆.spelled m)))) (sym (ap₂ (λ a b. a + b) (same_length unplaced_decl r₂.tree given r₂.same) (same_length unplaced_decl r₃.tree kept r₃.same))) (r₄.few (length given + length kept) false _ _ later) in r₁.few _ _ (r₂.few 0 true _ _ (subst (λ k. Fewer (in_through (length given) through (in_decls (length given + length kept) false to (in_rule r (in_rules 1 rs l)))) (in_through k r₃.spelled (in_decls (length r₂.tree + length r₃.tree) false r₄.spelled (in_rule r₅.spelled (in_rules 1 r₆.spelled m))))) (sym (same_length unplaced_decl r₂.tree given r₂.same)) (r₃.few (length given) _ _ matrices))))
               ]
             ]
           ]
@@ -210,12 +170,8 @@ again_transforms : {xs : List Transform} {all rest all' rest' : List Token} (d :
     → Again IsTransforms (map unplaced_transform) xs all' rest' (λ y d'. (n : ℕ) → Adds (in_transforms n d) (in_transforms n d'))
 again_transforms no_transforms nothing = record { tree = []; spelled = no_transforms; same = refl; few = λ n l m h. h }
 again_transforms {all' = new} (one_transform {x = x} {xs = xs} {all = old} d ds) t = elim (split {a = transform_tokens x} {b = in_order transform_tokens xs} t) [
-      | cut a b ↦ let r = again_transform d a in let s = again_transforms ds b in record {
-        tree = r.tree ∷ s.tree;
-        spelled = one_transform r.spelled s.spelled;
-        same = ap₂ (λ y ys. y ∷ ys) r.same s.same;
-        few = λ n l m h. begun_fewer (over item.Transforms n) old new (r.few _ _ (s.few (suc n) l m h));
-      }
+      | cut a b ↦ let r = again_transform d a in let s = again_transforms ds b in made (r.tree ∷ s.tree) (one_transform r.spelled s.spelled) (ap₂ (λ y ys. y ∷ ys) r.same s.same)
+        (λ n l m h. begun_fewer (over item.Transforms n) old new (r.few _ _ (s.few (suc n) l m h)))
     ]
 
 -- a program in which nothing is too many
