@@ -12,7 +12,7 @@ use Rattle.pb_prog.specs.Canonical.{written_kind}
 use Rattle.pb_prog.specs.Grammar.{IsWord, Commas, no_comma, a_comma}
 use Rattle.pb_prog.specs.Limits.{over}
 use Rattle.pb_prog.specs.TooMany.{TooMany, in_commas}
-use Rattle.pb_front.specs.Places.{unplaced_name}
+use Rattle.pb_prog.specs.Places.{unplaced_name}
 use Rattle.pb_front.proofs.Written.{written_as, Takes, nothing, one}
 use Rattle.pb_front.proofs.Fewer.{Fewer, Adds, begun_fewer}
 

@@ -23,7 +23,7 @@ use Rattle.pb_prog.specs.Spelling.{Written, word, comma, sign_at, operator_sign,
 use Rattle.pb_prog.specs.Grammar.{Commas, IsName, a_name, IsLine, a_line, IsOperands, no_operand, an_operand, IsOperand, a_conj, a_comp, a_prod, a_unary, IsComp, a_sum, two_sums, IsUnary, unsigned, minus_prim, not_prim, IsPrim, a_number, the_name, call_of_none, call_of, in_parentheses, cell_of, width_of, height_of, IsArguments, last_argument, an_argument, IsCoordinates, one_coordinate, two_coordinates, IsStmt, let_a_number, let_a_matrix, an_assignment, a_call, a_cell_assignment, an_if, an_if_else, a_for, IsBlock, a_block, IsStmts, no_stmt, one_stmt}
 use Rattle.pb_prog.specs.Limits.{over}
 use Rattle.pb_prog.specs.TooMany.{TooMany, begun, in_name, in_line, in_operands, in_operand, in_comp, in_unary, in_prim, in_arguments, in_coordinates, in_stmt, in_block, in_stmts, statements_in, among}
-use Rattle.pb_front.specs.Places.{unplaced_name, unplaced_form, unplaced_expr, unplaced_exprs, unplaced_operands, unplaced_stmt, unplaced_stmts}
+use Rattle.pb_prog.specs.Places.{unplaced_name, unplaced_form, unplaced_expr, unplaced_exprs, unplaced_operands, unplaced_stmt, unplaced_stmts}
 use Rattle.pb_front.proofs.Written.{Takes, nothing, one}
 use Rattle.pb_front.proofs.Unplaced.{exprs_unplaced, same_statements, same_among}
 use Rattle.pb_front.proofs.Fewer.{Fewer, Adds, begun_fewer}

@@ -20,7 +20,7 @@ use Rattle.pb_prog.specs.Spelling.{word, numeral, sign_at, term_sign, relation_s
 use Rattle.pb_prog.specs.Grammar.{Commas, no_comma, a_comma, IsTerm, number_term, name_term, multiple, fraction, IsTerms, no_terms, plus, minus, IsForm, plain_form, minus_form, IsDims, one_dim, two_dims, IsDecl, a_decl, IsDecls, some_decls, IsView, whole, cell_x, cell_xy, row, column, region_2, region_4, IsUse, a_use, IsCond, a_cond}
 use Rattle.pb_prog.specs.Limits.{over, too_great, Sizes, after_form, excess_of, counted}
 use Rattle.pb_prog.specs.TooMany.{TooMany, note, in_term, in_terms, in_form, in_dims, in_decl, in_more_decls, in_decls, in_view, in_use, in_cond}
-use Rattle.pb_front.specs.Places.{unplaced_name, unplaced_term, unplaced_form, unplaced_decl, unplaced_view, unplaced_use, unplaced_cond}
+use Rattle.pb_prog.specs.Places.{unplaced_name, unplaced_term, unplaced_form, unplaced_decl, unplaced_view, unplaced_use, unplaced_cond}
 use Rattle.pb_front.proofs.Written.{written_as, Takes, nothing, one}
 use Rattle.pb_front.proofs.Unplaced.{same_after, same_counted, same_length}
 use Rattle.pb_front.proofs.Fewer.{Fewer, Adds, dropped_fewer, begun_fewer, number_fewer, form_fewer}

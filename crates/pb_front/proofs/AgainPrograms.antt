@@ -17,7 +17,7 @@ use Rattle.pb_prog.specs.Grammar.{IsMinimum, a_minimum, IsMinimums, no_minimums,
 use Rattle.pb_prog.specs.Faults.{Accepted}
 use Rattle.pb_prog.specs.Limits.{over}
 use Rattle.pb_prog.specs.TooMany.{TooMany, in_minimum, in_minimums, in_through, in_decls, in_reads, in_use, in_conds, in_cond, in_mark, in_rule, in_rules, in_transform, in_transforms, in_program}
-use Rattle.pb_front.specs.Places.{unplaced_name, unplaced_minimum, unplaced_use, unplaced_cond, unplaced_decl, unplaced_stmt, unplaced_rule, unplaced_transform, unplaced}
+use Rattle.pb_prog.specs.Places.{unplaced_name, unplaced_minimum, unplaced_use, unplaced_cond, unplaced_decl, unplaced_stmt, unplaced_rule, unplaced_transform, unplaced}
 use Rattle.pb_front.proofs.Written.{Takes, nothing, one}
 use Rattle.pb_front.proofs.Unplaced.{same_length}
 use Rattle.pb_front.proofs.Fewer.{Fewer, Adds, begun_fewer, number_fewer}

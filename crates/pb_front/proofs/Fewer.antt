@@ -8,7 +8,7 @@ use Rattle.pb_prog.specs.Kinds.{number_in}
 use Rattle.pb_prog.specs.Forms.{FormValue}
 use Rattle.pb_prog.specs.Limits.{Excess, most, here, too_great, Sizes, alone, is_known, size_excess, excess_of}
 use Rattle.pb_prog.specs.TooMany.{TooMany, note, first_at, begun}
-use Rattle.pb_front.specs.Places.{unplaced_option, unplaced_form}
+use Rattle.pb_prog.specs.Places.{unplaced_option, unplaced_form}
 use Rattle.pb_front.proofs.Unplaced.{same_alone}
 
 pub record Fewer (a b : List TooMany) : Type 0 where

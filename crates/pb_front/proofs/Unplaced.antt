@@ -13,7 +13,7 @@ use Rattle.pb_prog.specs.Trees.{Rule, Transform}
 use Rattle.pb_prog.specs.Limits.{alone, alone_in, put_size, sizes_in, sizes_of, counted, after_form, Sizes}
 use Rattle.pb_prog.specs.TooMany.{statements_in, statements_among, among}
 use Rattle.pb_prog.specs.Spelling.{Written, in_order, behind_commas, with_commas, behind_keyword, name_tokens, minimum_tokens, term_tokens, term_tokens_at, next_term_tokens, sum_tokens, form_tokens, form_tokens_at, decl_tokens, view_tokens, use_tokens, cond_tokens, expr_tokens, operands_tokens, arguments_tokens, more_arguments_tokens, stmt_tokens, stmts_tokens, rule_tokens, transform_tokens, text_tokens}
-use Rattle.pb_front.specs.Places.{unplaced_name, unplaced_option, unplaced_minimum, unplaced_term, unplaced_form, unplaced_decl, unplaced_view, unplaced_use, unplaced_cond, unplaced_expr, unplaced_exprs, unplaced_operands, unplaced_stmt, unplaced_stmts, unplaced_rule, unplaced_transform, unplaced}
+use Rattle.pb_prog.specs.Places.{unplaced_name, unplaced_option, unplaced_minimum, unplaced_term, unplaced_form, unplaced_decl, unplaced_view, unplaced_use, unplaced_cond, unplaced_expr, unplaced_exprs, unplaced_operands, unplaced_stmt, unplaced_stmts, unplaced_rule, unplaced_transform, unplaced}
 
 -- what is kept is the same of trees that differ in places alone
 pub through : {A B : Type 0} (f : A → B) (g : A → A) → ((x : A) → f (g x) ≡ f x) → (y x : A) → g y ≡ g x → f y ≡ f x

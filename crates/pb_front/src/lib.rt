@@ -7,5 +7,5 @@
 mod laws;
 mod read;
 
-pub use laws::a_text_has_one_reading;
+pub use laws::{a_canonical_text_is_read, a_text_has_one_reading};
 pub use read::read_text;

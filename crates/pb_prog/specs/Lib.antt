@@ -7,6 +7,7 @@ pub mod Grammar
 pub mod Kinds
 pub mod Limits
 pub mod Operators
+pub mod Places
 pub mod Rules
 pub mod Signs
 pub mod Spelling
