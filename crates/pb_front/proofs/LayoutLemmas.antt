@@ -37,7 +37,7 @@ record LaidAt (at : ℕ) (text : List ℕ) (ws : List Written) : Type 0 where
 abbrev Lays : List ℕ → List Written → Type 0
 Lays text ws = (at : ℕ) → LaidAt at text ws
 
-either : {A : Type 0} (P : A → Type 0) (b : Bool) (x y : A) → P x → P y → P (cond b x y)
+pub either : {A : Type 0} (P : A → Type 0) (b : Bool) (x y : A) → P x → P y → P (cond b x y)
 either P true x y here there = here
 either P false x y here there = there
 
@@ -62,11 +62,11 @@ module _ (text : List ℕ) (ws : List Written) where
   ended a l = either Before (ends_line a) _ _ (blank_first 10 refl l) l
 
 -- a table of the signs
-abbrev below : (ℕ → Bool) → ℕ → Bool
+abbrev pub below : (ℕ → Bool) → ℕ → Bool
 below test zero = true
 below test (suc n) = test n && below test n
 
-each : (test : ℕ → Bool) (n p : ℕ) → below test n ≡ true → p < n → test p ≡ true
+pub each : (test : ℕ → Bool) (n p : ℕ) → below test n ≡ true → p < n → test p ≡ true
 each test zero p h less = absurd (omega arith)
 each test (suc n) p h less =
     let both = and_parts (test n) (below test n) h in

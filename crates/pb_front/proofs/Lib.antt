@@ -1,3 +1,4 @@
 pub mod LayoutLemmas
+pub mod Plains
 pub mod ReadLemmas
 pub mod Written
