@@ -1,3 +1,5 @@
+pub mod LayoutLemmas
+pub mod Plains
 pub mod ReadLemmas
 pub mod Written
 pub mod Again
