@@ -8,7 +8,7 @@ use Rattle.pb_lexer.specs.Refusing.{most_bytes}
 use Rattle.pb_front.specs.Reading.{IsRead}
 use Rattle.pb_front.proofs.ReadLemmas.{one_tree}
 use Rattle.pb_front.proofs.Unplaced.{same_tokens}
-use Rattle.pb_front.proofs.Layout.{laid}
+use Rattle.pb_front.proofs.LayoutLemmas.{laid}
 use Rattle.pb_front.proofs.Plains.{goods, plain_program}
 use Rattle.pb_front.proofs.AgainPrograms.{again_program}
 

@@ -1,10 +1,11 @@
+pub mod Again
+pub mod AgainBodies
+pub mod AgainForms
+pub mod AgainPrograms
+pub mod CanonicalLemmas
+pub mod Fewer
 pub mod LayoutLemmas
 pub mod Plains
 pub mod ReadLemmas
-pub mod Written
-pub mod Again
 pub mod Unplaced
-pub mod Fewer
-pub mod AgainForms
-pub mod AgainBodies
-pub mod AgainPrograms
+pub mod Written
