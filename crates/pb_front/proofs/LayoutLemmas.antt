@@ -10,12 +10,11 @@ use Rattle.std.proofs.lemmas.Str.Parse.{digit_from_value}
 use Rattle.pb_prog.proofs.TestLemmas.{is_byte, and_parts}
 use Rattle.pb_prog.specs.declared.token.Token.{Token}
 use Rattle.pb_prog.specs.declared.token.TokenWhat.{TokenWhat}
-use Rattle.pb_prog.specs.declared.token.TokenWhat.TheVariants as what
 use Rattle.pb_prog.specs.declared.kind.Kind.{Kind}
 use Rattle.pb_prog.specs.declared.kind.Kind.TheVariants as k
 use Rattle.pb_prog.specs.Bytes.{is_blank, is_in_name, EndsBefore}
 use Rattle.pb_prog.specs.Signs.{long_sign, short_sign, goes_on, signs, sign_place}
-use Rattle.pb_prog.specs.Kinds.{word_kind, sign_kind}
+use Rattle.pb_prog.specs.Kinds.{sign_kind}
 use Rattle.pb_prog.specs.Spelling.{Written, word, numeral, sign_at}
 use Rattle.pb_prog.specs.Tokens as piece
 use Rattle.pb_prog.specs.Tokens.{Piece, Pieces, none, one_more, Spells}
@@ -37,29 +36,29 @@ record LaidAt (at : ℕ) (text : List ℕ) (ws : List Written) : Type 0 where
 abbrev Lays : List ℕ → List Written → Type 0
 Lays text ws = (at : ℕ) → LaidAt at text ws
 
-pub either : {A : Type 0} (P : A → Type 0) (b : Bool) (x y : A) → P x → P y → P (cond b x y)
-either P true x y here there = here
-either P false x y here there = there
+pick : (P : List ℕ → Type 0) (b : Bool) (x y : List ℕ) → (b ≡ true → P x) → (b ≡ false → P y) → P (cond b x y)
+pick P true x y here there = here refl
+pick P false x y here there = there refl
 
 blank_first : {text : List ℕ} {ws : List Written} (b : ℕ) → is_blank b ≡ true → Lays text ws → Lays (b ∷ text) ws
 blank_first b e l at = let r = l (at + 1) in record { tokens = r.tokens; spelled = one_more {first = b ∷ []} (piece.blank e) r.spelled; written = r.written }
 
 -- blanks before what is laid out
-module _ (text : List ℕ) (ws : List Written) where
+module _ (text : List ℕ) (ws : List Written) (l : Lays text ws) where
   abbrev Before : List ℕ → Type 0
   Before blanks = Lays (blanks ++ text) ws
 
-  indented : (n : ℕ) → Lays text ws → Before (indentation n)
-  indented zero l = l
-  indented (suc n) l = blank_first 32 refl (blank_first 32 refl (indented n l))
+  indented : (n : ℕ) → Before (indentation n)
+  indented zero = l
+  indented (suc n) = blank_first 32 refl (blank_first 32 refl (indented n))
 
-  spaced : (depth : ℕ) (last : Option Kind) (b : Kind) → Lays text ws → Before (space depth last b)
+  spaced : (depth : ℕ) (last : Option Kind) (b : Kind) → Before (space depth last b)
   unfolding space
-  spaced depth None b l = indented (outside depth b) l
-  spaced depth (Some a) b l = either Before (ends_line a) _ _ (indented (outside depth b) l) (either Before (joined a b) _ _ l (blank_first 32 refl l))
+  spaced depth None b = indented (outside depth b)
+  spaced depth (Some a) b = pick Before (ends_line a) _ _ (λ e. indented (outside depth b)) (λ e. pick Before (joined a b) _ _ (λ j. l) (λ j. blank_first 32 refl l))
 
-  ended : (a : Kind) → Lays text ws → Before (line_end a)
-  ended a l = either Before (ends_line a) _ _ (blank_first 10 refl l) l
+  ended : (a : Kind) → Before (line_end a)
+  ended a = pick Before (ends_line a) _ _ (λ e. blank_first 10 refl l) (λ e. l)
 
 -- a table of the signs
 abbrev pub below : (ℕ → Bool) → ℕ → Bool
@@ -89,35 +88,8 @@ abbrev is_at : Option ℕ → ℕ → Bool
 is_at None p = false
 is_at (Some q) p = q == p
 
--- `(` and `[` go on with nothing
-abbrev ends_alone : ℕ → Bool
-ends_alone p = p == 0 || (p == 4 || not (joins_behind (sign_kind p)))
-
 abbrev ends_at : ℕ → ℕ → Bool
 ends_at p q = not (joined (sign_kind p) (sign_kind q)) || shuts (goes (sign_bytes p)) (sign_bytes q)
-
-abbrev fits : ℕ → Bool
-fits p = is_at (sign_place (sign_bytes p)) p && (shuts is_in_name (sign_bytes p) && (not (goes (sign_bytes p) 10) && (not (goes (sign_bytes p) 32)
-    && (p == 8 || ends_alone p && below (ends_at p) 25))))
-
-record IsSign (p : ℕ) : Type 0 where
-  place : is_at (sign_place (sign_bytes p)) p ≡ true
-  name : shuts is_in_name (sign_bytes p) ≡ true
-  line : goes (sign_bytes p) 10 ≡ false
-  blank : goes (sign_bytes p) 32 ≡ false
-  next : (p == 8) ≡ false → (ends_alone p ≡ true) × (below (ends_at p) 25 ≡ true)
-
-other_way : (a b : Bool) → a ≡ false → (a || b) ≡ true → b ≡ true
-other_way true b e h = absurd (cc)
-other_way false b e h = h
-
-is_sign : (p : ℕ) → p < 25 → IsSign p
-is_sign p less =
-    let a = and_parts _ _ (each fits 25 p refl less) in
-    let b = and_parts _ _ a.1 in
-    let c = and_parts _ _ b.1 in
-    let d = and_parts _ _ c.1 in
-    record { place = a.0; name = b.0; line = not-true _ c.0; blank = not-true _ d.0; next = λ n. and_parts _ _ (other_way _ _ n d.1) }
 
 -- the bytes that would go on with a token
 abbrev goes_with : Written → ℕ → Bool
@@ -125,22 +97,13 @@ goes_with (word w) b = is_in_name b
 goes_with (numeral n) b = is_in_name b
 goes_with (sign_at p) b = goes (sign_bytes p) b
 
-abbrev what_at : ℕ → Written → TokenWhat
-what_at at (word w) = what.Word (record { bytes = w; at = at })
-what_at at (numeral n) = what.Number n
-what_at at (sign_at p) = what.Sign p
+-- these bytes are that token
+abbrev IsPiece : ℕ → List ℕ → List ℕ → Written → Type 0
+IsPiece at bytes behind w = (what : TokenWhat) × Piece at bytes behind (record { at = at; what = what } ∷ []) × (written_as what ≡ w)
 
-abbrev token_at : ℕ → Written → Token
-token_at at w = record { at = at; what = what_at at w }
-
-same : (at : ℕ) (w : Written) → written_as (what_at at w) ≡ w
-same at (word w) = refl
-same at (numeral n) = refl
-same at (sign_at p) = refl
-
-a_word : (at : ℕ) (w behind : List ℕ) → IsWordText w → EndsBefore is_in_name behind → Piece at w behind (token_at at (word w) ∷ [])
+a_word : (at : ℕ) (w behind : List ℕ) → IsWordText w → EndsBefore is_in_name behind → IsPiece at w behind (word w)
 a_word at [] behind c e = absurd c
-a_word at (b ∷ more) behind c e = piece.word c.0 c.1 e
+a_word at (b ∷ more) behind c e = (_, piece.word c.0 c.1 e, refl)
 
 is_digit : (c : ℕ) → digit_value c < 10 → is_ascii_digit c ≡ true
 is_digit c h = let r = digit_from_value c h in grind (arith, nat_tests)
@@ -153,30 +116,33 @@ no_digit : (l : List ℕ) → EndsBefore is_in_name l → EndsBefore is_ascii_di
 no_digit [] e = tt
 no_digit (b ∷ l) e = grind (arith, nat_tests)
 
-a_number : (at n : ℕ) (ds behind : List ℕ) → IsNumeral 10 ds → digits_value 10 ds ≡ n → n ≤ 9223372036854775807 → EndsBefore is_in_name behind
-    → Piece at ds behind (token_at at (numeral n) ∷ [])
-a_number at n [] behind i v c e = absurd (omega arith)
-a_number at n (d ∷ more) behind i v c e = rw (← v) (piece.number {d = d} {more = more} (is_digit d i.1.0) (are_digits more i.1.1) (no_digit behind e) (omega arith))
+a_number : (at : ℕ) (ds behind : List ℕ) → IsNumeral 10 ds → digits_value 10 ds ≤ 9223372036854775807 → EndsBefore is_in_name behind
+    → IsPiece at ds behind (numeral (digits_value 10 ds))
+a_number at [] behind i c e = absurd (omega arith)
+a_number at (d ∷ more) behind i c e = (_, piece.number (is_digit d i.1.0) (are_digits more i.1.1) (no_digit behind e) c, refl)
 
 is_place : (o : Option ℕ) (p : ℕ) → is_at o p ≡ true → o ≡ Some p
 is_place None p e = absurd (cc)
 is_place (Some q) p e = ap (λ (i : ℕ). Some i) (is_byte q p e)
 
-a_sign : (at p : ℕ) (s behind : List ℕ) → is_at (sign_place s) p ≡ true → EndsBefore (goes s) behind → Piece at s behind (token_at at (sign_at p) ∷ [])
+a_sign : (at p : ℕ) (s behind : List ℕ) → is_at (sign_place s) p ≡ true → EndsBefore (goes s) behind → IsPiece at s behind (sign_at p)
 a_sign at p [] behind i e = absurd (cc)
-a_sign at p (a ∷ []) behind i e = piece.one_byte_sign (is_place (short_sign a) p i) e
-a_sign at p (a ∷ b ∷ []) behind i e = piece.two_byte_sign (is_place (long_sign a b) p i)
+a_sign at p (a ∷ []) behind i e = (_, piece.one_byte_sign (is_place (short_sign a) p i) e, refl)
+a_sign at p (a ∷ b ∷ []) behind i e = (_, piece.two_byte_sign (is_place (long_sign a b) p i), refl)
 a_sign at p (a ∷ b ∷ c ∷ _) behind i e = absurd (cc)
 
-a_piece : (at : ℕ) (w : Written) (behind : List ℕ) → CanBe w → EndsBefore (goes_with w) behind → Piece at (written_bytes w) behind (token_at at w ∷ [])
+a_piece : (at : ℕ) (w : Written) (behind : List ℕ) → CanBe w → EndsBefore (goes_with w) behind → IsPiece at (written_bytes w) behind w
 a_piece at (word w) behind c e = a_word at w behind c e
-a_piece at (numeral n) behind c e = let i = decimal_is_IsNumeral n (omega arith) in a_number at n (decimal n) behind i.0 i.1 c e
-a_piece at (sign_at p) behind c e = a_sign at p (sign_bytes p) behind (is_sign p c).place e
+a_piece at (numeral n) behind c e =
+    let i = decimal_is_IsNumeral n (omega arith) in
+    subst (λ m. IsPiece at (decimal n) behind (numeral m)) i.1 (a_number at (decimal n) behind i.0 (omega arith) e)
+a_piece at (sign_at p) behind c e = a_sign at p (sign_bytes p) behind (each (λ q. is_at (sign_place (sign_bytes q)) q) 25 p refl c) e
 
 token_first : {text : List ℕ} {ws : List Written} (w : Written) → CanBe w → EndsBefore (goes_with w) text → Lays text ws → Lays (written_bytes w ++ text) (w ∷ ws)
 token_first {text} w c e l at =
     let r = l (at + length (written_bytes w)) in
-    record { tokens = token_at at w ∷ r.tokens; spelled = one_more {here = token_at at w ∷ []} (rw append-nil (a_piece at w text c e)) r.spelled; written = one (same at w) r.written }
+    let here : IsPiece at (written_bytes w) (text ++ []) w = rw append-nil (a_piece at w text c e) in
+    record { tokens = _; spelled = one_more here.1 r.spelled; written = one here.2 r.written }
 
 -- where no blank stands before the next token, its first byte doesn't go on with this one
 abbrev Apart : (ℕ → Bool) → Kind → List Written → Type 0
@@ -187,19 +153,16 @@ module _ (test : ℕ → Bool) (a : Kind) (depth : ℕ) (blank : test 32 ≡ fal
   ends_behind : (ws : List Written) → ends_line a ≡ false → Apart test a ws → EndsBefore test (layout depth (Some a) ws)
   unfolding space
   ends_behind [] e next = tt
-  ends_behind (v ∷ vs) e next = rw e (step (joined a (written_kind v)) refl)
-    where
-      step : (b : Bool) → joined a (written_kind v) ≡ b → EndsBefore test ((cond b [] (32 ∷ []) ++ (written_bytes v ++ line_end (written_kind v)))
-          ++ layout (depth_behind depth (written_kind v)) (Some (written_kind v)) vs)
-      step true j = rw (append_assoc, append_assoc) (next j _)
-      step false j = blank
+  ends_behind (v ∷ vs) e next =
+      let P = λ (s : List ℕ). EndsBefore test ((s ++ (written_bytes v ++ line_end (written_kind v))) ++ layout (depth_behind depth (written_kind v)) (Some (written_kind v)) vs) in
+      rw e (pick P (joined a (written_kind v)) [] (32 ∷ []) (λ j. rw (append_assoc, append_assoc) (next j _)) (λ j. blank))
 
   ends : (ws : List Written) → test 10 ≡ false → Apart test a ws → EndsBefore test (line_end a ++ layout depth (Some a) ws)
-  ends ws line next = step (ends_line a) refl
-    where
-      step : (b : Bool) → ends_line a ≡ b → EndsBefore test (cond b (10 ∷ []) [] ++ layout depth (Some a) ws)
-      step true e = line
-      step false e = ends_behind ws e next
+  ends ws line next = pick (λ s. EndsBefore test (s ++ layout depth (Some a) ws)) (ends_line a) _ _ (λ e. line) (λ e. ends_behind ws e next)
+
+other_way : (a b : Bool) → a ≡ false → (a || b) ≡ true → b ≡ true
+other_way true b e h = absurd (cc)
+other_way false b e h = h
 
 shut : (test : ℕ → Bool) (s x : List ℕ) → shuts test s ≡ true → EndsBefore test (s ++ x)
 shut test [] x e = absurd (cc)
@@ -213,8 +176,14 @@ never test (b ∷ l) h = h b
 abbrev joins : Kind → Bool
 joins a = joins_behind a || joins_before a
 
-word_joins : (w : List ℕ) → joins (word_kind w) ≡ false
-word_joins w = grind (arith, nat_tests)
+abbrev is_sign : Written → Bool
+is_sign (sign_at p) = true
+is_sign _ = false
+
+joins_no : (w : Written) → is_sign w ≡ false → joins (written_kind w) ≡ false
+joins_no (word w) e = grind (arith, nat_tests)
+joins_no (numeral n) e = refl
+joins_no (sign_at p) e = absurd (cc)
 
 joins_no_two : (a b : Kind) → joins b ≡ false → joins_both a b ≡ false
 joins_no_two k.Name k.Open e = absurd (cc)
@@ -224,12 +193,11 @@ joins_no_two _ _ e = refl
 joins_alone : (a b : Kind) → joins b ≡ false → joined a b ≡ true → joins_behind a ≡ true
 joins_alone a b e j = let two = joins_no_two a b e in grind (arith, nat_tests)
 
-unjoined : (a b : Kind) → joins a ≡ false → joins b ≡ false → joined a b ≡ true → ⊥
-unjoined a b e f j = true≢false (sym (joins_alone a b f j) ∙ (or_parts _ _ e).0)
-
-opens : (p : ℕ) (l : List ℕ) → ends_alone p ≡ true → joins_behind (sign_kind p) ≡ true → EndsBefore (goes (sign_bytes p)) l
-opens p l e j =
-    elim (or_cases _ _ e) [
+-- `(` and `[` go on with nothing
+opens : (p : ℕ) (l : List ℕ) → (p == 8 || (p == 0 || (p == 4 || not (joins_behind (sign_kind p))))) ≡ true → (p == 8) ≡ false → joins_behind (sign_kind p) ≡ true
+    → EndsBefore (goes (sign_bytes p)) l
+opens p l e n j =
+    elim (or_cases _ _ (other_way _ _ n e)) [
       | inl at ↦ rw (is_byte p 0 at) (never (goes_on 40) l (λ c. refl))
       | inr other ↦ elim (or_cases _ _ other) [
         | inl at ↦ rw (is_byte p 4 at) (never (goes_on 91) l (λ c. refl))
@@ -238,20 +206,18 @@ opens p l e j =
     ]
 
 beside : (w v : Written) → CanBe w → CanBe v → is_dot w ≡ false → joined (written_kind w) (written_kind v) ≡ true → (x : List ℕ) → EndsBefore (goes_with w) (written_bytes v ++ x)
-beside (sign_at p) (sign_at q) c d n j x = shut (goes (sign_bytes p)) (sign_bytes q) x (other_way _ _ (ap not j) (each (ends_at p) 25 q ((is_sign p c).next n).1 d))
-beside (sign_at p) (word v) c d n j x = opens p (v ++ x) ((is_sign p c).next n).0 (joins_alone _ _ (word_joins v) j)
-beside (sign_at p) (numeral m) c d n j x = opens p (decimal m ++ x) ((is_sign p c).next n).0 (joins_alone _ k.Number refl j)
-beside (word w) (sign_at q) c d n j x = shut is_in_name (sign_bytes q) x (is_sign q d).name
-beside (numeral m) (sign_at q) c d n j x = shut is_in_name (sign_bytes q) x (is_sign q d).name
-beside (word w) (word v) c d n j x = absurd (unjoined _ _ (word_joins w) (word_joins v) j)
-beside (word w) (numeral m) c d n j x = absurd (unjoined _ k.Number (word_joins w) refl j)
-beside (numeral m) (word v) c d n j x = absurd (unjoined k.Number _ refl (word_joins v) j)
-beside (numeral m) (numeral n') c d n j x = absurd (unjoined k.Number k.Number refl refl j)
+beside (sign_at p) (sign_at q) c d n j x =
+    let table : below (ends_at p) 25 ≡ true = other_way _ _ n (each (λ i. i == 8 || below (ends_at i) 25) 25 p refl c) in
+    shut (goes (sign_bytes p)) (sign_bytes q) x (other_way _ _ (ap not j) (each (ends_at p) 25 q table d))
+beside (sign_at p) v c d n j x =
+    opens p _ (each (λ i. i == 8 || (i == 0 || (i == 4 || not (joins_behind (sign_kind i))))) 25 p refl c) n (joins_alone _ (written_kind v) (joins_no v refl) j)
+beside w (sign_at q) c d n j x = shut is_in_name (sign_bytes q) x (each (λ i. shuts is_in_name (sign_bytes i)) 25 q refl d)
+beside w v c d n j x = absurd (true≢false (sym (joins_alone (written_kind w) (written_kind v) (joins_no v refl) j) ∙ (or_parts _ _ (joins_no w refl)).0))
 
 ends_so : (w : Written) → CanBe w → (goes_with w 10 ≡ false) × (goes_with w 32 ≡ false)
-ends_so (word w) c = (refl, refl)
-ends_so (numeral n) c = (refl, refl)
-ends_so (sign_at p) c = let s = is_sign p c in (s.line, s.blank)
+ends_so (sign_at p) c =
+    (not-true _ (each (λ i. not (goes (sign_bytes i) 10)) 25 p refl c), not-true _ (each (λ i. not (goes (sign_bytes i) 32)) 25 p refl c))
+ends_so _ c = (refl, refl)
 
 -- a token before what is laid out
 put : (w : Written) (ws : List Written) (depth : ℕ) (last : Option Kind) → CanBe w → Apart (goes_with w) (written_kind w) ws
@@ -261,16 +227,13 @@ put w ws depth last c apart l =
     let n = depth_behind depth a in
     let rest : List ℕ = layout n (Some a) ws in
     let token : Lays (written_bytes w ++ (line_end a ++ rest)) (w ∷ ws) =
-    token_first w c (ends (goes_with w) a n (ends_so w c).1 ws (ends_so w c).0 apart) (ended rest ws a (l n (Some a))) in
-    rw (append_assoc, append_assoc) (spaced _ (w ∷ ws) depth last a token)
+    token_first w c (ends (goes_with w) a n (ends_so w c).1 ws (ends_so w c).0 apart) (ended rest ws (l n (Some a)) a) in
+    rw (append_assoc, append_assoc) (spaced _ (w ∷ ws) token depth last a)
 
-can_be : {w : Written} {ws : List Written} → Plain (w ∷ ws) → CanBe w
-can_be (plain c n p) = c
-can_be (member c p) = omega arith
-
-apart : (w : Written) (ws : List Written) → CanBe w → is_dot w ≡ false → Plain ws → Apart (goes_with w) (written_kind w) ws
-apart w [] c n p = tt
-apart w (v ∷ vs) c n p = beside w v c (can_be p) n
+apart : (w : Written) {ws : List Written} → CanBe w → is_dot w ≡ false → Plain ws → Apart (goes_with w) (written_kind w) ws
+apart w c n plainly.none = tt
+apart w c n (plain d m p) = beside w _ c d n
+apart w c n (member d p) = beside w (sign_at 8) c (omega arith) n
 
 dot_ends : (w x : List ℕ) → IsWordText w → EndsBefore (goes_on 46) (w ++ x)
 dot_ends [] x c = absurd c
@@ -278,9 +241,9 @@ dot_ends (b ∷ more) x c = grind (arith, nat_tests)
 
 lay : {ws : List Written} → Plain ws → (depth : ℕ) (last : Option Kind) → Lays (layout depth last ws) ws
 lay plainly.none depth last = λ at. record { tokens = []; spelled = none; written = nothing }
-lay (plain {w} {ws} c n p) depth last = put w ws depth last c (apart w ws c n p) (lay p)
+lay (plain {w} {ws} c n p) depth last = put w ws depth last c (apart w c n p) (lay p)
 lay (member {w} {ws} c p) depth last =
-    put (sign_at 8) (word w ∷ ws) depth last (omega arith) (λ j x. dot_ends w x c) (λ n a. put (word w) ws n a c (apart (word w) ws c refl p) (lay p))
+    put (sign_at 8) (word w ∷ ws) depth last (omega arith) (λ j x. dot_ends w x c) (λ n a. put (word w) ws n a c (apart (word w) c refl p) (lay p))
 
 pub laid : (ws : List Written) → Plain ws → Laid (layout 0 None ws) ws
 laid ws p = let l = lay p 0 None 0 in record { tokens = l.tokens; spelled = l.spelled; written = l.written }

@@ -24,7 +24,7 @@ use Rattle.pb_prog.specs.declared.tree.view.MarkText.{MarkText}
 use Rattle.pb_prog.specs.Bytes.{begins_name, is_in_name}
 use Rattle.pb_prog.specs.Signs.{signs}
 use Rattle.pb_prog.specs.Kinds.{sign_kind, Is, name_in, name_in_what, number_in, number_in_what, kind_of_what}
-use Rattle.pb_prog.specs.Tokens as text
+use Rattle.pb_prog.specs.Tokens as piece
 use Rattle.pb_prog.specs.Tokens.{Piece, Pieces}
 use Rattle.pb_prog.specs.Grammar as g
 use Rattle.pb_prog.specs.Grammar.{Commas, no_comma, a_comma, IsTerm, IsTerms, IsForm, IsDims, IsDecl, IsDecls, IsView, IsUse, IsCond, IsMark, IsLine, IsOperands, IsOperand, IsComp, IsUnary, IsPrim, IsArguments, IsCoordinates, IsStmt, IsBlock, IsStmts, IsRule, IsRules, IsTransform, IsTransforms, Program}
@@ -52,18 +52,18 @@ listed : (p b : ℕ) (s : List ℕ) → get_or signs p [] ≡ b ∷ s → p < 25
 listed p b s e = elim (cases_lt p 25) [ inl less ↦ less | inr past ↦ let none_there = get_or_past signs p [] past in absurd (cc) ]
 
 good : {at : ℕ} {bytes behind : List ℕ} {ts : List Token} → Piece at bytes behind ts → AllGood ts
-good (text.blank e) = tt
-good (text.line_comment h e) = tt
-good (text.block_comment inside h) = tt
-good (text.word b h e) = ((b, h), tt)
-good (text.number d h e most) = (most, tt)
-good (text.two_byte_sign {a = a} {b = b} {place = p} e) = (listed p _ _ (long_listed a b p e), tt)
-good (text.one_byte_sign {a = a} {place = p} e ends) = (listed p _ _ (short_listed a p e), tt)
+good (piece.blank e) = tt
+good (piece.line_comment h e) = tt
+good (piece.block_comment inside h) = tt
+good (piece.word b h e) = ((b, h), tt)
+good (piece.number d h e most) = (most, tt)
+good (piece.two_byte_sign {a = a} {b = b} {place = p} e) = (listed p _ _ (long_listed a b p e), tt)
+good (piece.one_byte_sign {a = a} {place = p} e ends) = (listed p _ _ (short_listed a p e), tt)
 
 -- the tokens of a text
-pub goods : {at : ℕ} {bytes behind : List ℕ} {ts : List Token} → Pieces at bytes behind ts → AllGood ts
-goods text.none = tt
-goods (text.one_more {here = here} {later = later} p ps) = all_good here later (good p) (goods ps)
+pub goods : {at : ℕ} {text behind : List ℕ} {ts : List Token} → Pieces at text behind ts → AllGood ts
+goods piece.none = tt
+goods (piece.one_more {here = here} {later = later} p ps) = all_good here later (good p) (goods ps)
 
 -- names and numbers among them
 abbrev is_name : Kind → Bool
@@ -154,28 +154,12 @@ optional : {ws : List Written} {all rest : List Token} (b : Bool) → Keeps [] a
 optional true i j = i
 optional false i j = j
 
-no_factor : {rest : List Token} → Keeps (factor_tokens 1) rest rest
-unfolding factor_tokens
-no_factor = done
-
-factor : {t s : Token} {rest : List Token} → Keeps (factor_tokens (number_in t)) (t ∷ s ∷ rest) rest
-unfolding factor_tokens
-factor {t} = optional (number_in t == 1) (skip (skip done)) (counted (fixed refl done))
-
-no_quotient : {rest : List Token} → Keeps (quotient_tokens 0) rest rest
-unfolding quotient_tokens
-no_quotient = done
-
-quotient : {s q : Token} {rest : List Token} → Keeps (quotient_tokens (number_in q)) (s ∷ q ∷ rest) rest
-unfolding quotient_tokens
-quotient {q = q} = optional (number_in q == 0) (skip (skip done)) (fixed refl (counted done))
-
 term : {m : Bool} {x : TermText} {all rest : List Token} → IsTerm m x all rest → Keeps (term_tokens x) all rest
-unfolding term_tokens
+unfolding term_tokens factor_tokens quotient_tokens
 term (g.number_term is) = counted done
-term (g.name_term is) = both no_factor (named is no_quotient)
-term (g.multiple i s n) = both factor (named n no_quotient)
-term (g.fraction n s i least most) = both no_factor (named n quotient)
+term (g.name_term is) = named is done
+term (g.multiple {t = t} i s n) = both (optional {ws = numeral (number_in t) ∷ sign_at 19 ∷ []} (number_in t == 1) (skip (skip done)) (counted (fixed refl done))) (named n done)
+term (g.fraction {q = q} n s i least most) = named n (optional (number_in q == 0) (skip (skip done)) (fixed refl (counted done)))
 
 sign_fixed : (b : Bool) → is_fixed (sign_at (term_sign b)) ≡ true
 sign_fixed true = refl
