@@ -1,6 +1,5 @@
 -- What is written as a tree's tokens spells that tree again, places aside.
-use Rattle.std.proofs.Common.{◌≡◌, ℕ, suc, List, [], ◌∷◌, ◌++◌, map, refl, sym, ap, ap₂, ◌∙◌}
-use Rattle.pb_values.specs.Name.{NameValue}
+use Rattle.std.proofs.Common.{◌≡◌, ℕ, suc, List, [], ◌∷◌, ◌++◌, map, refl, ap, ap₂, ◌∙◌}
 use Rattle.pb_prog.specs.declared.token.Token.{Token}
 use Rattle.pb_prog.specs.declared.token.TokenWhat.{TokenWhat}
 use Rattle.pb_prog.specs.declared.token.TokenWhat.TheVariants as what
@@ -14,7 +13,7 @@ use Rattle.pb_prog.specs.Limits.{over}
 use Rattle.pb_prog.specs.TooMany.{TooMany, in_commas}
 use Rattle.pb_prog.specs.Places.{unplaced_name}
 use Rattle.pb_front.proofs.Written.{written_as, Takes, nothing, one}
-use Rattle.pb_front.proofs.Fewer.{Fewer, Adds, begun_fewer}
+use Rattle.pb_front.proofs.Fewer.{Adds, begun_fewer}
 
 -- what is written so, cut behind its first part
 pub data Cut (a b : List Written) (all rest : List Token) : Type 0 where

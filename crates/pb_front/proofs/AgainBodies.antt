@@ -1,5 +1,5 @@
 -- Expressions and statements are spelled again.
-use Rattle.std.proofs.Common.{◌≡◌, ℕ, suc, ◌+◌, Bool, List, [], ◌∷◌, ◌++◌, map, Option, Some, None, codes, refl, sym, ap, ap₂, ◌∙◌, subst}
+use Rattle.std.proofs.Common.{◌≡◌, ℕ, suc, ◌+◌, List, [], ◌∷◌, ◌++◌, map, Option, Some, None, codes, refl, sym, ap, ap₂, ◌∙◌, subst}
 use Rattle.std.proofs.lemmas.List.{append-nil}
 use Rattle.std.proofs.lemmas.Option.{same_Some}
 use Rattle.pb_values.specs.Name.{NameValue}
@@ -10,20 +10,18 @@ use Rattle.pb_prog.specs.declared.kind.Kind.TheVariants as k
 use Rattle.pb_prog.specs.declared.tree.expression.Level.{Level}
 use Rattle.pb_prog.specs.declared.tree.expression.Level.TheVariants as level
 use Rattle.pb_prog.specs.declared.tree.expression.Operator.{Operator}
-use Rattle.pb_prog.specs.declared.tree.expression.Operator.TheVariants as operator
 use Rattle.pb_prog.specs.declared.tree.expression.Relation.{Relation}
 use Rattle.pb_prog.specs.declared.tree.expression.Relation.TheVariants as relation
 use Rattle.pb_prog.specs.declared.tree.expression.Sign.TheVariants as sign
 use Rattle.pb_prog.specs.Kinds.{kind_of, sign_kind, Is, name_in, number_in}
 use Rattle.pb_prog.specs.Operators.{operator_of, relation_of}
-use Rattle.pb_prog.specs.Forms.{FormValue}
 use Rattle.pb_prog.specs.Exprs.{Expr, number, name, call, parentheses, cell, width, height, signed, chain, chained, compare, exprs, operands}
 use Rattle.pb_prog.specs.Stmts.{Stmt, Stmts, let_number, let_matrix, assign, call_stmt, assign_cell, if_stmt, if_else, for_stmt, stmts}
-use Rattle.pb_prog.specs.Spelling.{Written, word, comma, sign_at, operator_sign, relation_sign, behind_commas, with_commas, name_tokens, form_tokens, expr_tokens, operands_tokens, arguments_tokens, more_arguments_tokens, stmt_tokens, stmts_tokens}
-use Rattle.pb_prog.specs.Grammar.{Commas, IsName, a_name, IsLine, a_line, IsOperands, no_operand, an_operand, IsOperand, a_conj, a_comp, a_prod, a_unary, IsComp, a_sum, two_sums, IsUnary, unsigned, minus_prim, not_prim, IsPrim, a_number, the_name, call_of_none, call_of, in_parentheses, cell_of, width_of, height_of, IsArguments, last_argument, an_argument, IsCoordinates, one_coordinate, two_coordinates, IsStmt, let_a_number, let_a_matrix, an_assignment, a_call, a_cell_assignment, an_if, an_if_else, a_for, IsBlock, a_block, IsStmts, no_stmt, one_stmt}
+use Rattle.pb_prog.specs.Spelling.{comma, operator_sign, relation_sign, behind_commas, with_commas, name_tokens, form_tokens, expr_tokens, operands_tokens, arguments_tokens, more_arguments_tokens, stmt_tokens, stmts_tokens}
+use Rattle.pb_prog.specs.Grammar.{IsName, a_name, IsLine, a_line, IsOperands, no_operand, an_operand, IsOperand, a_conj, a_comp, a_prod, a_unary, IsComp, a_sum, two_sums, IsUnary, unsigned, minus_prim, not_prim, IsPrim, a_number, the_name, call_of_none, call_of, in_parentheses, cell_of, width_of, height_of, IsArguments, last_argument, an_argument, IsCoordinates, one_coordinate, two_coordinates, IsStmt, let_a_number, let_a_matrix, an_assignment, a_call, a_cell_assignment, an_if, an_if_else, a_for, IsBlock, a_block, IsStmts, no_stmt, one_stmt}
 use Rattle.pb_prog.specs.Limits.{over}
-use Rattle.pb_prog.specs.TooMany.{TooMany, begun, in_name, in_line, in_operands, in_operand, in_comp, in_unary, in_prim, in_arguments, in_coordinates, in_stmt, in_block, in_stmts, statements_in, among}
-use Rattle.pb_prog.specs.Places.{unplaced_name, unplaced_form, unplaced_expr, unplaced_exprs, unplaced_operands, unplaced_stmt, unplaced_stmts}
+use Rattle.pb_prog.specs.TooMany.{in_name, in_line, in_operands, in_operand, in_comp, in_unary, in_prim, in_arguments, in_coordinates, in_stmt, in_block, in_stmts, statements_in, among}
+use Rattle.pb_prog.specs.Places.{unplaced_name, unplaced_expr, unplaced_exprs, unplaced_operands, unplaced_stmt, unplaced_stmts}
 use Rattle.pb_front.proofs.Written.{Takes, nothing, one}
 use Rattle.pb_front.proofs.Unplaced.{exprs_unplaced, same_statements, same_among}
 use Rattle.pb_front.proofs.Fewer.{Fewer, Adds, begun_fewer}

@@ -1,5 +1,5 @@
 -- Forms, matrices, views and conditions are spelled again.
-use Rattle.std.proofs.Common.{◌≡◌, ℕ, suc, ◌+◌, ◌≤◌, Bool, true, false, ◌==◌, List, [], ◌∷◌, ◌++◌, length, map, Option, Some, None, codes, if◌then◌else◌, refl, sym, ap, ap₂, ◌∙◌, subst, arith}
+use Rattle.std.proofs.Common.{◌≡◌, ℕ, suc, ◌+◌, ◌≤◌, Bool, true, false, ◌==◌, List, [], ◌∷◌, ◌++◌, length, map, Some, None, codes, if◌then◌else◌, refl, sym, ap, ap₂, ◌∙◌, subst, arith}
 use Rattle.std.proofs.lemmas.Bool.Decides.{nat_tests}
 use Rattle.pb_values.specs.Name.{NameValue}
 use Rattle.pb_prog.specs.declared.token.Token.{Token}
@@ -16,12 +16,12 @@ use Rattle.pb_prog.specs.declared.tree.view.CondText.{CondText}
 use Rattle.pb_prog.specs.Kinds.{kind_of, sign_kind, Is, name_in, number_in}
 use Rattle.pb_prog.specs.Operators.{condition_relation}
 use Rattle.pb_prog.specs.Forms.{FormValue, DeclValue}
-use Rattle.pb_prog.specs.Spelling.{word, numeral, sign_at, term_sign, relation_sign, in_order, with_commas, behind_commas, behind_keyword, factor_tokens, quotient_tokens, term_tokens, next_term_tokens, sum_tokens, form_tokens, decl_tokens, view_tokens, use_tokens, cond_tokens}
+use Rattle.pb_prog.specs.Spelling.{word, numeral, sign_at, term_sign, relation_sign, in_order, with_commas, behind_commas, factor_tokens, quotient_tokens, term_tokens, next_term_tokens, sum_tokens, form_tokens, decl_tokens, view_tokens, use_tokens, cond_tokens}
 use Rattle.pb_prog.specs.Grammar.{Commas, no_comma, a_comma, IsTerm, number_term, name_term, multiple, fraction, IsTerms, no_terms, plus, minus, IsForm, plain_form, minus_form, IsDims, one_dim, two_dims, IsDecl, a_decl, IsDecls, some_decls, IsView, whole, cell_x, cell_xy, row, column, region_2, region_4, IsUse, a_use, IsCond, a_cond}
 use Rattle.pb_prog.specs.Limits.{over, too_great, Sizes, after_form, excess_of, counted}
-use Rattle.pb_prog.specs.TooMany.{TooMany, note, in_term, in_terms, in_form, in_dims, in_decl, in_more_decls, in_decls, in_view, in_use, in_cond}
-use Rattle.pb_prog.specs.Places.{unplaced_name, unplaced_term, unplaced_form, unplaced_decl, unplaced_view, unplaced_use, unplaced_cond}
-use Rattle.pb_front.proofs.Written.{written_as, Takes, nothing, one}
+use Rattle.pb_prog.specs.TooMany.{note, in_term, in_terms, in_form, in_dims, in_decl, in_more_decls, in_decls, in_view, in_use, in_cond}
+use Rattle.pb_prog.specs.Places.{unplaced_term, unplaced_form, unplaced_decl, unplaced_view, unplaced_use, unplaced_cond}
+use Rattle.pb_front.proofs.Written.{Takes, nothing, one}
 use Rattle.pb_front.proofs.Unplaced.{same_after, same_counted, same_length}
 use Rattle.pb_front.proofs.Fewer.{Fewer, Adds, dropped_fewer, begun_fewer, number_fewer, form_fewer}
 use Rattle.pb_front.proofs.Again.{cut, split, is, number_is, is_name, same_name, is_word, Again, made}

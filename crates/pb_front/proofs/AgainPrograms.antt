@@ -1,23 +1,22 @@
 -- Rules, transforms and programs are spelled again.
-use Rattle.std.proofs.Common.{◌≡◌, ℕ, suc, ◌+◌, false, true, List, [], ◌∷◌, ◌++◌, length, map, codes, refl, sym, ap, ap₂, ◌∙◌, subst}
+use Rattle.std.proofs.Common.{◌≡◌, ℕ, suc, ◌+◌, false, true, List, [], ◌∷◌, ◌++◌, length, map, refl, sym, ap, ap₂, subst}
 use Rattle.pb_values.specs.Name.{NameValue}
 use Rattle.pb_prog.specs.declared.token.Token.{Token}
 use Rattle.pb_prog.specs.declared.refusal.Item.TheVariants as item
-use Rattle.pb_prog.specs.declared.kind.Kind.TheVariants as k
 use Rattle.pb_prog.specs.declared.tree.view.UseText.{UseText}
 use Rattle.pb_prog.specs.declared.tree.view.CondText.{CondText}
 use Rattle.pb_prog.specs.declared.tree.view.MarkText.{MarkText}
 use Rattle.pb_prog.specs.declared.tree.view.MarkText.TheVariants as mark
-use Rattle.pb_prog.specs.Kinds.{Is, name_in, number_in}
+use Rattle.pb_prog.specs.Kinds.{name_in, number_in}
 use Rattle.pb_prog.specs.Forms.{DeclValue}
 use Rattle.pb_prog.specs.Stmts.{Stmt, stmts}
 use Rattle.pb_prog.specs.Trees.{Rule, Transform}
 use Rattle.pb_prog.specs.Spelling.{Written, in_order, behind_commas, with_commas, minimum_tokens, minimums_tokens, use_tokens, cond_tokens, conds_tokens, decl_tokens, through_tokens, mark_tokens, stmt_tokens, stmts_tokens, rule_tokens, transform_tokens, text_tokens}
-use Rattle.pb_prog.specs.Grammar.{IsMinimum, a_minimum, IsMinimums, no_minimums, some_minimums, IsDecls, IsThrough, no_through, some_through, IsReads, no_reads, some_reads, IsConds, no_conds, some_conds, IsMark, unmarked, primary, secondary, priority, IsUse, IsCond, IsRule, a_rule, IsRules, no_rules, one_rule, IsTransform, a_transform, IsTransforms, no_transforms, one_transform, Program, a_program}
+use Rattle.pb_prog.specs.Grammar.{IsMinimum, a_minimum, IsMinimums, no_minimums, some_minimums, IsDecls, IsThrough, no_through, some_through, IsReads, no_reads, some_reads, IsConds, no_conds, some_conds, IsMark, unmarked, primary, secondary, priority, IsUse, IsCond, IsRule, a_rule, IsRules, no_rules, one_rule, IsTransform, a_transform, IsTransforms, no_transforms, one_transform, a_program}
 use Rattle.pb_prog.specs.Faults.{Accepted}
 use Rattle.pb_prog.specs.Limits.{over}
-use Rattle.pb_prog.specs.TooMany.{TooMany, in_minimum, in_minimums, in_through, in_decls, in_reads, in_use, in_conds, in_cond, in_mark, in_rule, in_rules, in_transform, in_transforms, in_program}
-use Rattle.pb_prog.specs.Places.{unplaced_name, unplaced_minimum, unplaced_use, unplaced_cond, unplaced_decl, unplaced_stmt, unplaced_rule, unplaced_transform, unplaced}
+use Rattle.pb_prog.specs.TooMany.{in_minimum, in_minimums, in_through, in_decls, in_reads, in_use, in_conds, in_cond, in_mark, in_rule, in_rules, in_transform, in_transforms}
+use Rattle.pb_prog.specs.Places.{unplaced_minimum, unplaced_use, unplaced_cond, unplaced_decl, unplaced_rule, unplaced_transform, unplaced}
 use Rattle.pb_front.proofs.Written.{Takes, nothing, one}
 use Rattle.pb_front.proofs.Unplaced.{same_length}
 use Rattle.pb_front.proofs.Fewer.{Fewer, Adds, begun_fewer, number_fewer}

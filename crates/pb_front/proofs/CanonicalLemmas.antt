@@ -1,5 +1,5 @@
 -- A canonical text is read as the tree that it was printed of.
-use Rattle.std.proofs.Common.{◌≡◌, ℕ, ◌≤◌, List, length, None, sym, ap, ◌∙◌}
+use Rattle.std.proofs.Common.{◌≡◌, ℕ, ◌≤◌, List, length, None, ap, ◌∙◌}
 use Rattle.pb_prog.specs.Trees.{Transform}
 use Rattle.pb_prog.specs.Spelling.{text_tokens}
 use Rattle.pb_prog.specs.Canonical.{layout, canonical}

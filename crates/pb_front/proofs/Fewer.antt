@@ -1,13 +1,13 @@
 -- Where nothing is too many in one list, nothing is in another.
-use Rattle.std.proofs.Common.{◌≡◌, ℕ, ◌<◌, Bool, true, false, nat_le, nat_lt, List, [], ◌∷◌, length, Option, Some, None, if◌then◌else◌, refl, sym, ap, ◌∙◌, subst}
+use Rattle.std.proofs.Common.{◌≡◌, ℕ, Bool, true, false, nat_le, nat_lt, List, [], length, Option, Some, None, if◌then◌else◌, sym, ap, subst}
 use Rattle.pb_values.specs.Name.{NameValue}
 use Rattle.pb_prog.specs.declared.token.Token.{Token}
 use Rattle.pb_prog.specs.declared.refusal.Item.{Item}
 use Rattle.pb_prog.specs.declared.refusal.Item.TheVariants as item
 use Rattle.pb_prog.specs.Kinds.{number_in}
 use Rattle.pb_prog.specs.Forms.{FormValue}
-use Rattle.pb_prog.specs.Limits.{Excess, most, here, too_great, Sizes, alone, is_known, size_excess, excess_of}
-use Rattle.pb_prog.specs.TooMany.{TooMany, note, first_at, begun}
+use Rattle.pb_prog.specs.Limits.{Excess, most, too_great, Sizes, alone, is_known, size_excess, excess_of}
+use Rattle.pb_prog.specs.TooMany.{TooMany, note, begun}
 use Rattle.pb_prog.specs.Places.{unplaced_option, unplaced_form}
 use Rattle.pb_front.proofs.Unplaced.{same_alone}
 

@@ -1,5 +1,5 @@
 -- What doesn't depend on the places of a tree.
-use Rattle.std.proofs.Common.{◌≡◌, ℕ, ◌+◌, Bool, true, false, ◌&&◌, ◌==◌, List, [], ◌∷◌, ◌++◌, length, map, Option, Some, None, codes, if◌then◌else◌, refl, sym, ap, ◌∙◌}
+use Rattle.std.proofs.Common.{◌≡◌, ℕ, Bool, true, false, ◌&&◌, ◌==◌, List, [], ◌∷◌, length, map, Option, Some, None, codes, if◌then◌else◌, refl, sym, ap, ◌∙◌}
 use Rattle.pb_values.specs.Name.{NameValue}
 use Rattle.pb_prog.specs.declared.tree.form.TermText.{TermText}
 use Rattle.pb_prog.specs.declared.tree.view.ViewText.{ViewText}

@@ -12,6 +12,7 @@ use examples::EXAMPLES;
 use large::LARGE;
 use layout::LAID_OUT;
 use limits::LIMITS;
+use pb_front::read_text;
 use pb_lexer::{MOST_BYTES, tokens};
 use pb_parser::parse;
 use pb_prog::{Item, Refusal, print_text};
@@ -206,8 +207,7 @@ fn large_programs_are_read(rt: HostRuntime) -> Result<(), Fail> {
 
 // The canonical text of a program, if it is one.
 fn print(alloc: Global, text: &str) -> Result<Vec<u8>, Refusal> {
-    let found = tokens(alloc, text.as_bytes())?;
-    let tree = parse(alloc, &found, text.len() as u32)?;
+    let tree = read_text(alloc, text.as_bytes())?;
     Ok(print_text(alloc, &tree)?)
 }
 
