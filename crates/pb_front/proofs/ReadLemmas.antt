@@ -1,6 +1,7 @@
 -- What the tokens of a text and their tree say of the text.
 use Rattle.std.proofs.Common.{◌≡◌, ℕ, ◌≤◌, ◌<◌, ◌⊎◌, inl, inr, List, length, Result, Ok, Err, refl, ap, ap₂, subst, arith}
 use Rattle.std.specs.Result.{IfOk, IfErr}
+use Rattle.std.proofs.lemmas.Bool.{cases_lt}
 use Rattle.pb_prog.specs.declared.token.Token.{Token}
 use Rattle.pb_prog.specs.declared.refusal.Item.{Item}
 use Rattle.pb_prog.specs.declared.refusal.Refusal.{Refusal}
@@ -10,9 +11,9 @@ use Rattle.pb_prog.specs.Transforms.{TextValue}
 use Rattle.pb_prog.specs.Trees.{Transform, bare_text}
 use Rattle.pb_prog.specs.Faults.{Accepted, RefusedTokens, BadSyntaxAt, OverLimitAt}
 use Rattle.pb_lexer.specs.Refusing.{most_bytes, Refused}
-use Rattle.pb_lexer.proofs.EndLemmas.{one_list, no_fault, one_fault}
-use Rattle.pb_parser.proofs.Exact.{one_tree as one_tree_of, one_place, one_item, not_both as apart, no_bad_program, no_large_program}
-use Rattle.pb_front.specs.Reading.{IsRead, HasTokens, IsRefused}
+use Rattle.pb_lexer.proofs.EndLemmas.{tokens_or_fault, one_list, no_fault, one_fault}
+use Rattle.pb_parser.proofs.Exact.{some_answer, one_tree as one_tree_of, one_place, one_item, not_both as apart, no_bad_program, no_large_program}
+use Rattle.pb_front.specs.Reading.{IsRead, HasFault, IsRefused}
 
 -- a text without tokens is refused
 pub lexed : (text : List ℕ) (why : Refusal) → Refused text why → (why ≡ Memory) ⊎ IsRefused text why
@@ -45,10 +46,10 @@ one_tree text first second a b =
     one_tree_of b.tokens first second (subst (λ l. Accepted first l) (one_list text a.tokens b.tokens a.spelled b.spelled) a.accepted).0 b.accepted.0
 
 -- a fault of a text's tokens, whichever list they are
-moved : {F : List Token → Type 0} (text : List ℕ) (tokens : List Token) → Spells text tokens → HasTokens text F → F tokens
+moved : {F : List Token → Type 0} (text : List ℕ) (tokens : List Token) → Spells text tokens → HasFault text F → F tokens
 moved {F} text tokens spelled a = subst F (one_list text a.tokens tokens a.spelled spelled) a.faulty
 
-no_tokens : {F : List Token → Type 0} (text : List ℕ) (at : ℕ) → (length text ≤ most_bytes) × BadTokenAt text at → HasTokens text F → ⊥
+no_tokens : {F : List Token → Type 0} (text : List ℕ) (at : ℕ) → (length text ≤ most_bytes) × BadTokenAt text at → HasFault text F → ⊥
 no_tokens text at bad a = no_fault text a.tokens at a.spelled bad.1
 
 pub not_both : (text : List ℕ) (tree : List Transform) (why : Refusal) → IsRead text tree → IsRefused text why → ⊥
@@ -72,14 +73,14 @@ one_byte text at (BadSyntax other) a b = absurd (no_tokens text at a b)
 one_byte text at (OverLimit what other) a b = absurd (no_tokens text at a b)
 one_byte text at other a no_cause = absurd no_cause
 
-one_end : (text : List ℕ) (at : ℕ) (second : Refusal) → HasTokens text (λ tokens. BadSyntaxAt tokens (length text) at) → IsRefused text second → BadSyntax at ≡ second
+one_end : (text : List ℕ) (at : ℕ) (second : Refusal) → HasFault text (λ tokens. BadSyntaxAt tokens (length text) at) → IsRefused text second → BadSyntax at ≡ second
 one_end text at TooLong a b = absurd (omega (arith, b, a.short))
 one_end text at (BadToken other) a b = absurd (no_tokens text other b a)
 one_end text at (BadSyntax other) a b = ap BadSyntax (one_place b.tokens (length text) at other (moved text b.tokens b.spelled a) b.faulty)
 one_end text at (OverLimit what other) a b = absurd (apart b.tokens (length text) at what other (moved text b.tokens b.spelled a) b.faulty)
 one_end text at other a no_cause = absurd no_cause
 
-one_excess : (text : List ℕ) (what : Item) (at : ℕ) (second : Refusal) → HasTokens text (λ tokens. OverLimitAt tokens what at) → IsRefused text second → OverLimit what at ≡ second
+one_excess : (text : List ℕ) (what : Item) (at : ℕ) (second : Refusal) → HasFault text (λ tokens. OverLimitAt tokens what at) → IsRefused text second → OverLimit what at ≡ second
 one_excess text what at TooLong a b = absurd (omega (arith, b, a.short))
 one_excess text what at (BadToken other) a b = absurd (no_tokens text other b a)
 one_excess text what at (BadSyntax other) a b = absurd (apart a.tokens (length text) other what at (moved text a.tokens a.spelled b) a.faulty)
@@ -92,3 +93,16 @@ one_refusal text (BadToken at) second a b = one_byte text at second a b
 one_refusal text (BadSyntax at) second a b = one_end text at second a b
 one_refusal text (OverLimit what at) second a b = one_excess text what at second a b
 one_refusal text other second no_cause b = absurd no_cause
+
+pub some_reading : (text : List ℕ) → ((tree : List Transform) × IsRead text tree) ⊎ ((why : Refusal) × IsRefused text why)
+some_reading text = elim (cases_lt most_bytes (length text)) [
+      | inl long ↦ inr (TooLong, long)
+      | inr short ↦ elim (tokens_or_fault text) [
+        | inr bad ↦ inr (BadToken bad.0, (short, bad.1))
+        | inl found ↦ elim (some_answer found.0 (length text)) [
+          | inl accepted ↦ inl (accepted.0, record { short = short; tokens = found.0; spelled = found.1; accepted = accepted.1 })
+          | inr (inl bad) ↦ inr (BadSyntax bad.0, record { short = short; tokens = found.0; spelled = found.1; faulty = bad.1 })
+          | inr (inr over) ↦ inr (OverLimit over.0 over.1, record { short = short; tokens = found.0; spelled = found.1; faulty = over.2 })
+        ]
+      ]
+    ]

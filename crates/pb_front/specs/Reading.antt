@@ -16,16 +16,16 @@ pub record IsRead (text : List ℕ) (tree : List Transform) : Type 0 where
   pub accepted : Accepted tree tokens
 
 -- the text isn't too long, and its tokens have this fault
-pub record HasTokens (text : List ℕ) (Faulty : List Token → Type 0) : Type 0 where
+pub record HasFault (text : List ℕ) (Fault : List Token → Type 0) : Type 0 where
   pub short : length text ≤ most_bytes
   pub tokens : List Token
   pub spelled : Spells text tokens
-  pub faulty : Faulty tokens
+  pub faulty : Fault tokens
 
 -- why a text is refused: its length, a byte that begins no token, a token at which no program goes on, or an item too many
 abbrev pub IsRefused : List ℕ → Refusal → Type 0
 IsRefused text TooLong = most_bytes < length text
 IsRefused text (BadToken at) = (length text ≤ most_bytes) × BadTokenAt text at
-IsRefused text (BadSyntax at) = HasTokens text (λ tokens. BadSyntaxAt tokens (length text) at)
-IsRefused text (OverLimit what at) = HasTokens text (λ tokens. OverLimitAt tokens what at)
+IsRefused text (BadSyntax at) = HasFault text (λ tokens. BadSyntaxAt tokens (length text) at)
+IsRefused text (OverLimit what at) = HasFault text (λ tokens. OverLimitAt tokens what at)
 IsRefused text _ = ⊥

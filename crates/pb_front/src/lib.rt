@@ -1,7 +1,7 @@
 //! The front end: the tree of a program text.
 //!
-//! In: the bytes of a text. Out: its tree, or why it is refused. A text has one of the two, and its canonical text is
-//! read as the same tree.
+//! In: the bytes of a text. Out: its tree, or why it is refused. A text has one of the two. The canonical text of a tree
+//! that was read is read as the same tree, places aside, where it isn't too long.
 #![tactic(auto)]
 
 mod laws;

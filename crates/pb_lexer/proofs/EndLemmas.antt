@@ -1,9 +1,9 @@
 -- Pieces one behind the other: how one more is put behind them, and that a text has them in one way alone.
-use Rattle.std.proofs.Common.{◌≡◌, ℕ, ◌+◌, List, [], ◌∷◌, ◌++◌, length, take, drop, Option, Some, None, refl, sym, ◌∙◌, ap, subst, arith, append_assoc, append-nil, length-append}
+use Rattle.std.proofs.Common.{◌≡◌, ℕ, zero, suc, ◌+◌, ◌<◌, ◌≤◌, ◌⊎◌, inl, inr, List, [], ◌∷◌, ◌++◌, length, take, drop, Option, Some, None, refl, sym, ◌∙◌, ap, subst, arith, append_assoc, append-nil, length-append}
 use Rattle.std.proofs.Math.Seq.{take-append_seam, drop-append_seam}
 use Rattle.std.proofs.lemmas.Option.{none-some, same_Some}
 use Rattle.pb_prog.specs.declared.token.Token.{Token}
-use Rattle.pb_prog.specs.Tokens.{Piece, Pieces, none, one_more, Spells, BadTokenAt}
+use Rattle.pb_prog.specs.Tokens.{Piece, blank, line_comment, block_comment, word, number, two_byte_sign, one_byte_sign, Pieces, none, one_more, Spells, BadTokenAt}
 use Rattle.pb_lexer.specs.declared.piece.Front.{Front}
 use Rattle.pb_lexer.specs.Reading.{piece_read, tokens_of}
 use Rattle.pb_lexer.proofs.PieceLemmas.{taken, found}
@@ -63,3 +63,42 @@ pub one_fault : (text : List ℕ) (at other : ℕ) → BadTokenAt text at → Ba
 one_fault text at other bad worse =
     let both = one_end bad.before worse.before refl (stops at _ bad.begins_none) (stops other _ worse.begins_none) (sym bad.parts ∙ worse.parts) in
     bad.place ∙ ap length both.0 ∙ sym worse.place
+
+-- a text has a list of tokens, or a byte that begins none
+not_empty : {at : ℕ} {first behind : List ℕ} {here : List Token} → Piece at first behind here → 0 < length first
+not_empty (blank i) = omega arith
+not_empty (line_comment i e) = omega arith
+not_empty (block_comment inside i) = omega arith
+not_empty (word i j e) = omega arith
+not_empty (number i j e m) = omega arith
+not_empty (two_byte_sign i) = omega arith
+not_empty (one_byte_sign i e) = omega arith
+
+abbrev Said : List ℕ → Type 0
+Said text = ((tokens : List Token) × Spells text tokens) ⊎ ((at : ℕ) × BadTokenAt text at)
+
+said_behind : (n : ℕ) (front rest : List ℕ) (ts : List Token) → length rest ≤ n → Pieces 0 front rest ts → Said (front ++ rest)
+said_behind n front [] ts few p = inl (ts, subst (λ l. Pieces 0 l [] ts) (sym (append-nil front)) p)
+said_behind zero front (b ∷ rest) ts few p = absurd (omega arith)
+said_behind (suc n) front (b ∷ rest) ts few p = step (piece_read (b ∷ rest)) refl (λ f g ts h q. said_behind n f g ts h q)
+  where
+    step : (o : Option Front) → piece_read (b ∷ rest) ≡ o
+        → ((f g : List ℕ) (ts : List Token) → length g ≤ n → Pieces 0 f g ts → Said (f ++ g)) → Said (front ++ (b ∷ rest))
+    step None e further = inr (length front, record {
+      front = front;
+      fault = b;
+      behind = rest;
+      tokens = ts;
+      parts = refl;
+      before = p;
+      place = refl;
+      begins_none = begins_none (length front) (b ∷ rest) e;
+    })
+    step (Some f) e further =
+        let g = found (0 + length front) (b ∷ rest) f e in
+        let less : length g.behind ≤ n = omega (arith, few, not_empty g.piece, ap length g.parts, length-append g.spelled g.behind) in
+        subst Said (append_assoc front g.spelled g.behind ∙ ap (λ l. front ++ l) (sym g.parts))
+        (further (front ++ g.spelled) g.behind _ less (one_behind p g.parts g.piece))
+
+pub tokens_or_fault : (text : List ℕ) → Said text
+tokens_or_fault text = said_behind (length text) [] text [] (omega arith) none

@@ -1,4 +1,4 @@
-ghost use Rattle.std.specs.Prelude.{◌≡◌, ℕ, List};
+ghost use Rattle.std.specs.Prelude.{◌≡◌, ℕ, ◌⊎◌, List};
 ghost use Rattle.pb_prog.specs.declared.token.Token.{Token};
 ghost use Rattle.pb_prog.specs.Tokens.{Spells, BadTokenAt};
 
@@ -7,8 +7,10 @@ pub fn a_text_has_one_list()
     ensures { (text : List ℕ) (first second : List Token) → Spells text first → Spells text second → first ≡ second }
 {}
 
-/// A law: a text that has a byte that begins no token, blank or comment has no list of tokens, and one first such byte.
+/// A law: a text has a list of tokens, or a first byte that begins no token, blank or comment; it has one such byte, and
+/// then no list.
 pub fn a_text_has_one_fault()
+    ensures some { (text : List ℕ) → ((tokens : List Token) × Spells text tokens) ⊎ ((at : ℕ) × BadTokenAt text at) }
     ensures one { (text : List ℕ) (at other : ℕ) → BadTokenAt text at → BadTokenAt text other → at ≡ other }
     ensures no_list { (text : List ℕ) (at : ℕ) (tokens : List Token) → BadTokenAt text at → Spells text tokens → ⊥ }
 {}
