@@ -6,6 +6,7 @@
 #![tactic(auto)]
 
 mod answer;
+mod check;
 mod command;
 mod files;
 mod laws;
@@ -13,6 +14,7 @@ mod line;
 mod one_rule;
 mod program;
 mod put;
+mod refusal;
 mod run;
 mod tokens;
 
