@@ -2,7 +2,8 @@
 //!
 //! In: words, a shelf, two sinks. Out: the status, and the text of the answer on one of the sinks. The one
 //! theorem is the clause `ends` of `pb_command`, and `pb_alone` has the same: `specs/Ends.antt` says how a call
-//! ends, over `specs/Answer.antt`, which says what words and files have for an answer.
+//! ends, over `specs/Answer.antt`, which says what words and files have for an answer. `check` and one form of
+//! `run` are built.
 #![tactic(auto)]
 
 mod answer;

@@ -77,11 +77,7 @@ fn run_rule(
 }
 
 // The answer to a run's line over the bytes of its files, the program and the input.
-fn run_files(
-    alloc: Global,
-    line: &RunLine<'_>,
-    contents: &[Vec<u8>],
-) -> Result<Answer, AllocError>
+fn run_files(alloc: Global, line: &RunLine<'_>, contents: &[Vec<u8>]) -> Result<Answer, AllocError>
     requires { length contents.now ≡ 2 }
     ensures { IfOk result (IsRun line.now (contents_of contents.now)) }
 {
@@ -92,11 +88,7 @@ fn run_files(
 
 /// The answer to a run's line over the files of a shelf.
 #[tactic(auto, using(crate::proofs::AnswerLemmas::run_done, crate::proofs::AnswerLemmas::stop_done))]
-pub fn run<S: Shelf>(
-    alloc: Global,
-    line: &RunLine<'_>,
-    shelf: &mut S,
-) -> Result<Answer, AllocError>
+pub fn run<S: Shelf>(alloc: Global, line: &RunLine<'_>, shelf: &mut S) -> Result<Answer, AllocError>
     ensures answer { IfOk result (IsDone (runs line.now) (shelf_change S.files S.faults S.taken shelf.old shelf.new)) }
     ensures stays { S.files shelf.new ≡ S.files shelf.old }
 {
