@@ -3,7 +3,11 @@
 #![tactic(auto)]
 
 #[cfg(test)]
+mod check;
+#[cfg(test)]
 mod devices;
+#[cfg(test)]
+mod examples;
 #[cfg(test)]
 mod first_path;
 #[cfg(test)]

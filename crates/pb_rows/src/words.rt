@@ -23,10 +23,12 @@ fn without_files(words: &'static str, status: u8, err: &'static str) -> Row {
     }
 }
 
-fn outside_rows() -> [Row; 5] {
+fn outside_rows() -> [Row; 7] {
     [
         without_files("", 2, USAGE),
         without_files("--help", 2, USAGE),
+        without_files("check --trace", 2, USAGE),
+        without_files("check p p", 2, USAGE),
         without_files("run --workers 0 double.pb - Double a", 2, USAGE),
         without_files("run --pool serial --pool - Double a", 2, USAGE),
         without_files("demo 1 257 4", 2, USAGE),
@@ -44,7 +46,7 @@ fn words_outside_the_grammar_get_the_usage(rt: HostRuntime) -> Result<(), Fail> 
 fn unbuilt_rows() -> [Row; 6] {
     let line = "N1 NotBuilt\n";
     [
-        without_files("check p", 12, line),
+        without_files("choices p", 12, line),
         without_files("demo 1 96 4", 12, line),
         without_files("run --pool locked p - Double a", 12, line),
         without_files("run --pool serial p c Double a", 12, line),

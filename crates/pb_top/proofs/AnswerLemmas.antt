@@ -1,15 +1,17 @@
 -- From the steps of a command to its answer.
-use Rattle.std.proofs.Common.{◌≡◌, ℕ, List, [], ◌∷◌, length, get_or, Option, Some, None, IfSome, Result, Ok, Err, IfOk, Vec, Contains, inl, refl, sym, ap, ◌∙◌, subst, arith}
+use Rattle.std.proofs.Common.{◌≡◌, ℕ, List, [], ◌∷◌, length, get_or, Option, Some, None, IfSome, Result, Ok, Err, IfOk, Vec, Contains, string_bytes, inl, refl, sym, ap, ◌∙◌, subst, arith}
 use Rattle.std.specs.declared.alloc.Global.{Global}
 use Rattle.std.specs.declared.alloc.AllocError.{AllocError}
 use Rattle.pb_outside.specs.Shelf.{Files}
 use Rattle.pb_top.specs.Sinks.{ShelfChange}
-use Rattle.pb_top.specs.Reply.{Reply}
-use Rattle.pb_top.specs.Answer.{RunLine, run_line, line_files, IsInside, bytes_of_all, Follows, LineAnswers, Answers}
+use Rattle.pb_top.specs.Reply.{Reply, done_reply, refusal_reply}
+use Rattle.pb_top.specs.Command.{RunLine, Command, checks, runs, command_of, command_files}
+use Rattle.pb_top.specs.Answer.{IsInside, bytes_of_all, CommandAnswers, Follows, LineAnswers, Answers}
 use Rattle.pb_top.specs.Ends.{IsSound}
-use Rattle.pb_top.specs.Working.{IsStop, IsPlain, IsRun, IsRuleRun, IsAnswer, reply_of, contents_of}
+use Rattle.pb_top.specs.Working.{IsFetched, IsStop, IsPlain, IsRun, IsRuleRun, IsChecked, IsDone, IsAnswer, reply_of, contents_of}
 use Rattle.pb_top.specs.declared.answer.Answer.{Answer}
 use Rattle.pb_top.specs.declared.answer.Answer.TheVariants.{Done, Refusal, ReadFault}
+use Rattle.pb_top.specs.declared.files.Fetched.TheVariants.{Other}
 
 rule_same : (p q w v f g i j : List ℕ) (answer : Answer) → p ≡ q → w ≡ v → f ≡ g → i ≡ j → IsRuleRun p w f i answer → IsRuleRun q v g j answer
 rule_same p q w v f g i j answer program word file input run =
@@ -29,39 +31,71 @@ two_contents line (x ∷ y ∷ []) a b p w f i (Ok answer) two first second prog
 two_contents line (x ∷ y ∷ []) a b p w f i (Err e) two first second program word file input run = tt
 two_contents line (x ∷ y ∷ z ∷ rest) a b p w f i found two first second program word file input run = absurd (omega arith)
 
--- an answer over files that are told, or none are told
-told_answers : (words : List (List ℕ)) (line : RunLine) (told : Option Files) (reply : Reply) (read : Result (List (List ℕ)) Reply) → IsInside words → run_line words ≡ Some line
-    → Follows line read reply → IfSome told (λ files. bytes_of_all files (line_files (Some line)) ≡ read) → IfSome told (λ files. Answers words files reply)
-told_answers words line None reply read inside is follows took = tt
-told_answers words line (Some files) reply read inside is follows took =
-    let P : Option RunLine → Type 0 = λ l. LineAnswers l files reply in
-    inl (inside, subst P (sym is) (subst (λ r. Follows line r reply) (sym took) follows))
+-- an answer over the bytes of all the files
+follows_all : (command : Command) (contents : List (List ℕ)) (told : Option Files) (reply : Reply)
+    → IfSome told (λ files. bytes_of_all files (command_files (Some command)) ≡ Ok contents) → CommandAnswers command contents reply
+    → IfSome told (λ files. Follows command (bytes_of_all files (command_files (Some command))) reply)
+follows_all command contents None reply took answers = tt
+follows_all command contents (Some files) reply took answers = subst (λ r. Follows command r reply) (sym took) answers
 
--- an answer that no fault makes, in the words of the call
-plain_answer : (words : List (List ℕ)) (shelf : ShelfChange) (answer : Answer) → IsSound shelf → IsPlain answer
-    → IfSome shelf.before (λ files. Answers words files (reply_of answer)) → IsAnswer words shelf answer
-plain_answer words shelf (Done text) sound plain answers = (sound, answers)
-plain_answer words shelf (Refusal status text) sound plain answers = (sound, plain, answers)
-plain_answer words shelf (ReadFault text) sound plain answers = absurd plain
+all_done : (command : Command) (contents : List (List ℕ)) (shelf : ShelfChange) (answer : Answer) → IsSound shelf
+    → IfSome shelf.before (λ files. bytes_of_all files (command_files (Some command)) ≡ Ok contents) → IsPlain answer → CommandAnswers command contents (reply_of answer)
+    → IsDone command shelf answer
+all_done command contents shelf (Done text) sound took plain answers = (sound, follows_all command contents shelf.before (done_reply text.items) took answers)
+all_done command contents shelf (Refusal status line) sound took plain answers =
+    (plain, (sound, follows_all command contents shelf.before (refusal_reply status (string_bytes line)) took answers))
+all_done command contents shelf (ReadFault line) sound took plain answers = absurd plain
 
--- a file that stops a line is its answer
-pub stop_answers : (words : List (List ℕ)) (line : RunLine) (shelf : ShelfChange) (answer : Answer) → IsInside words → run_line words ≡ Some line
-    → IsStop (line_files (Some line)) shelf answer → IsAnswer words shelf answer
-stop_answers words line shelf (Done text) inside is stop = absurd stop
-stop_answers words line shelf (Refusal status text) inside is stop =
-    (stop.0, stop.1, told_answers words line shelf.before (reply_of (Refusal status text)) (Err (reply_of (Refusal status text))) inside is refl stop.2)
-stop_answers words line shelf (ReadFault text) inside is stop = record {
+-- a program to check
+pub check_done : (name program : List ℕ) (shelf : ShelfChange) (found : Result Answer AllocError) → IsSound shelf
+    → IfSome shelf.before (λ files. bytes_of_all files (name ∷ []) ≡ Ok (program ∷ [])) → IfOk found (IsChecked program) → IfOk found (IsDone (checks name) shelf)
+check_done name program shelf (Err e) sound took is = tt
+check_done name program shelf (Ok answer) sound took is = all_done (checks name) (program ∷ []) shelf answer sound took is.0 is.1
+
+-- a run
+pub run_done : (line : RunLine) (contents : List (List ℕ)) (shelf : ShelfChange) (found : Result Answer AllocError) → IsSound shelf
+    → IfSome shelf.before (λ files. bytes_of_all files (command_files (Some (runs line))) ≡ Ok contents) → IfOk found (IsRun line contents) → IfOk found (IsDone (runs line) shelf)
+run_done line contents shelf (Err e) sound took is = tt
+run_done line contents shelf (Ok answer) sound took is = all_done (runs line) contents shelf answer sound took is.0 is.1
+
+-- a file in place of whose bytes there is an answer
+follows_stop : (command : Command) (told : Option Files) (reply : Reply) → IfSome told (λ files. bytes_of_all files (command_files (Some command)) ≡ Err reply)
+    → IfSome told (λ files. Follows command (bytes_of_all files (command_files (Some command))) reply)
+follows_stop command None reply stop = tt
+follows_stop command (Some files) reply stop = subst (λ r. Follows command r reply) (sym stop) refl
+
+pub stop_done : (command : Command) (shelf : ShelfChange) (answer : Answer) → IsStop (command_files (Some command)) shelf answer → IsDone command shelf answer
+stop_done command shelf (Done text) stop = absurd stop
+stop_done command shelf (Refusal status line) stop = (stop.1, (stop.0, follows_stop command shelf.before (refusal_reply status (string_bytes line)) stop.2))
+stop_done command shelf (ReadFault line) stop = stop
+
+pub other_done : (name : List ℕ) (shelf : ShelfChange) (answer : Answer) → IsFetched name shelf (Other answer) → IsDone (checks name) shelf answer
+other_done name shelf (Done text) fetched = absurd fetched
+other_done name shelf (Refusal status line) fetched = stop_done (checks name) shelf (Refusal status line) fetched
+other_done name shelf (ReadFault line) fetched = (name, fetched.0, (0, omega arith, refl), fetched.1)
+
+-- the answer to a command is that to its words
+told_answers : (words : List (List ℕ)) (command : Command) (told : Option Files) (reply : Reply) → IsInside words → command_of words ≡ Some command
+    → IfSome told (λ files. Follows command (bytes_of_all files (command_files (Some command))) reply) → IfSome told (λ files. Answers words files reply)
+told_answers words command None reply inside is follows = tt
+told_answers words command (Some files) reply inside is follows =
+    let P : Option Command → Type 0 = λ c. LineAnswers c files reply in
+    inl (inside, subst P (sym is) follows)
+
+done_answers : (words : List (List ℕ)) (command : Command) (shelf : ShelfChange) (answer : Answer) → IsInside words → command_of words ≡ Some command
+    → IsDone command shelf answer → IsAnswer words shelf answer
+done_answers words command shelf (Done text) inside is done = (done.0, told_answers words command shelf.before (done_reply text.items) inside is done.1)
+done_answers words command shelf (Refusal status line) inside is done =
+    (done.1.0, done.0, told_answers words command shelf.before (refusal_reply status (string_bytes line)) inside is done.1.1)
+done_answers words command shelf (ReadFault line) inside is done = record {
   inside = inside;
-  cause = stop.1;
-  word = stop.0;
-  of_line = subst (λ l. Contains (line_files l) stop.0) (sym is) stop.2;
-  text = stop.3;
+  cause = done.1;
+  word = done.0;
+  of_line = subst (λ c. Contains (command_files c) done.0) (sym is) done.2;
+  text = done.3;
 }
 
--- with the bytes of all its files, a line's answer is that of the command
-pub run_answers : (words : List (List ℕ)) (line : RunLine) (shelf : ShelfChange) (contents : List (List ℕ)) (found : Result Answer AllocError) → IsInside words
-    → run_line words ≡ Some line → IsSound shelf → IfSome shelf.before (λ files. bytes_of_all files (line_files (Some line)) ≡ Ok contents)
-    → IfOk found (IsRun line contents) → IfOk found (IsAnswer words shelf)
-run_answers words line shelf contents (Err e) inside is sound took run = tt
-run_answers words line shelf contents (Ok answer) inside is sound took run =
-    plain_answer words shelf answer sound run.0 (told_answers words line shelf.before (reply_of answer) (Ok contents) inside is run.1 took)
+pub command_answers : (words : List (List ℕ)) (command : Command) (shelf : ShelfChange) (found : Result Answer AllocError) → IsInside words
+    → command_of words ≡ Some command → IfOk found (IsDone command shelf) → IfOk found (IsAnswer words shelf)
+command_answers words command shelf (Err e) inside is done = tt
+command_answers words command shelf (Ok answer) inside is done = done_answers words command shelf answer inside is done

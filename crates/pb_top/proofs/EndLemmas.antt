@@ -4,7 +4,8 @@ use Rattle.pb_outside.specs.Shelf.{Files}
 use Rattle.pb_outside.specs.Sink.{told_with}
 use Rattle.pb_top.specs.Sinks.{ShelfChange, SinkChange, Gains, Stays, IsIdle}
 use Rattle.pb_top.specs.Reply.{Reply, done_reply, refusal_reply}
-use Rattle.pb_top.specs.Answer.{Answers, IsInside, file_words}
+use Rattle.pb_top.specs.Command.{file_words}
+use Rattle.pb_top.specs.Answer.{Answers, IsInside}
 use Rattle.pb_top.specs.Ends.{IsSound, IsReadFault, IsAnswered, IsAnswerStatus, AreSteady, OutBreaks, ErrBreaks, Ends}
 use Rattle.pb_top.specs.Working.{IsRefusal, WritesTo, IsAnswer, IsWritten}
 use Rattle.pb_top.specs.declared.answer.Answer.{Answer}

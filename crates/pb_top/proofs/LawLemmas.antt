@@ -2,15 +2,20 @@
 use Rattle.std.proofs.Common.{◌≡◌, ℕ, List, [], ◌∷◌, map, ℤ, Option, Some, None, Result, Ok, Err, inl, inr, sym, ap, subst, ◌∙◌, refl}
 use Rattle.pb_outside.specs.Shelf.{Files}
 use Rattle.pb_values.specs.declared.outcome.Kind.{Kind}
+use Rattle.pb_prog.specs.Canonical.{canonical}
+use Rattle.pb_front.proofs.ReadLemmas.{one_tree, one_refusal as one_refusal_of, not_both}
 use Rattle.pb_matrix.specs.Text.{matrix_text}
 use Rattle.pb_matrix.specs.Value.{MatrixValue}
 use Rattle.pb_matrix.specs.Reading.{matrix_read}
 use Rattle.pb_matrix.specs.declared.matrix.MatrixRefusal.{MatrixRefusal}
 use Rattle.pb_matrix.specs.declared.matrix.MatrixRefusal.TheVariants.{BadHeader, BadNumber, TooFew, TooMany, Memory}
-use Rattle.pb_top.specs.Reply.{Reply, IsFaultyInput, done_reply}
+use Rattle.pb_top.specs.Reply.{Reply, IsFaultyInput, done_reply, refusal_reply}
 use Rattle.pb_top.specs.OneRule.{WritesSums, InputAnswers, RunsOneRule}
 use Rattle.pb_top.specs.Tokens.{tokens_of}
-use Rattle.pb_top.specs.Answer.{RunLine, run_line, bytes_of_all, line_files, RunAnswers, Follows, LineAnswers, Answers}
+use Rattle.pb_top.specs.Command.{RunLine, Command, checks, runs, command_of, command_files}
+use Rattle.pb_top.specs.Check.{CheckAnswers}
+use Rattle.pb_top.specs.Refusals.{refusal_line}
+use Rattle.pb_top.specs.Answer.{bytes_of_all, RunAnswers, TextAnswers, CommandAnswers, Follows, LineAnswers, Answers}
 use Rattle.pb_top.specs.declared.program.Sign.{Sign}
 use Rattle.pb_top.proofs.FrameLemmas.{one_form}
 
@@ -54,22 +59,39 @@ one_run program word file input first second (inl (names, signs, rule, left)) (i
 one_run program word file input first second (inr (none, is)) (inl (names, signs, rule, right)) = absurd (none names signs rule)
 one_run program word file input first second (inr (none, is)) (inr (none_too, other_is)) = is ∙ sym other_is
 
-one_answer : (line : RunLine) (contents : List (List ℕ)) (first second : Reply) → RunAnswers line contents first → RunAnswers line contents second → first ≡ second
-one_answer line [] first second left right = absurd left
-one_answer line (a ∷ []) first second left right = absurd left
-one_answer line (a ∷ b ∷ []) first second left right = one_run a line.transform line.input b first second left right
-one_answer line (a ∷ b ∷ c ∷ rest) first second left right = absurd left
+one_rule_run : (line : RunLine) (contents : List (List ℕ)) (first second : Reply) → RunAnswers line contents first → RunAnswers line contents second → first ≡ second
+one_rule_run line [] first second left right = absurd left
+one_rule_run line (a ∷ []) first second left right = absurd left
+one_rule_run line (a ∷ b ∷ []) first second left right = one_run a line.transform line.input b first second left right
+one_rule_run line (a ∷ b ∷ c ∷ rest) first second left right = absurd left
 
-one_follows : (line : RunLine) (read : Result (List (List ℕ)) Reply) (first second : Reply) → Follows line read first → Follows line read second → first ≡ second
-one_follows line (Ok contents) first second left right = one_answer line contents first second left right
-one_follows line (Err stop) first second left right = left ∙ sym right
+one_check : (program : List ℕ) (first second : Reply) → CheckAnswers program first → CheckAnswers program second → first ≡ second
+one_check program first second (inl (tree, read, is)) (inl (other, read_too, other_is)) =
+    is ∙ ap (λ t. done_reply (canonical t)) (one_tree program tree other read read_too) ∙ sym other_is
+one_check program first second (inl (tree, read, is)) (inr (why, refused, other_is)) = absurd (not_both program tree why read refused)
+one_check program first second (inr (why, refused, is)) (inl (tree, read, other_is)) = absurd (not_both program tree why read refused)
+one_check program first second (inr (why, refused, is)) (inr (other, refused_too, other_is)) =
+    is ∙ ap (λ w. refusal_reply 3 (refusal_line w)) (one_refusal_of program why other refused refused_too) ∙ sym other_is
 
-one_line : (line : Option RunLine) (files : Files) (first second : Reply) → LineAnswers line files first → LineAnswers line files second → first ≡ second
+one_text_checked : (contents : List (List ℕ)) (first second : Reply) → TextAnswers contents first → TextAnswers contents second → first ≡ second
+one_text_checked [] first second left right = absurd left
+one_text_checked (a ∷ []) first second left right = one_check a first second left right
+one_text_checked (a ∷ b ∷ rest) first second left right = absurd left
+
+one_answer : (command : Command) (contents : List (List ℕ)) (first second : Reply) → CommandAnswers command contents first → CommandAnswers command contents second → first ≡ second
+one_answer (checks file) contents first second left right = one_text_checked contents first second left right
+one_answer (runs line) contents first second left right = one_rule_run line contents first second left right
+
+one_follows : (command : Command) (read : Result (List (List ℕ)) Reply) (first second : Reply) → Follows command read first → Follows command read second → first ≡ second
+one_follows command (Ok contents) first second left right = one_answer command contents first second left right
+one_follows command (Err stop) first second left right = left ∙ sym right
+
+one_line : (command : Option Command) (files : Files) (first second : Reply) → LineAnswers command files first → LineAnswers command files second → first ≡ second
 one_line None files first second left right = left ∙ sym right
-one_line (Some line) files first second left right = one_follows line (bytes_of_all files (line_files (Some line))) first second left right
+one_line (Some command) files first second left right = one_follows command (bytes_of_all files (command_files (Some command))) first second left right
 
 pub one_reply_lem : (words : List (List ℕ)) (files : Files) (first second : Reply) → Answers words files first → Answers words files second → first ≡ second
-one_reply_lem words files first second (inl (inside, left)) (inl (inside_too, right)) = one_line (run_line words) files first second left right
+one_reply_lem words files first second (inl (inside, left)) (inl (inside_too, right)) = one_line (command_of words) files first second left right
 one_reply_lem words files first second (inl (inside, left)) (inr (outside, is)) = absurd (outside inside)
 one_reply_lem words files first second (inr (outside, is)) (inl (inside, right)) = absurd (outside inside)
 one_reply_lem words files first second (inr (outside, is)) (inr (outside_too, other_is)) = is ∙ sym other_is

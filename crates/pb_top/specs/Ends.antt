@@ -5,7 +5,8 @@ use Rattle.pb_outside.specs.Shelf.{Files}
 use Rattle.pb_top.specs.Sinks.{SinkChange, ShelfChange, Gains, Stays, IsSteady, IsIdle, Breaks}
 use Rattle.pb_top.specs.Texts.{read_fault_line}
 use Rattle.pb_top.specs.Reply.{Reply}
-use Rattle.pb_top.specs.Answer.{Answers, IsInside, file_words}
+use Rattle.pb_top.specs.Command.{file_words}
+use Rattle.pb_top.specs.Answer.{Answers, IsInside}
 
 -- the shelf met no fault
 abbrev pub IsSound : ShelfChange → Type 0

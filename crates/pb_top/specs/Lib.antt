@@ -5,6 +5,9 @@ pub mod Tokens
 pub mod Program
 pub mod Found
 pub mod OneRule
+pub mod Refusals
+pub mod Check
+pub mod Command
 pub mod Answer
 pub mod Ends
 pub mod Sums

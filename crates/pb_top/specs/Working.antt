@@ -1,5 +1,5 @@
 -- What the steps of a command give, before anything is written.
-use Rattle.std.specs.Prelude.{◌≡◌, ℕ, ◌<◌, List, [], ◌∷◌, map, length, Contains, IfSome, Ok, Err, Vec, ◌⊎◌, string_bytes}
+use Rattle.std.specs.Prelude.{◌≡◌, ℕ, ◌<◌, List, [], ◌∷◌, map, length, Contains, Some, IfSome, Ok, Err, Vec, ◌⊎◌, string_bytes}
 use Rattle.pb_outside.specs.Count.{RoseBy}
 use Rattle.std.specs.declared.alloc.Global.{Global}
 use Rattle.pb_top.specs.Sinks.{ShelfChange, SinkChange, Gains, IsSteady, IsIdle, Breaks}
@@ -9,7 +9,9 @@ use Rattle.pb_top.specs.OneRule.{InputAnswers, RunsOneRule}
 use Rattle.pb_matrix.specs.Reading.{matrix_read}
 use Rattle.pb_matrix.specs.declared.matrix.MatrixRefusal.{MatrixRefusal}
 use Rattle.pb_top.specs.declared.program.Sign.{Sign}
-use Rattle.pb_top.specs.Answer.{Answers, RunLine, RunAnswers, bytes_of_all}
+use Rattle.pb_top.specs.Check.{CheckAnswers}
+use Rattle.pb_top.specs.Command.{RunLine, Command, checks, runs, command_files}
+use Rattle.pb_top.specs.Answer.{Answers, RunAnswers, Follows, bytes_of_all}
 use Rattle.pb_top.specs.Ends.{IsSound, IsReadFault}
 use Rattle.pb_top.specs.declared.answer.Answer.{Answer}
 use Rattle.pb_top.specs.declared.answer.Answer.TheVariants.{Done, Refusal, ReadFault}
@@ -17,6 +19,13 @@ use Rattle.pb_top.specs.declared.files.Fetched.{Fetched}
 use Rattle.pb_top.specs.declared.files.Fetched.TheVariants.{Bytes, Other}
 use Rattle.pb_top.specs.declared.files.FetchedAll.{FetchedAll}
 use Rattle.pb_top.specs.declared.files.FetchedAll.TheVariants.{All, Stop}
+use Rattle.pb_top.specs.declared.line.Command.{Command as Line}
+use Rattle.pb_top.specs.declared.line.Command.TheVariants.{Check, Run}
+
+-- the command that a line is
+abbrev pub command_in : Line → Command
+command_in (Check program) = checks program.now
+command_in (Run line) = runs line
 
 -- a status that no fault has: neither Ok nor a failed read, a failed write or want of memory
 abbrev pub IsRefusal : ℕ → Type 0
@@ -86,6 +95,21 @@ IsUsage answer = IsPlain answer × (reply_of answer ≡ usage)
 -- the answer to a line over the bytes of its files
 abbrev pub IsRun : RunLine → List (List ℕ) → Answer → Type 0
 IsRun line contents answer = IsPlain answer × RunAnswers line contents (reply_of answer)
+
+-- the answer to a program to check
+abbrev pub IsChecked : List ℕ → Answer → Type 0
+IsChecked program answer = IsPlain answer × CheckAnswers program (reply_of answer)
+
+-- the reply follows from the command's files
+abbrev pub FollowsFiles : Command → ShelfChange → Reply → Type 0
+FollowsFiles command shelf reply =
+    IsSound shelf × IfSome shelf.before (λ files. Follows command (bytes_of_all files (command_files (Some command))) reply)
+
+-- the answer to a command, or the line of a file that couldn't be read
+abbrev pub IsDone : Command → ShelfChange → Answer → Type 0
+IsDone command shelf (Done text) = FollowsFiles command shelf (done_reply text.items)
+IsDone command shelf (Refusal status line) = IsRefusal status × FollowsFiles command shelf (refusal_reply status (string_bytes line))
+IsDone command shelf (ReadFault line) = NamesFault (command_files (Some command)) shelf (string_bytes line)
 
 -- the answer to a command line, or the line of a file that couldn't be read
 abbrev pub IsAnswer : List (List ℕ) → ShelfChange → Answer → Type 0

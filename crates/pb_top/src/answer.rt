@@ -1,11 +1,12 @@
 ghost use Rattle.std.specs.Prelude.{◌≡◌, ◌↔◌, [], map, IsTrue, IfOk, string_bytes};
 ghost use Rattle.pb_top.specs.Sinks.{shelf_change};
-ghost use Rattle.pb_top.specs.Answer.{IsInside, file_words};
+ghost use Rattle.pb_top.specs.Command.{file_words};
+ghost use Rattle.pb_top.specs.Answer.{IsInside};
 ghost use Rattle.pb_top.specs.Working.{IsAnswer, IsUsage};
 
-use crate::files::{FetchedAll, fetch_all};
-use crate::line::read_line;
-use crate::run::{not_built, run_files};
+use crate::check::check;
+use crate::line::{Command, read_command};
+use crate::run::{not_built, run};
 use pb_outside::Shelf;
 use pb_words::read_words;
 use std::alloc::{AllocError, Global};
@@ -58,11 +59,9 @@ pub fn work<S: Shelf>(alloc: Global, words: &[String], shelf: &mut S) -> Result<
     if !is_line(words) {
         return usage(alloc);
     }
-    let Some(line) = read_line(words) else {
-        return not_built(alloc);
-    };
-    match fetch_all(alloc, shelf, &line.files())? {
-        FetchedAll::All(contents) => run_files(alloc, &line, &contents),
-        FetchedAll::Stop(answer) => Ok(answer),
+    match read_command(words) {
+        Some(Command::Check(program)) => check(alloc, program, shelf),
+        Some(Command::Run(line)) => run(alloc, &line, shelf),
+        None => not_built(alloc),
     }
 }

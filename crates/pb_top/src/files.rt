@@ -21,8 +21,8 @@ pub enum FetchedAll {
     Stop(Answer),
 }
 
-// Takes a file of the command.
-fn fetch<S: Shelf>(alloc: Global, shelf: &mut S, name: &str) -> Result<Fetched, AllocError>
+/// Takes a file of the command.
+pub fn fetch<S: Shelf>(alloc: Global, shelf: &mut S, name: &str) -> Result<Fetched, AllocError>
     ensures fetched { IfOk result (IsFetched name.now (shelf_change S.files S.faults S.taken shelf.old shelf.new)) }
     ensures stays { S.files shelf.new ≡ S.files shelf.old }
 {

@@ -2,10 +2,12 @@
 //!
 //! In: words, a shelf, two sinks. Out: the status, and the text of the answer on one of the sinks. The one
 //! theorem is the clause `ends` of `pb_command`, and `pb_alone` has the same: `specs/Ends.antt` says how a call
-//! ends, over `specs/Answer.antt`, which says what words and files have for an answer.
+//! ends, over `specs/Answer.antt`, which says what words and files have for an answer. `check` and one form of
+//! `run` are built.
 #![tactic(auto)]
 
 mod answer;
+mod check;
 mod command;
 mod files;
 mod laws;
@@ -13,6 +15,7 @@ mod line;
 mod one_rule;
 mod program;
 mod put;
+mod refusal;
 mod run;
 mod tokens;
 

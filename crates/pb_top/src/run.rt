@@ -1,11 +1,15 @@
 ghost use Rattle.std.specs.Prelude.{◌≡◌, length, IfOk};
-ghost use Rattle.pb_top.specs.Working.{IsRun, IsRuleRun, IsInputRun, IsFaultyRun, IsNotBuilt, contents_of};
+ghost use Rattle.pb_top.specs.Sinks.{shelf_change};
+ghost use Rattle.pb_top.specs.Command.{runs};
+ghost use Rattle.pb_top.specs.Working.{IsRun, IsRuleRun, IsInputRun, IsFaultyRun, IsNotBuilt, IsDone, contents_of};
 
 use crate::answer::Answer;
+use crate::files::{FetchedAll, fetch_all};
 use crate::line::RunLine;
 use crate::one_rule::sums_text;
 use crate::program::{Sign, is_same, read_program};
 use pb_matrix::{MatrixRefusal, read_matrix};
+use pb_outside::Shelf;
 use std::alloc::{AllocError, Global};
 
 const NOT_BUILT: u8 = 12;
@@ -72,16 +76,24 @@ fn run_rule(
     run_input(alloc, &rule.signs, file, input)
 }
 
-/// The answer to a run's line over the bytes of its files, the program and the input.
-pub fn run_files(
-    alloc: Global,
-    line: &RunLine<'_>,
-    contents: &[Vec<u8>],
-) -> Result<Answer, AllocError>
+// The answer to a run's line over the bytes of its files, the program and the input.
+fn run_files(alloc: Global, line: &RunLine<'_>, contents: &[Vec<u8>]) -> Result<Answer, AllocError>
     requires { length contents.now ≡ 2 }
     ensures { IfOk result (IsRun line.now (contents_of contents.now)) }
 {
     let program = &contents[0];
     let input = &contents[1];
     run_rule(alloc, program, line.transform, line.input, input)
+}
+
+/// The answer to a run's line over the files of a shelf.
+#[tactic(auto, using(crate::proofs::AnswerLemmas::run_done, crate::proofs::AnswerLemmas::stop_done))]
+pub fn run<S: Shelf>(alloc: Global, line: &RunLine<'_>, shelf: &mut S) -> Result<Answer, AllocError>
+    ensures answer { IfOk result (IsDone (runs line.now) (shelf_change S.files S.faults S.taken shelf.old shelf.new)) }
+    ensures stays { S.files shelf.new ≡ S.files shelf.old }
+{
+    match fetch_all(alloc, shelf, &line.files())? {
+        FetchedAll::All(contents) => run_files(alloc, line, &contents),
+        FetchedAll::Stop(answer) => Ok(answer),
+    }
 }

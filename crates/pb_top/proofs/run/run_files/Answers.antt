@@ -1,5 +1,5 @@
 use Rattle.std.proofs.Common.{ap}
-use Rattle.pb_top.specs.Answer.{RunLine}
+use Rattle.pb_top.specs.Command.{RunLine}
 use Rattle.pb_top.proofs.AnswerLemmas.{two_contents}
 use Rattle.pb_top.proofs.run.run_files.Goals as goal
 

@@ -1,0 +1,172 @@
+ghost use Rattle.std.specs.Prelude.{◌<◌};
+
+use crate::examples::{EXAMPLES, ROLL};
+use crate::run::{Row, holds};
+use pb_outside::{MemShelf, MemSink};
+use pb_top::pb_command;
+use std::alloc::{AllocError, Global};
+use std::process::Abort;
+use std::sync::Wait;
+use std::test::Fail;
+use std::thread::Threads;
+
+type Files = &'static [(&'static str, &'static str)];
+
+fn check(files: Files, status: u8, out: &'static str, err: &'static str) -> Row {
+    Row {
+        words: "check p",
+        files,
+        failing_takes: &[],
+        failing_puts: &[],
+        most: 4096,
+        status,
+        out,
+        err,
+    }
+}
+
+// The program of `ROLL` with comments, tabs and other line ends, and no blank where none is needed.
+const DENSE_ROLL: &str =
+    "transform RollingSum from A[1*n]to B[n]{to(B.cell(i)b)from(A.region(0,i+1)a){b=sum(a);}// one\r
+/* two */to(B.cell(i)b)\tfrom(A.cell(i)a,B.cell(i-1)l)\r\n\r\n{b=a+l;}}";
+
+#[test]
+fn checked_programs_have_one_text(rt: HostRuntime) -> Result<(), Fail> {
+    for files in [&[("p", ROLL)], &[("p", DENSE_ROLL)]] {
+        holds(&rt, rt.alloc(), &check(files, 0, ROLL, ""))?;
+    }
+    Ok(())
+}
+
+fn refused_rows() -> [Row; 6] {
+    [
+        check(&[("p", "transform @")], 3, "", "P2 BadToken: byte 10\n"),
+        check(&[("p", "")], 3, "", "P3 BadSyntax: byte 0\n"),
+        check(
+            &[("p", "transform T from A[n] to B[n] {}")],
+            3,
+            "",
+            "P3 BadSyntax: byte 31\n",
+        ),
+        check(
+            &[("p", "transform T from A[1048577]")],
+            3,
+            "",
+            "P4 OverLimit: number at byte 19\n",
+        ),
+        // The ninth term of a form, behind eight of two bytes each.
+        check(
+            &[("p", "transform T from A[n+n+n+n+n+n+n+n+n]")],
+            3,
+            "",
+            "P4 OverLimit: terms at byte 35\n",
+        ),
+        check(&[("q", ROLL)], 14, "", "I1 NoFile: p\n"),
+    ]
+}
+
+#[test]
+fn refused_programs_are_named(rt: HostRuntime) -> Result<(), Fail> {
+    for row in refused_rows() {
+        holds(&rt, rt.alloc(), &row)?;
+    }
+    Ok(())
+}
+
+fn failing_put(
+    files: Files,
+    failing_puts: &'static [u64],
+    most: u64,
+    out: &'static str,
+    err: &'static str,
+) -> Row
+    requires { 0 < most }
+{
+    Row {
+        words: "check p",
+        files,
+        failing_takes: &[],
+        failing_puts,
+        most,
+        status: 10,
+        out,
+        err,
+    }
+}
+
+fn failing_rows() -> [Row; 4] {
+    [
+        Row {
+            words: "check p",
+            files: &[("p", ROLL)],
+            failing_takes: &[0],
+            failing_puts: &[],
+            most: 4096,
+            status: 9,
+            out: "",
+            err: "R ReadFault: p\n",
+        },
+        failing_put(&[("p", ROLL)], &[0], 4096, "", ""),
+        failing_put(&[("p", ROLL)], &[2], 10, "transform RollingSum", ""),
+        failing_put(&[("p", "transform @")], &[1], 4, "", "P2 B"),
+    ]
+}
+
+#[test]
+fn failing_devices_of_a_check_have_their_causes(rt: HostRuntime) -> Result<(), Fail> {
+    for row in failing_rows() {
+        holds(&rt, rt.alloc(), &row)?;
+    }
+    Ok(())
+}
+
+// A shelf with one file, p.
+fn shelf_with(alloc: Global, text: &[u8]) -> Result<MemShelf, AllocError> {
+    let mut entries = Vec::new(alloc);
+    entries.push((String::from_str(alloc, "p")?, Vec::from_slice(alloc, text)?))?;
+    Ok(MemShelf::new(entries, Vec::new(alloc)))
+}
+
+// The status of `check p` over this text, and what is put on `out` and `err`.
+fn checked<R: Threads + Wait + Sync + Abort>(
+    rt: &R,
+    alloc: Global,
+    text: &[u8],
+) -> Result<(u8, Vec<u8>, Vec<u8>), AllocError> {
+    let words = vec![in alloc;
+        String::from_str(alloc, "check")?,
+        String::from_str(alloc, "p")?,
+    ]?;
+    let mut files = shelf_with(alloc, text)?;
+    let mut out = MemSink::new(alloc, 4096, 4096, Vec::new(alloc))?;
+    let mut err = MemSink::new(alloc, 4096, 4096, Vec::new(alloc))?;
+    let status = pb_command(rt, alloc, &words, &mut files, &mut out, &mut err);
+    let out = Vec::from_slice(alloc, out.written())?;
+    let err = Vec::from_slice(alloc, err.written())?;
+    Ok((status, out, err))
+}
+
+#[test]
+fn each_example_is_printed_as_a_text_that_prints_itself(rt: HostRuntime) -> Result<(), Fail> {
+    for example in EXAMPLES {
+        let (status, text, err) = checked(&rt, rt.alloc(), example.as_bytes())?;
+        assert_eq!(rt; (status, err.len()), (0, 0), "{example}");
+        let (status, again, err) = checked(&rt, rt.alloc(), &text)?;
+        assert_eq!(rt; (status, err.len()), (0, 0), "{example}");
+        assert!(rt; again.as_slice() == text.as_slice(), "{example}");
+    }
+    Ok(())
+}
+
+#[test]
+fn a_program_to_check_has_at_most_so_many_bytes(rt: HostRuntime) -> Result<(), Fail> {
+    let mut blanks = Vec::from_elem(rt.alloc(), b' ', 1_048_576)?;
+    let (status, _, err) = checked(&rt, rt.alloc(), &blanks)?;
+    assert_eq!(rt; status, 3);
+    assert_eq!(rt; err.as_slice(), b"P3 BadSyntax: byte 1048576\n".as_slice());
+    blanks.push(b' ')?;
+    let (status, _, err) = checked(&rt, rt.alloc(), &blanks)?;
+    assert_eq!(rt; status, 3);
+    assert_eq!(rt; err.as_slice(), b"P1 TooLong\n".as_slice());
+    Ok(())
+}
