@@ -9,7 +9,7 @@ use std::test::Fail;
 use std::thread::Threads;
 
 /// A call of the top call in memory: words in one text with single blanks between them, the files, the
-/// calls of the shelf that fail, the puts on `out` that fail and the most bytes of each; then the status and
+/// calls of the shelf that fail, the puts on either sink that fail and the most bytes of each; then the status and
 /// what the sinks hold in the end.
 #[derive(Drop)]
 pub struct Row {

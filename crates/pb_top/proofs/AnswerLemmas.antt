@@ -8,7 +8,7 @@ use Rattle.pb_top.specs.Reply.{Reply, done_reply, refusal_reply}
 use Rattle.pb_top.specs.Command.{RunLine, Command, checks, runs, command_of, command_files}
 use Rattle.pb_top.specs.Answer.{IsInside, bytes_of_all, CommandAnswers, Follows, LineAnswers, Answers}
 use Rattle.pb_top.specs.Ends.{IsSound}
-use Rattle.pb_top.specs.Working.{IsFetched, IsStop, IsPlain, IsRun, IsRuleRun, IsChecked, IsDone, IsAnswer, reply_of, contents_of}
+use Rattle.pb_top.specs.Working.{IsFetched, IsStop, IsPlain, IsRun, IsRuleRun, IsChecked, IsCommandAnswer, IsAnswer, reply_of, contents_of}
 use Rattle.pb_top.specs.declared.answer.Answer.{Answer}
 use Rattle.pb_top.specs.declared.answer.Answer.TheVariants.{Done, Refusal, ReadFault}
 use Rattle.pb_top.specs.declared.files.Fetched.TheVariants.{Other}
@@ -40,7 +40,7 @@ follows_all command contents (Some files) reply took answers = subst (λ r. Foll
 
 all_done : (command : Command) (contents : List (List ℕ)) (shelf : ShelfChange) (answer : Answer) → IsSound shelf
     → IfSome shelf.before (λ files. bytes_of_all files (command_files (Some command)) ≡ Ok contents) → IsPlain answer → CommandAnswers command contents (reply_of answer)
-    → IsDone command shelf answer
+    → IsCommandAnswer command shelf answer
 all_done command contents shelf (Done text) sound took plain answers = (sound, follows_all command contents shelf.before (done_reply text.items) took answers)
 all_done command contents shelf (Refusal status line) sound took plain answers =
     (plain, (sound, follows_all command contents shelf.before (refusal_reply status (string_bytes line)) took answers))
@@ -48,13 +48,13 @@ all_done command contents shelf (ReadFault line) sound took plain answers = absu
 
 -- a program to check
 pub check_done : (name program : List ℕ) (shelf : ShelfChange) (found : Result Answer AllocError) → IsSound shelf
-    → IfSome shelf.before (λ files. bytes_of_all files (name ∷ []) ≡ Ok (program ∷ [])) → IfOk found (IsChecked program) → IfOk found (IsDone (checks name) shelf)
+    → IfSome shelf.before (λ files. bytes_of_all files (name ∷ []) ≡ Ok (program ∷ [])) → IfOk found (IsChecked program) → IfOk found (IsCommandAnswer (checks name) shelf)
 check_done name program shelf (Err e) sound took is = tt
 check_done name program shelf (Ok answer) sound took is = all_done (checks name) (program ∷ []) shelf answer sound took is.0 is.1
 
 -- a run
 pub run_done : (line : RunLine) (contents : List (List ℕ)) (shelf : ShelfChange) (found : Result Answer AllocError) → IsSound shelf
-    → IfSome shelf.before (λ files. bytes_of_all files (command_files (Some (runs line))) ≡ Ok contents) → IfOk found (IsRun line contents) → IfOk found (IsDone (runs line) shelf)
+    → IfSome shelf.before (λ files. bytes_of_all files (command_files (Some (runs line))) ≡ Ok contents) → IfOk found (IsRun line contents) → IfOk found (IsCommandAnswer (runs line) shelf)
 run_done line contents shelf (Err e) sound took is = tt
 run_done line contents shelf (Ok answer) sound took is = all_done (runs line) contents shelf answer sound took is.0 is.1
 
@@ -64,12 +64,12 @@ follows_stop : (command : Command) (told : Option Files) (reply : Reply) → IfS
 follows_stop command None reply stop = tt
 follows_stop command (Some files) reply stop = subst (λ r. Follows command r reply) (sym stop) refl
 
-pub stop_done : (command : Command) (shelf : ShelfChange) (answer : Answer) → IsStop (command_files (Some command)) shelf answer → IsDone command shelf answer
+pub stop_done : (command : Command) (shelf : ShelfChange) (answer : Answer) → IsStop (command_files (Some command)) shelf answer → IsCommandAnswer command shelf answer
 stop_done command shelf (Done text) stop = absurd stop
 stop_done command shelf (Refusal status line) stop = (stop.1, (stop.0, follows_stop command shelf.before (refusal_reply status (string_bytes line)) stop.2))
 stop_done command shelf (ReadFault line) stop = stop
 
-pub other_done : (name : List ℕ) (shelf : ShelfChange) (answer : Answer) → IsFetched name shelf (Other answer) → IsDone (checks name) shelf answer
+pub other_done : (name : List ℕ) (shelf : ShelfChange) (answer : Answer) → IsFetched name shelf (Other answer) → IsCommandAnswer (checks name) shelf answer
 other_done name shelf (Done text) fetched = absurd fetched
 other_done name shelf (Refusal status line) fetched = stop_done (checks name) shelf (Refusal status line) fetched
 other_done name shelf (ReadFault line) fetched = (name, fetched.0, (0, omega arith, refl), fetched.1)
@@ -83,7 +83,7 @@ told_answers words command (Some files) reply inside is follows =
     inl (inside, subst P (sym is) follows)
 
 done_answers : (words : List (List ℕ)) (command : Command) (shelf : ShelfChange) (answer : Answer) → IsInside words → command_of words ≡ Some command
-    → IsDone command shelf answer → IsAnswer words shelf answer
+    → IsCommandAnswer command shelf answer → IsAnswer words shelf answer
 done_answers words command shelf (Done text) inside is done = (done.0, told_answers words command shelf.before (done_reply text.items) inside is done.1)
 done_answers words command shelf (Refusal status line) inside is done =
     (done.1.0, done.0, told_answers words command shelf.before (refusal_reply status (string_bytes line)) inside is done.1.1)
@@ -96,6 +96,6 @@ done_answers words command shelf (ReadFault line) inside is done = record {
 }
 
 pub command_answers : (words : List (List ℕ)) (command : Command) (shelf : ShelfChange) (found : Result Answer AllocError) → IsInside words
-    → command_of words ≡ Some command → IfOk found (IsDone command shelf) → IfOk found (IsAnswer words shelf)
+    → command_of words ≡ Some command → IfOk found (IsCommandAnswer command shelf) → IfOk found (IsAnswer words shelf)
 command_answers words command shelf (Err e) inside is done = tt
 command_answers words command shelf (Ok answer) inside is done = done_answers words command shelf answer inside is done

@@ -19,11 +19,11 @@ use Rattle.pb_top.specs.declared.files.Fetched.{Fetched}
 use Rattle.pb_top.specs.declared.files.Fetched.TheVariants.{Bytes, Other}
 use Rattle.pb_top.specs.declared.files.FetchedAll.{FetchedAll}
 use Rattle.pb_top.specs.declared.files.FetchedAll.TheVariants.{All, Stop}
-use Rattle.pb_top.specs.declared.line.Command.{Command as Line}
+use Rattle.pb_top.specs.declared.line.Command.{Command as Words}
 use Rattle.pb_top.specs.declared.line.Command.TheVariants.{Check, Run}
 
 -- the command that a line is
-abbrev pub command_in : Line → Command
+abbrev pub command_in : Words → Command
 command_in (Check program) = checks program.now
 command_in (Run line) = runs line
 
@@ -106,10 +106,10 @@ FollowsFiles command shelf reply =
     IsSound shelf × IfSome shelf.before (λ files. Follows command (bytes_of_all files (command_files (Some command))) reply)
 
 -- the answer to a command, or the line of a file that couldn't be read
-abbrev pub IsDone : Command → ShelfChange → Answer → Type 0
-IsDone command shelf (Done text) = FollowsFiles command shelf (done_reply text.items)
-IsDone command shelf (Refusal status line) = IsRefusal status × FollowsFiles command shelf (refusal_reply status (string_bytes line))
-IsDone command shelf (ReadFault line) = NamesFault (command_files (Some command)) shelf (string_bytes line)
+abbrev pub IsCommandAnswer : Command → ShelfChange → Answer → Type 0
+IsCommandAnswer command shelf (Done text) = FollowsFiles command shelf (done_reply text.items)
+IsCommandAnswer command shelf (Refusal status line) = IsRefusal status × FollowsFiles command shelf (refusal_reply status (string_bytes line))
+IsCommandAnswer command shelf (ReadFault line) = NamesFault (command_files (Some command)) shelf (string_bytes line)
 
 -- the answer to a command line, or the line of a file that couldn't be read
 abbrev pub IsAnswer : List (List ℕ) → ShelfChange → Answer → Type 0

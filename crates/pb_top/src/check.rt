@@ -1,7 +1,7 @@
 ghost use Rattle.std.specs.Prelude.{◌≡◌, IfOk};
 ghost use Rattle.pb_top.specs.Sinks.{shelf_change};
 ghost use Rattle.pb_top.specs.Command.{checks};
-ghost use Rattle.pb_top.specs.Working.{IsChecked, IsDone};
+ghost use Rattle.pb_top.specs.Working.{IsChecked, IsCommandAnswer};
 
 use crate::answer::Answer;
 use crate::files::{Fetched, fetch};
@@ -30,7 +30,7 @@ fn check_text(alloc: Global, program: &[u8]) -> Result<Answer, AllocError>
 /// The answer to `check` of a file.
 #[tactic(auto, using(crate::proofs::AnswerLemmas::check_done, crate::proofs::AnswerLemmas::other_done))]
 pub fn check<S: Shelf>(alloc: Global, file: &str, shelf: &mut S) -> Result<Answer, AllocError>
-    ensures answer { IfOk result (IsDone (checks file.now) (shelf_change S.files S.faults S.taken shelf.old shelf.new)) }
+    ensures answer { IfOk result (IsCommandAnswer (checks file.now) (shelf_change S.files S.faults S.taken shelf.old shelf.new)) }
     ensures stays { S.files shelf.new ≡ S.files shelf.old }
 {
     match fetch(alloc, shelf, file)? {

@@ -7,6 +7,8 @@ use crate::answer::Answer;
 use pb_outside::{FILE_LIMIT, Shelf, Take};
 use std::alloc::{AllocError, Global};
 
+const FILE_REFUSED: u8 = 14;
+
 /// A file's bytes, or the answer where there are none.
 #[derive(Drop)]
 pub enum Fetched {
@@ -30,11 +32,11 @@ pub fn fetch<S: Shelf>(alloc: Global, shelf: &mut S, name: &str) -> Result<Fetch
         Take::Got(bytes) => Ok(Fetched::Bytes(bytes)),
         Take::Long => {
             let line = format!(in alloc; "I2 FileTooLong: {name}\n")?;
-            Ok(Fetched::Other(Answer::Refusal(14, line)))
+            Ok(Fetched::Other(Answer::Refusal(FILE_REFUSED, line)))
         }
         Take::Missing => {
             let line = format!(in alloc; "I1 NoFile: {name}\n")?;
-            Ok(Fetched::Other(Answer::Refusal(14, line)))
+            Ok(Fetched::Other(Answer::Refusal(FILE_REFUSED, line)))
         }
         Take::Failed => {
             let line = format!(in alloc; "R ReadFault: {name}\n")?;

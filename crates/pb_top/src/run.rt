@@ -1,7 +1,7 @@
 ghost use Rattle.std.specs.Prelude.{◌≡◌, length, IfOk};
 ghost use Rattle.pb_top.specs.Sinks.{shelf_change};
 ghost use Rattle.pb_top.specs.Command.{runs};
-ghost use Rattle.pb_top.specs.Working.{IsRun, IsRuleRun, IsInputRun, IsFaultyRun, IsNotBuilt, IsDone, contents_of};
+ghost use Rattle.pb_top.specs.Working.{IsRun, IsRuleRun, IsInputRun, IsFaultyRun, IsNotBuilt, IsCommandAnswer, contents_of};
 
 use crate::answer::Answer;
 use crate::files::{FetchedAll, fetch_all};
@@ -89,7 +89,7 @@ fn run_files(alloc: Global, line: &RunLine<'_>, contents: &[Vec<u8>]) -> Result<
 /// The answer to a run's line over the files of a shelf.
 #[tactic(auto, using(crate::proofs::AnswerLemmas::run_done, crate::proofs::AnswerLemmas::stop_done))]
 pub fn run<S: Shelf>(alloc: Global, line: &RunLine<'_>, shelf: &mut S) -> Result<Answer, AllocError>
-    ensures answer { IfOk result (IsDone (runs line.now) (shelf_change S.files S.faults S.taken shelf.old shelf.new)) }
+    ensures answer { IfOk result (IsCommandAnswer (runs line.now) (shelf_change S.files S.faults S.taken shelf.old shelf.new)) }
     ensures stays { S.files shelf.new ≡ S.files shelf.old }
 {
     match fetch_all(alloc, shelf, &line.files())? {

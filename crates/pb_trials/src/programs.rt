@@ -1,6 +1,5 @@
 //! Program texts: whether they are accepted, or why they are refused.
 mod broken;
-mod examples;
 mod large;
 mod layout;
 mod limits;
@@ -8,7 +7,6 @@ mod printed;
 mod small;
 
 use broken::BROKEN;
-use examples::EXAMPLES;
 use large::LARGE;
 use layout::LAID_OUT;
 use limits::LIMITS;
@@ -16,7 +14,7 @@ use pb_front::read_text;
 use pb_lexer::{MOST_BYTES, tokens};
 use pb_parser::parse;
 use pb_prog::{Item, Refusal, print_text};
-use printed::PRINTED;
+use printed::{PRINTED, WRITTEN};
 use small::{SAID, WHOLE};
 use std::alloc::{AllocError, Global};
 use std::test::Fail;
@@ -164,7 +162,7 @@ fn texts_are_said_of(rt: HostRuntime) -> Result<(), Fail> {
         let found = said(rt.alloc(), text.as_bytes())?;
         assert_eq!(rt; found.as_str(), expected, "{text}");
     }
-    for text in EXAMPLES.iter().chain(LAID_OUT.iter()) {
+    for text in &LAID_OUT {
         assert!(rt; says(rt.alloc(), text, "accepted")?, "{text}");
     }
     Ok(())
@@ -221,9 +219,7 @@ fn prints(alloc: Global, text: &str, expected: &str) -> bool {
 
 #[test]
 fn a_program_is_printed_in_one_layout(rt: HostRuntime) -> Result<(), Fail> {
-    for (text, expected) in &PRINTED {
-        assert!(rt; prints(rt.alloc(), text, expected), "{text}");
-        assert!(rt; prints(rt.alloc(), expected, expected), "{text}");
-    }
+    assert!(rt; prints(rt.alloc(), WRITTEN, PRINTED));
+    assert!(rt; prints(rt.alloc(), PRINTED, PRINTED));
     Ok(())
 }
