@@ -1,9 +1,7 @@
 pub mod Again
-pub mod AgainBodies
-pub mod AgainForms
+pub mod AgainParts
 pub mod AgainPrograms
 pub mod CanonicalLemmas
-pub mod Fewer
 pub mod LayoutLemmas
 pub mod Plains
 pub mod ReadLemmas

@@ -19,25 +19,22 @@ use Rattle.pb_prog.specs.Places.{unplaced_name, unplaced_option, unplaced_minimu
 pub through : {A B : Type 0} (f : A → B) (g : A → A) → ((x : A) → f (g x) ≡ f x) → (y x : A) → g y ≡ g x → f y ≡ f x
 through f g kept y x e = sym (kept y) ∙ ap f e ∙ kept x
 
-order_kept : {A : Type 0} (f : A → List Written) (g : A → A) → ((x : A) → f (g x) ≡ f x) → (xs : List A) → in_order f (map g xs) ≡ in_order f xs
-order_kept f g h [] = refl
-order_kept f g h (x ∷ xs) = rw (h x, order_kept f g h xs) refl
+module _ {A : Type 0} (f : A → List Written) (g : A → A) (h : (x : A) → f (g x) ≡ f x) where
+  order_kept : (xs : List A) → in_order f (map g xs) ≡ in_order f xs
+  order_kept [] = refl
+  order_kept (x ∷ xs) = rw (h x, order_kept xs) refl
 
-commas_kept : {A : Type 0} (f : A → List Written) (g : A → A) → ((x : A) → f (g x) ≡ f x) → (xs : List A) → behind_commas f (map g xs) ≡ behind_commas f xs
-commas_kept f g h [] = refl
-commas_kept f g h (x ∷ xs) = rw (h x, commas_kept f g h xs) refl
+  commas_kept : (xs : List A) → behind_commas f (map g xs) ≡ behind_commas f xs
+  commas_kept [] = refl
+  commas_kept (x ∷ xs) = rw (h x, commas_kept xs) refl
 
-with_kept : {A : Type 0} (f : A → List Written) (g : A → A) → ((x : A) → f (g x) ≡ f x) → (xs : List A) → with_commas f (map g xs) ≡ with_commas f xs
-with_kept f g h [] = refl
-with_kept f g h (x ∷ xs) = rw (h x, commas_kept f g h xs) refl
+  with_kept : (xs : List A) → with_commas f (map g xs) ≡ with_commas f xs
+  with_kept [] = refl
+  with_kept (x ∷ xs) = rw (h x, commas_kept xs) refl
 
-keyword_kept : {A : Type 0} (w : List ℕ) (f : A → List Written) (g : A → A) → ((x : A) → f (g x) ≡ f x) → (xs : List A)
-    → behind_keyword w f (map g xs) ≡ behind_keyword w f xs
-keyword_kept w f g h [] = refl
-keyword_kept w f g h (x ∷ xs) = rw (h x, commas_kept f g h xs) refl
-
-name_kept : (n : NameValue) → name_tokens (unplaced_name n) ≡ name_tokens n
-name_kept n = refl
+  keyword_kept : (w : List ℕ) (xs : List A) → behind_keyword w f (map g xs) ≡ behind_keyword w f xs
+  keyword_kept w [] = refl
+  keyword_kept w (x ∷ xs) = rw (h x, commas_kept xs) refl
 
 minimum_kept : (m : NameValue × ℕ) → minimum_tokens (unplaced_minimum m) ≡ minimum_tokens m
 unfolding minimum_tokens
@@ -134,7 +131,7 @@ mutual
   stmt_kept (let_number at n x) = rw (expr_kept x) refl
   stmt_kept (let_matrix at n ds) = rw (dims_kept ds) refl
   stmt_kept (assign n x) = rw (expr_kept x) refl
-  stmt_kept (call_stmt ns n xs) = rw (with_kept name_tokens unplaced_name name_kept ns, list_kept xs) refl
+  stmt_kept (call_stmt ns n xs) = rw (with_kept name_tokens unplaced_name (λ n. refl) ns, list_kept xs) refl
   stmt_kept (assign_cell n xs x) = rw (list_kept xs, expr_kept x) refl
   stmt_kept (if_stmt at x ss) = rw (expr_kept x, stmts_kept ss) refl
   stmt_kept (if_else at x ss others) = rw (expr_kept x, stmts_kept ss, stmts_kept others) refl
@@ -147,12 +144,12 @@ mutual
 rule_kept : (r : Rule) → rule_tokens (unplaced_rule r) ≡ rule_tokens r
 unfolding rule_tokens
 rule_kept r = rw (with_kept use_tokens unplaced_use use_kept r.outs, with_kept use_tokens unplaced_use use_kept r.reads,
-    keyword_kept (codes "where") cond_tokens unplaced_cond cond_kept r.conds, order_kept stmt_tokens unplaced_stmt stmt_kept r.body) refl
+    keyword_kept cond_tokens unplaced_cond cond_kept (codes "where") r.conds, order_kept stmt_tokens unplaced_stmt stmt_kept r.body) refl
 
 transform_kept : (t : Transform) → transform_tokens (unplaced_transform t) ≡ transform_tokens t
 unfolding transform_tokens
-transform_kept t = rw (keyword_kept (codes "where") minimum_tokens unplaced_minimum minimum_kept t.minimums, with_kept decl_tokens unplaced_decl decl_kept t.from,
-    keyword_kept (codes "through") decl_tokens unplaced_decl decl_kept t.through, with_kept decl_tokens unplaced_decl decl_kept t.to,
+transform_kept t = rw (keyword_kept minimum_tokens unplaced_minimum minimum_kept (codes "where") t.minimums, with_kept decl_tokens unplaced_decl decl_kept t.from,
+    keyword_kept decl_tokens unplaced_decl decl_kept (codes "through") t.through, with_kept decl_tokens unplaced_decl decl_kept t.to,
     order_kept rule_tokens unplaced_rule rule_kept t.rules) refl
 
 -- trees that differ in places alone have the same tokens

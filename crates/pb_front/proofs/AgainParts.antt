@@ -1,4 +1,4 @@
--- Forms, matrices, views and conditions are spelled again.
+-- Forms, matrices, views, conditions and marks are spelled again.
 use Rattle.std.proofs.Common.{◌≡◌, ℕ, suc, ◌+◌, ◌≤◌, Bool, true, false, ◌==◌, List, [], ◌∷◌, ◌++◌, length, map, Some, None, codes, if◌then◌else◌, refl, sym, ap, ap₂, ◌∙◌, subst, arith}
 use Rattle.std.proofs.lemmas.Bool.Decides.{nat_tests}
 use Rattle.pb_values.specs.Name.{NameValue}
@@ -16,15 +16,16 @@ use Rattle.pb_prog.specs.declared.tree.view.CondText.{CondText}
 use Rattle.pb_prog.specs.Kinds.{kind_of, sign_kind, Is, name_in, number_in}
 use Rattle.pb_prog.specs.Operators.{condition_relation}
 use Rattle.pb_prog.specs.Forms.{FormValue, DeclValue}
-use Rattle.pb_prog.specs.Spelling.{word, numeral, sign_at, term_sign, relation_sign, in_order, with_commas, behind_commas, factor_tokens, quotient_tokens, term_tokens, next_term_tokens, sum_tokens, form_tokens, decl_tokens, view_tokens, use_tokens, cond_tokens}
-use Rattle.pb_prog.specs.Grammar.{Commas, no_comma, a_comma, IsTerm, number_term, name_term, multiple, fraction, IsTerms, no_terms, plus, minus, IsForm, plain_form, minus_form, IsDims, one_dim, two_dims, IsDecl, a_decl, IsDecls, some_decls, IsView, whole, cell_x, cell_xy, row, column, region_2, region_4, IsUse, a_use, IsCond, a_cond}
+use Rattle.pb_prog.specs.Spelling.{word, numeral, sign_at, term_sign, relation_sign, in_order, with_commas, behind_commas, factor_tokens, quotient_tokens, term_tokens, next_term_tokens, sum_tokens, form_tokens, decl_tokens, view_tokens, use_tokens, cond_tokens, minimum_tokens, minimums_tokens, conds_tokens, through_tokens, mark_tokens}
+use Rattle.pb_prog.specs.Grammar.{Commas, no_comma, a_comma, IsTerm, number_term, name_term, multiple, fraction, IsTerms, no_terms, plus, minus, IsForm, plain_form, minus_form, IsDims, one_dim, two_dims, IsDecl, a_decl, IsDecls, some_decls, IsView, whole, cell_x, cell_xy, row, column, region_2, region_4, IsUse, a_use, IsCond, a_cond, IsMinimum, a_minimum, IsMinimums, no_minimums, some_minimums, IsThrough, no_through, some_through, IsReads, no_reads, some_reads, IsConds, no_conds, some_conds, IsMark, unmarked, primary, secondary, priority}
 use Rattle.pb_prog.specs.Limits.{over, too_great, Sizes, after_form, excess_of, counted}
-use Rattle.pb_prog.specs.TooMany.{note, in_term, in_terms, in_form, in_dims, in_decl, in_more_decls, in_decls, in_view, in_use, in_cond}
-use Rattle.pb_prog.specs.Places.{unplaced_term, unplaced_form, unplaced_decl, unplaced_view, unplaced_use, unplaced_cond}
+use Rattle.pb_prog.specs.TooMany.{note, in_term, in_terms, in_form, in_dims, in_decl, in_more_decls, in_decls, in_view, in_use, in_cond, in_minimum, in_minimums, in_through, in_reads, in_conds, in_mark}
+use Rattle.pb_prog.specs.Places.{unplaced_term, unplaced_form, unplaced_decl, unplaced_view, unplaced_use, unplaced_cond, unplaced_minimum}
 use Rattle.pb_front.proofs.Written.{Takes, nothing, one}
 use Rattle.pb_front.proofs.Unplaced.{same_after, same_counted, same_length}
-use Rattle.pb_front.proofs.Fewer.{Fewer, Adds, dropped_fewer, begun_fewer, number_fewer, form_fewer}
-use Rattle.pb_front.proofs.Again.{cut, split, is, number_is, is_name, same_name, is_word, Again, made}
+use Rattle.pb_front.proofs.Again.{cut, split, is, number_is, is_name, same_name, is_word, Again, made, again_commas, Fewer, Adds, dropped_fewer, begun_fewer, number_fewer, form_fewer}
+use Rattle.pb_prog.specs.declared.tree.view.MarkText.{MarkText}
+use Rattle.pb_prog.specs.declared.tree.view.MarkText.TheVariants as mark
 
 abbrev pub TermAgain : {m : Bool} {x : TermText} {all rest : List Token} → IsTerm m x all rest → List Token → List Token → Type 0
 TermAgain {m} {x} d all rest = Again (IsTerm m) unplaced_term x all rest (λ y d'. Adds (in_term d) (in_term d'))
@@ -219,3 +220,55 @@ again_cond (a_cond {a = x} {b = y} {t = t} {r = r} d i e) a = elim (split {a = f
         (a_cond s.spelled (ap condition_relation (is u f) ∙ relation_again (kind_of t) r i) z.spelled) (ap₂ (λ y z. record { left = y; relation = r; right = z }) s.same z.same)
         (λ l m h. s.few _ _ (z.few l m h))
     ]
+
+again_minimum : (x : NameValue × ℕ) (all rest all' rest' : List Token) (d : IsMinimum x all rest) → Takes (minimum_tokens x) all' rest'
+    → Again IsMinimum unplaced_minimum x all' rest' (λ y d'. Adds (in_minimum d) (in_minimum d'))
+unfolding minimum_tokens
+again_minimum x all rest all' rest' (a_minimum {n = t} {v = o} {rest = old} i j q) (one {t = u} e (one {t = v} f (one {t = w} {all = new} g nothing))) = made (name_in u, number_in w)
+  (a_minimum (is_name t u i e) (is v f) (is w g)) (ap₂ (λ y z. (y, z)) (same_name t u e) (number_is w g)) (λ l m h. number_fewer o w (o ∷ old) (w ∷ new) (number_is w g) h)
+
+pub again_minimums : {xs : List (NameValue × ℕ)} {all rest all' rest' : List Token} (d : IsMinimums xs all rest) → Takes (minimums_tokens xs) all' rest'
+    → Again IsMinimums (map unplaced_minimum) xs all' rest' (λ y d'. Adds (in_minimums d) (in_minimums d'))
+again_minimums no_minimums nothing = record { tree = []; spelled = no_minimums; same = refl; few = λ l m h. h }
+again_minimums (some_minimums {x = x} {xs = xs} i d ds) (one {t = u} e t) = elim (split {a = minimum_tokens x} {b = behind_commas minimum_tokens xs} t) [
+      | cut a b ↦ let r = again_minimum x _ _ _ _ d a in let s = again_commas unplaced_minimum minimum_tokens (λ x a b. in_minimum) again_minimum ds b in made (r.tree ∷ s.tree)
+        (some_minimums (is u e) r.spelled s.spelled) (ap₂ (λ y ys. y ∷ ys) r.same s.same) (λ l m h. r.few _ _ (s.few item.Minimums 1 l m h))
+    ]
+
+pub again_through : {ds : List DeclValue} {all rest all' rest' : List Token} (d : IsThrough ds all rest) → Takes (through_tokens ds) all' rest'
+    → Again IsThrough (map unplaced_decl) ds all' rest' (λ y d'. (n : ℕ) → Adds (in_through n d) (in_through n d'))
+again_through no_through nothing = record { tree = []; spelled = no_through; same = refl; few = λ n l m h. h }
+again_through (some_through i (some_decls d ds)) (one {t = u} e t) = let r = again_decls (some_decls d ds) t in
+    made r.tree (some_through (is u e) r.spelled) r.same (λ n l m h. r.few n false l m h)
+
+pub use_again : (x : UseText) (all rest all' rest' : List Token) (d : IsUse x all rest) → Takes (use_tokens x) all' rest' → UseAgain d all' rest'
+use_again x all rest all' rest' d t = again_use d t
+
+pub again_reads : {us : List UseText} {all rest all' rest' : List Token} (d : IsReads us all rest) → Takes (with_commas use_tokens us) all' rest'
+    → Again IsReads (map unplaced_use) us all' rest' (λ y d'. Adds (in_reads d) (in_reads d'))
+again_reads no_reads nothing = record { tree = []; spelled = no_reads; same = refl; few = λ l m h. h }
+again_reads (some_reads {u = x} {us = xs} d ds) t = elim (split {a = use_tokens x} {b = behind_commas use_tokens xs} t) [
+      | cut a b ↦ let r = again_use d a in let s = again_commas unplaced_use use_tokens (λ x a b. in_use) use_again ds b in made (r.tree ∷ s.tree)
+        (some_reads r.spelled s.spelled) (ap₂ (λ y ys. y ∷ ys) r.same s.same) (λ l m h. r.few _ _ (s.few item.Reads 1 l m h))
+    ]
+
+cond_again : (x : CondText) (all rest all' rest' : List Token) (d : IsCond x all rest) → Takes (cond_tokens x) all' rest'
+    → Again IsCond unplaced_cond x all' rest' (λ y d'. Adds (in_cond d) (in_cond d'))
+cond_again x all rest all' rest' d t = again_cond d t
+
+pub again_conds : {cs : List CondText} {all rest all' rest' : List Token} (d : IsConds cs all rest) → Takes (conds_tokens cs) all' rest'
+    → Again IsConds (map unplaced_cond) cs all' rest' (λ y d'. Adds (in_conds d) (in_conds d'))
+again_conds no_conds nothing = record { tree = []; spelled = no_conds; same = refl; few = λ l m h. h }
+again_conds (some_conds {c = x} {cs = xs} i d ds) (one {t = u} e t) = elim (split {a = cond_tokens x} {b = behind_commas cond_tokens xs} t) [
+      | cut a b ↦ let r = again_cond d a in let s = again_commas unplaced_cond cond_tokens (λ x a b. in_cond) cond_again ds b in made (r.tree ∷ s.tree)
+        (some_conds (is u e) r.spelled s.spelled) (ap₂ (λ y ys. y ∷ ys) r.same s.same) (λ l m h. r.few _ _ (s.few item.Conditions 1 l m h))
+    ]
+
+pub again_mark : {x : MarkText} {all rest all' rest' : List Token} (d : IsMark x all rest) → Takes (mark_tokens x) all' rest'
+    → Again IsMark (λ m. m) x all' rest' (λ y d'. Adds (in_mark d) (in_mark d'))
+unfolding mark_tokens
+again_mark unmarked nothing = record { tree = mark.Unmarked; spelled = unmarked; same = refl; few = λ l m h. h }
+again_mark (primary i) (one {t = u} e nothing) = record { tree = mark.Primary; spelled = primary (is u e); same = refl; few = λ l m h. h }
+again_mark (secondary i) (one {t = u} e nothing) = record { tree = mark.Secondary; spelled = secondary (is u e); same = refl; few = λ l m h. h }
+again_mark (priority {n = o} {c = c} {rest = old} i j k' q) (one {t = u} e (one {t = v} f (one {t = w} g (one {t = z} {all = new} p nothing)))) = made (mark.Priority (number_in w))
+  (priority (is u e) (is v f) (is w g) (is z p)) (ap mark.Priority (number_is w g)) (λ l m h. number_fewer o w (o ∷ c ∷ old) (w ∷ z ∷ new) (number_is w g) h)
