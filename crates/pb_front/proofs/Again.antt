@@ -24,7 +24,7 @@ pub data Cut (a b : List Written) (all rest : List Token) : Type 0 where
 
 pub split : {a b : List Written} {all rest : List Token} → Takes (a ++ b) all rest → Cut a b all rest
 split {a = []} t = cut nothing t
-split {a = w ∷ ws} {b = b} (one e t) = elim (split {a = ws} {b = b} t) [ | cut x y ↦ cut (one e x) y ]
+split {a = w ∷ ws} {b = b} (one e t) = elim (split {a = ws} {b = b} t) [ cut x y ↦ cut (one e x) y ]
 
 -- a token by how it is written
 kind_written : (v : TokenWhat) → kind_of_what v ≡ written_kind (written_as v)
@@ -132,6 +132,6 @@ pub again_commas : {A : Type 0} {R : A → List Token → List Token → Type 0}
     → Again (Commas R) (map g) xs all' rest' (λ ys d'. (what : Item) (n : ℕ) → Adds (in_commas what each n d) (in_commas what each n d'))
 again_commas g tokens each item no_comma nothing = record { tree = []; spelled = no_comma; same = refl; few = λ what n l m h. h }
 again_commas g tokens each item (a_comma {x = x} {xs = xs} {all = old} i d ds) (one {t = c} {all = new} e t) = elim (split {a = tokens x} {b = behind_commas tokens xs} t) [
-      | cut a b ↦ let r = item x _ _ _ _ d a in let s = again_commas g tokens each item ds b in made (r.tree ∷ s.tree) (a_comma (is c e) r.spelled s.spelled)
-        (ap₂ (λ y ys. y ∷ ys) r.same s.same) (λ what n l m h. begun_fewer (over what n) old new (r.few _ _ (s.few what (suc n) l m h)))
-    ]
+  | cut a b ↦ let r = item x _ _ _ _ d a in let s = again_commas g tokens each item ds b in made (r.tree ∷ s.tree) (a_comma (is c e) r.spelled s.spelled)
+      (ap₂ (λ y ys. y ∷ ys) r.same s.same) (λ what n l m h. begun_fewer (over what n) old new (r.few _ _ (s.few what (suc n) l m h)))
+]

@@ -96,13 +96,13 @@ one_refusal text other second no_cause b = absurd no_cause
 
 pub some_reading : (text : List ℕ) → ((tree : List Transform) × IsRead text tree) ⊎ ((why : Refusal) × IsRefused text why)
 some_reading text = elim (cases_lt most_bytes (length text)) [
-      | inl long ↦ inr (TooLong, long)
-      | inr short ↦ elim (tokens_or_fault text) [
-        | inr bad ↦ inr (BadToken bad.0, (short, bad.1))
-        | inl found ↦ elim (some_answer found.0 (length text)) [
-          | inl accepted ↦ inl (accepted.0, record { short = short; tokens = found.0; spelled = found.1; accepted = accepted.1 })
-          | inr (inl bad) ↦ inr (BadSyntax bad.0, record { short = short; tokens = found.0; spelled = found.1; faulty = bad.1 })
-          | inr (inr over) ↦ inr (OverLimit over.0 over.1, record { short = short; tokens = found.0; spelled = found.1; faulty = over.2 })
-        ]
-      ]
+  | inl long ↦ inr (TooLong, long)
+  | inr short ↦ elim (tokens_or_fault text) [
+    | inr bad ↦ inr (BadToken bad.0, (short, bad.1))
+    | inl found ↦ elim (some_answer found.0 (length text)) [
+      | inl accepted ↦ inl (accepted.0, record { short = short; tokens = found.0; spelled = found.1; accepted = accepted.1 })
+      | inr (inl bad) ↦ inr (BadSyntax bad.0, record { short = short; tokens = found.0; spelled = found.1; faulty = bad.1 })
+      | inr (inr over) ↦ inr (OverLimit over.0 over.1, record { short = short; tokens = found.0; spelled = found.1; faulty = over.2 })
     ]
+  ]
+]

@@ -143,14 +143,22 @@ mutual
 
 rule_kept : (r : Rule) → rule_tokens (unplaced_rule r) ≡ rule_tokens r
 unfolding rule_tokens
-rule_kept r = rw (with_kept use_tokens unplaced_use use_kept r.outs, with_kept use_tokens unplaced_use use_kept r.reads,
-    keyword_kept cond_tokens unplaced_cond cond_kept (codes "where") r.conds, order_kept stmt_tokens unplaced_stmt stmt_kept r.body) refl
+rule_kept r = rw (
+  with_kept use_tokens unplaced_use use_kept r.outs,
+  with_kept use_tokens unplaced_use use_kept r.reads,
+  keyword_kept cond_tokens unplaced_cond cond_kept (codes "where") r.conds,
+  order_kept stmt_tokens unplaced_stmt stmt_kept r.body,
+) refl
 
 transform_kept : (t : Transform) → transform_tokens (unplaced_transform t) ≡ transform_tokens t
 unfolding transform_tokens
-transform_kept t = rw (keyword_kept minimum_tokens unplaced_minimum minimum_kept (codes "where") t.minimums, with_kept decl_tokens unplaced_decl decl_kept t.from,
-    keyword_kept decl_tokens unplaced_decl decl_kept (codes "through") t.through, with_kept decl_tokens unplaced_decl decl_kept t.to,
-    order_kept rule_tokens unplaced_rule rule_kept t.rules) refl
+transform_kept t = rw (
+  keyword_kept minimum_tokens unplaced_minimum minimum_kept (codes "where") t.minimums,
+  with_kept decl_tokens unplaced_decl decl_kept t.from,
+  keyword_kept decl_tokens unplaced_decl decl_kept (codes "through") t.through,
+  with_kept decl_tokens unplaced_decl decl_kept t.to,
+  order_kept rule_tokens unplaced_rule rule_kept t.rules,
+) refl
 
 -- trees that differ in places alone have the same tokens
 pub same_tokens : (y x : List Transform) → unplaced y ≡ unplaced x → text_tokens y ≡ text_tokens x

@@ -3,7 +3,7 @@ use Rattle.std.proofs.Common.{◌≡◌, ℕ, zero, suc, ◌+◌, ◌<◌, ◌�
 use Rattle.std.proofs.Math.Seq.{take-append_seam, drop-append_seam}
 use Rattle.std.proofs.lemmas.Option.{none-some, same_Some}
 use Rattle.pb_prog.specs.declared.token.Token.{Token}
-use Rattle.pb_prog.specs.Tokens.{Piece, blank, line_comment, block_comment, word, number, two_byte_sign, one_byte_sign, Pieces, none, one_more, Spells, BadTokenAt}
+use Rattle.pb_prog.specs.Tokens.{Piece, blank, Pieces, none, one_more, Spells, BadTokenAt}
 use Rattle.pb_lexer.specs.declared.piece.Front.{Front}
 use Rattle.pb_lexer.specs.Reading.{piece_read, tokens_of}
 use Rattle.pb_lexer.proofs.PieceLemmas.{taken, found}
@@ -67,12 +67,7 @@ one_fault text at other bad worse =
 -- a text has a list of tokens, or a byte that begins none
 not_empty : {at : ℕ} {first behind : List ℕ} {here : List Token} → Piece at first behind here → 0 < length first
 not_empty (blank i) = omega arith
-not_empty (line_comment i e) = omega arith
-not_empty (block_comment inside i) = omega arith
-not_empty (word i j e) = omega arith
-not_empty (number i j e m) = omega arith
-not_empty (two_byte_sign i) = omega arith
-not_empty (one_byte_sign i e) = omega arith
+not_empty _ = omega arith
 
 abbrev Said : List ℕ → Type 0
 Said text = ((tokens : List Token) × Spells text tokens) ⊎ ((at : ℕ) × BadTokenAt text at)
@@ -84,16 +79,9 @@ said_behind (suc n) front (b ∷ rest) ts few p = step (piece_read (b ∷ rest))
   where
     step : (o : Option Front) → piece_read (b ∷ rest) ≡ o
         → ((f g : List ℕ) (ts : List Token) → length g ≤ n → Pieces 0 f g ts → Said (f ++ g)) → Said (front ++ (b ∷ rest))
-    step None e further = inr (length front, record {
-      front = front;
-      fault = b;
-      behind = rest;
-      tokens = ts;
-      parts = refl;
-      before = p;
-      place = refl;
-      begins_none = begins_none (length front) (b ∷ rest) e;
-    })
+    step None e further =
+        let none_here = begins_none (length front) (b ∷ rest) e in
+        inr (length front, record { front = front; fault = b; behind = rest; tokens = ts; parts = refl; before = p; place = refl; begins_none = none_here })
     step (Some f) e further =
         let g = found (0 + length front) (b ∷ rest) f e in
         let less : length g.behind ≤ n = omega (arith, few, not_empty g.piece, ap length g.parts, length-append g.spelled g.behind) in
