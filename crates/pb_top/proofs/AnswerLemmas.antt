@@ -5,7 +5,7 @@ use Rattle.std.specs.declared.alloc.AllocError.{AllocError}
 use Rattle.pb_outside.specs.Shelf.{Files}
 use Rattle.pb_top.specs.Sinks.{ShelfChange}
 use Rattle.pb_top.specs.Reply.{Reply, done_reply, refusal_reply}
-use Rattle.pb_top.specs.Command.{RunLine, Command, checks, runs, command_of, command_files}
+use Rattle.pb_top.specs.Command.{RunLine, Command, checks, command_of, command_files}
 use Rattle.pb_top.specs.Answer.{IsInside, bytes_of_all, CommandAnswers, Follows, LineAnswers, Answers}
 use Rattle.pb_top.specs.Ends.{IsSound}
 use Rattle.pb_top.specs.Working.{IsFetched, IsStop, IsPlain, IsRun, IsRuleRun, IsChecked, IsCommandAnswer, IsAnswer, reply_of, contents_of}
@@ -31,42 +31,39 @@ two_contents line (x ∷ y ∷ []) a b p w f i (Ok answer) two first second prog
 two_contents line (x ∷ y ∷ []) a b p w f i (Err e) two first second program word file input run = tt
 two_contents line (x ∷ y ∷ z ∷ rest) a b p w f i found two first second program word file input run = absurd (omega arith)
 
--- an answer over the bytes of all the files
-follows_all : (command : Command) (contents : List (List ℕ)) (told : Option Files) (reply : Reply)
-    → IfSome told (λ files. bytes_of_all files (command_files (Some command)) ≡ Ok contents) → CommandAnswers command contents reply
+-- what follows from what the files give follows from the files
+follows_read : (command : Command) (read : Result (List (List ℕ)) Reply) (told : Option Files) (reply : Reply)
+    → IfSome told (λ files. bytes_of_all files (command_files (Some command)) ≡ read) → Follows command read reply
     → IfSome told (λ files. Follows command (bytes_of_all files (command_files (Some command))) reply)
-follows_all command contents None reply took answers = tt
-follows_all command contents (Some files) reply took answers = subst (λ r. Follows command r reply) (sym took) answers
+follows_read command read None reply took follows = tt
+follows_read command read (Some files) reply took follows = subst (λ r. Follows command r reply) (sym took) follows
 
 all_done : (command : Command) (contents : List (List ℕ)) (shelf : ShelfChange) (answer : Answer) → IsSound shelf
     → IfSome shelf.before (λ files. bytes_of_all files (command_files (Some command)) ≡ Ok contents) → IsPlain answer → CommandAnswers command contents (reply_of answer)
     → IsCommandAnswer command shelf answer
-all_done command contents shelf (Done text) sound took plain answers = (sound, follows_all command contents shelf.before (done_reply text.items) took answers)
+all_done command contents shelf (Done text) sound took plain answers = (sound, follows_read command (Ok contents) shelf.before (done_reply text.items) took answers)
 all_done command contents shelf (Refusal status line) sound took plain answers =
-    (plain, (sound, follows_all command contents shelf.before (refusal_reply status (string_bytes line)) took answers))
+    (plain, (sound, follows_read command (Ok contents) shelf.before (refusal_reply status (string_bytes line)) took answers))
 all_done command contents shelf (ReadFault line) sound took plain answers = absurd plain
 
--- a program to check
+-- with the bytes of all its files, a command has an answer
+pub over_done : (command : Command) (contents : List (List ℕ)) (shelf : ShelfChange) (found : Result Answer AllocError) → IsSound shelf
+    → IfSome shelf.before (λ files. bytes_of_all files (command_files (Some command)) ≡ Ok contents)
+    → IfOk found (λ answer. IsPlain answer × CommandAnswers command contents (reply_of answer)) → IfOk found (IsCommandAnswer command shelf)
+over_done command contents shelf (Err e) sound took is = tt
+over_done command contents shelf (Ok answer) sound took is = all_done command contents shelf answer sound took is.0 is.1
+
+-- with the bytes of its file, a check has one
 pub check_done : (name program : List ℕ) (shelf : ShelfChange) (found : Result Answer AllocError) → IsSound shelf
     → IfSome shelf.before (λ files. bytes_of_all files (name ∷ []) ≡ Ok (program ∷ [])) → IfOk found (IsChecked program) → IfOk found (IsCommandAnswer (checks name) shelf)
-check_done name program shelf (Err e) sound took is = tt
-check_done name program shelf (Ok answer) sound took is = all_done (checks name) (program ∷ []) shelf answer sound took is.0 is.1
-
--- a run
-pub run_done : (line : RunLine) (contents : List (List ℕ)) (shelf : ShelfChange) (found : Result Answer AllocError) → IsSound shelf
-    → IfSome shelf.before (λ files. bytes_of_all files (command_files (Some (runs line))) ≡ Ok contents) → IfOk found (IsRun line contents) → IfOk found (IsCommandAnswer (runs line) shelf)
-run_done line contents shelf (Err e) sound took is = tt
-run_done line contents shelf (Ok answer) sound took is = all_done (runs line) contents shelf answer sound took is.0 is.1
+check_done name program shelf found sound took is = over_done (checks name) (program ∷ []) shelf found sound took is
 
 -- a file in place of whose bytes there is an answer
-follows_stop : (command : Command) (told : Option Files) (reply : Reply) → IfSome told (λ files. bytes_of_all files (command_files (Some command)) ≡ Err reply)
-    → IfSome told (λ files. Follows command (bytes_of_all files (command_files (Some command))) reply)
-follows_stop command None reply stop = tt
-follows_stop command (Some files) reply stop = subst (λ r. Follows command r reply) (sym stop) refl
-
 pub stop_done : (command : Command) (shelf : ShelfChange) (answer : Answer) → IsStop (command_files (Some command)) shelf answer → IsCommandAnswer command shelf answer
 stop_done command shelf (Done text) stop = absurd stop
-stop_done command shelf (Refusal status line) stop = (stop.1, (stop.0, follows_stop command shelf.before (refusal_reply status (string_bytes line)) stop.2))
+stop_done command shelf (Refusal status line) stop =
+    let reply = refusal_reply status (string_bytes line) in
+    (stop.1, (stop.0, follows_read command (Err reply) shelf.before reply stop.2 refl))
 stop_done command shelf (ReadFault line) stop = stop
 
 pub other_done : (name : List ℕ) (shelf : ShelfChange) (answer : Answer) → IsFetched name shelf (Other answer) → IsCommandAnswer (checks name) shelf answer

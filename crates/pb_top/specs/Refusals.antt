@@ -26,7 +26,7 @@ item_word Nesting = codes "nesting"
 abbrev pub at_byte : ℕ → List ℕ
 at_byte at = codes "byte " ++ (decimal at ++ 10 ∷ [])
 
--- the refusals of a text, which are those that have a line yet
+-- the refusals of the phases that are built, which are those of a text
 abbrev pub HasLine : Refusal → Type 0
 HasLine TooLong = Unit {0}
 HasLine (BadToken at) = Unit {0}
@@ -34,7 +34,7 @@ HasLine (BadSyntax at) = Unit {0}
 HasLine (OverLimit what at) = Unit {0}
 HasLine other = ⊥
 
--- a code with its name, and where the fault is
+-- a code with its name, and where the fault is; the line of a later phase comes with the phase, and want of memory has none
 abbrev pub refusal_line : Refusal → List ℕ
 refusal_line TooLong = codes "P1 TooLong\n"
 refusal_line (BadToken at) = codes "P2 BadToken: " ++ at_byte at

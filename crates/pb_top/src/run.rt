@@ -87,7 +87,7 @@ fn run_files(alloc: Global, line: &RunLine<'_>, contents: &[Vec<u8>]) -> Result<
 }
 
 /// The answer to a run's line over the files of a shelf.
-#[tactic(auto, using(crate::proofs::AnswerLemmas::run_done, crate::proofs::AnswerLemmas::stop_done))]
+#[tactic(auto, using(crate::proofs::AnswerLemmas::stop_done))]
 pub fn run<S: Shelf>(alloc: Global, line: &RunLine<'_>, shelf: &mut S) -> Result<Answer, AllocError>
     ensures answer { IfOk result (IsCommandAnswer (runs line.now) (shelf_change S.files S.faults S.taken shelf.old shelf.new)) }
     ensures stays { S.files shelf.new ≡ S.files shelf.old }
