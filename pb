@@ -13,7 +13,7 @@ newer() {
 build() {
     local log=$top/crates/pb/out/build.log started=$SECONDS
     mkdir -p "${log%/*}"
-    echo "pb: proving and building the program; from nothing this takes some minutes" >&2
+    echo "pb: proving and building the program; from nothing this takes a quarter of an hour or so" >&2
     (cd "$top/crates/pb" && exec rt run </dev/null >"$log" 2>&1) &
     local building=$!
     while kill -0 "$building" 2>/dev/null; do
