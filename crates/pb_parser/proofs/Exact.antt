@@ -5,8 +5,9 @@ use Rattle.std.proofs.lemmas.List.{append-nil}
 use Rattle.pb_prog.specs.declared.token.Token.{Token}
 use Rattle.pb_prog.specs.declared.refusal.Item.{Item}
 use Rattle.pb_prog.specs.declared.refusal.Item.TheVariants as item
-use Rattle.pb_prog.specs.declared.refusal.Refusal.{Refusal}
-use Rattle.pb_prog.specs.declared.refusal.Refusal.TheVariants.{BadSyntax, OverLimit, Memory}
+use Rattle.pb_prog.specs.declared.refusal.Refusal.TheVariants as refusal
+use Rattle.pb_parser.specs.declared.fault.Fault.{Fault}
+use Rattle.pb_parser.specs.declared.fault.Fault.TheVariants.{BadSyntax, OverLimit, Memory}
 use Rattle.pb_prog.specs.declared.tree.view.ViewText.TheVariants as view
 use Rattle.pb_prog.specs.Kinds.{kind_of}
 use Rattle.pb_prog.specs.Exprs.{name, chained}
@@ -18,7 +19,7 @@ use Rattle.pb_prog.specs.Limits.{Excess}
 use Rattle.pb_prog.specs.TooMany.{TooMany, in_program}
 use Rattle.pb_prog.specs.Faults.{RefusedTokens, Begins, NoneGoesOn, place_or, FirstSeenIn, FirstIs, BadSyntaxAt, OverLimitAt, Accepted}
 use Rattle.pb_parser.specs.Leads.{told, Fails}
-use Rattle.pb_parser.specs.Gives.{Gives as Reads}
+use Rattle.pb_parser.specs.Gives.{refusal_of, refused_with, Gives as Reads}
 use Rattle.pb_parser.specs.Want as w
 use Rattle.pb_parser.specs.Want.{Want, program}
 use Rattle.pb_parser.specs.Reading.{Step, take, refuse, step, term_of, Verdict, accepted, bad, too_many, finish, on_with, read}
@@ -42,11 +43,11 @@ abbrev IsTooMany : Verdict → Type 0
 IsTooMany (too_many x l a) = Unit {0}
 IsTooMany _ = ⊥
 
-abbrev IsOk : Result (List Transform) Refusal → Type 0
+abbrev IsOk : Result (List Transform) Fault → Type 0
 IsOk (Ok t) = Unit {0}
 IsOk (Err x) = ⊥
 
-abbrev err_of : Result (List Transform) Refusal → Refusal
+abbrev err_of : Result (List Transform) Fault → Fault
 err_of (Ok t) = Memory
 err_of (Err x) = x
 
@@ -294,22 +295,22 @@ module _ (end : ℕ) where
   -- what the parser answers, from what it reads
   module _ (ts : List Token) where
     -- a refusal that isn't want of memory is what was read
-    by_reading : (P : Refusal → Type 0) → P Memory → ((x : Refusal) → told (read end ts program) ≡ Err x → P x)
-        → (x : Refusal) → Fails x (told (read end ts program) ≡ Err x) → P x
+    by_reading : (P : Fault → Type 0) → P Memory → ((x : Fault) → told (read end ts program) ≡ Err x → P x)
+        → (x : Fault) → Fails x (told (read end ts program) ≡ Err x) → P x
     by_reading P m g Memory h = m
     by_reading P m g x h = g x h
 
-    told_bad : (c : Verdict) (x : Refusal) (at : ℕ) → IsBad c → at_of c ≡ at → told c ≡ Err x → x ≡ BadSyntax at
+    told_bad : (c : Verdict) (x : Fault) (at : ℕ) → IsBad c → at_of c ≡ at → told c ≡ Err x → x ≡ BadSyntax at
     told_bad (bad l a) x at is e h = sym (ap err_of h) ∙ ap BadSyntax e
     told_bad (accepted t) x at is e h = absurd is
     told_bad (too_many w l a) x at is e h = absurd is
 
-    told_many : (c : Verdict) (x : Refusal) (what : Item) (at : ℕ) → IsTooMany c → what_of c ≡ what → at_of c ≡ at → told c ≡ Err x → x ≡ OverLimit what at
+    told_many : (c : Verdict) (x : Fault) (what : Item) (at : ℕ) → IsTooMany c → what_of c ≡ what → at_of c ≡ at → told c ≡ Err x → x ≡ OverLimit what at
     told_many (too_many w l a) x what at is d e h = sym (ap err_of h) ∙ ap₂ OverLimit d e
     told_many (accepted t) x what at is d e h = absurd is
     told_many (bad l a) x what at is d e h = absurd is
 
-    pub found : (r : Result TextValue Refusal) → Reads r (read end ts program) → IfOk r (λ t. Accepted (bare_text t) ts)
+    pub found : (r : Result TextValue Fault) → Reads r (read end ts program) → IfOk (refused_with r) (λ t. Accepted (bare_text t) ts)
     found (Err x) g = tt
     found (Ok t) g = go (answer ts)
       where
@@ -318,34 +319,34 @@ module _ (end : ℕ) where
         go (faulty left at q b) = absurd (subst IsAccepted (sym g ∙ q) tt)
         go (excess what left at q o) = absurd (subst IsAccepted (sym g ∙ q) tt)
 
-    pub refused : (r : Result TextValue Refusal) → Reads r (read end ts program) → IfErr r (RefusedTokens ts end)
+    pub refused : (r : Result TextValue Fault) → Reads r (read end ts program) → IfErr (refused_with r) (RefusedTokens ts end)
     refused (Ok t) g = tt
-    refused (Err y) g = by_reading (RefusedTokens ts end) tt (λ x e. go (answer ts) x e) y g
+    refused (Err y) g = by_reading (λ x. RefusedTokens ts end (refusal_of x)) tt (λ x e. go (answer ts) x e) y g
       where
-        go : Answer ts → (x : Refusal) → told (read end ts program) ≡ Err x → RefusedTokens ts end x
+        go : Answer ts → (x : Fault) → told (read end ts program) ≡ Err x → RefusedTokens ts end (refusal_of x)
         go (good tree q a) x e = absurd (subst IsOk (sym (ap told q) ∙ e) tt)
-        go (faulty left at q b) x e = subst (RefusedTokens ts end) (sym (told_bad (bad left at) x at tt refl (sym (ap told q) ∙ e))) b
-        go (excess what left at q o) x e = subst (RefusedTokens ts end) (sym (told_many (too_many what left at) x what at tt refl refl (sym (ap told q) ∙ e))) o
+        go (faulty left at q b) x e = subst (λ x. RefusedTokens ts end (refusal_of x)) (sym (told_bad (bad left at) x at tt refl (sym (ap told q) ∙ e))) b
+        go (excess what left at q o) x e = subst (λ x. RefusedTokens ts end (refusal_of x)) (sym (told_many (too_many what left at) x what at tt refl refl (sym (ap told q) ∙ e))) o
 
-    pub complete : (r : Result TextValue Refusal) → Reads r (read end ts program) → (tree : List Transform) (p : Program tree ts) → in_program p ≡ []
-        → MatchResult r (λ t. bare_text t ≡ tree) (λ x. x ≡ Memory)
+    pub complete : (r : Result TextValue Fault) → Reads r (read end ts program) → (tree : List Transform) (p : Program tree ts) → in_program p ≡ []
+        → MatchResult (refused_with r) (λ t. bare_text t ≡ tree) (λ x. x ≡ refusal.Memory)
     complete r g tree p none = go r g (sym (read_of p) ∙ ap (λ l. caught true l (accepted tree)) none)
       where
-        go : (r : Result TextValue Refusal) → Reads r (read end ts program) → read end ts program ≡ accepted tree → MatchResult r (λ t. bare_text t ≡ tree) (λ x. x ≡ Memory)
+        go : (r : Result TextValue Fault) → Reads r (read end ts program) → read end ts program ≡ accepted tree → MatchResult (refused_with r) (λ t. bare_text t ≡ tree) (λ x. x ≡ refusal.Memory)
         go (Ok t) g e = ap tree_of (sym g ∙ e)
-        go (Err y) g e = by_reading (λ x. (x ≡ Memory)) refl (λ x f. absurd (subst IsOk (sym (ap told e) ∙ f) tt)) y g
+        go (Err y) g e = by_reading (λ x. (refusal_of x ≡ refusal.Memory)) refl (λ x f. absurd (subst IsOk (sym (ap told e) ∙ f) tt)) y g
 
-    pub bad_syntax : (r : Result TextValue Refusal) → Reads r (read end ts program) → (at : ℕ) → BadSyntaxAt ts end at
-        → MatchResult r (λ _. ⊥) (λ x. (x ≡ BadSyntax at) ⊎ (x ≡ Memory))
+    pub bad_syntax : (r : Result TextValue Fault) → Reads r (read end ts program) → (at : ℕ) → BadSyntaxAt ts end at
+        → MatchResult (refused_with r) (λ _. ⊥) (λ x. (x ≡ refusal.BadSyntax at) ⊎ (x ≡ refusal.Memory))
     bad_syntax (Ok t) g at b = subst IsBad g (bad_reads ts at b (read end ts program) refl).0
     bad_syntax (Err y) g at b = let d = bad_reads ts at b (read end ts program) refl in
-        by_reading (λ x. (x ≡ BadSyntax at) ⊎ (x ≡ Memory)) (inr refl) (λ x f. inl (told_bad (read end ts program) x at d.0 d.1 f)) y g
+        by_reading (λ x. (refusal_of x ≡ refusal.BadSyntax at) ⊎ (refusal_of x ≡ refusal.Memory)) (inr refl) (λ x f. inl (ap refusal_of (told_bad (read end ts program) x at d.0 d.1 f))) y g
 
-    pub over_limit : (r : Result TextValue Refusal) → Reads r (read end ts program) → (what : Item) (at : ℕ) → OverLimitAt ts what at
-        → MatchResult r (λ _. ⊥) (λ x. (x ≡ OverLimit what at) ⊎ (x ≡ Memory))
+    pub over_limit : (r : Result TextValue Fault) → Reads r (read end ts program) → (what : Item) (at : ℕ) → OverLimitAt ts what at
+        → MatchResult (refused_with r) (λ _. ⊥) (λ x. (x ≡ refusal.OverLimit what at) ⊎ (x ≡ refusal.Memory))
     over_limit (Ok t) g what at o = subst IsTooMany g (over_reads ts what at o (read end ts program) refl).0
     over_limit (Err y) g what at o = let d = over_reads ts what at o (read end ts program) refl in
-        by_reading (λ x. (x ≡ OverLimit what at) ⊎ (x ≡ Memory)) (inr refl) (λ x f. inl (told_many (read end ts program) x what at d.0 d.1 d.2 f)) y g
+        by_reading (λ x. (refusal_of x ≡ refusal.OverLimit what at) ⊎ (refusal_of x ≡ refusal.Memory)) (inr refl) (λ x f. inl (ap refusal_of (told_many (read end ts program) x what at d.0 d.1 d.2 f))) y g
 
 -- a list of tokens has one of three answers
 apart : (c : Verdict) → IsBad c → IsTooMany c → ⊥

@@ -7,7 +7,7 @@ use Rattle.pb_prog.specs.declared.kind.Kind.TheVariants as k
 use Rattle.pb_prog.specs.declared.tree.expression.Level.{Level}
 use Rattle.pb_prog.specs.declared.tree.expression.Level.TheVariants as level
 use Rattle.pb_prog.specs.declared.refusal.Item.TheVariants as item
-use Rattle.pb_prog.specs.declared.refusal.Refusal.TheVariants.{BadSyntax}
+use Rattle.pb_parser.specs.declared.fault.Fault.TheVariants.{BadSyntax}
 use Rattle.pb_prog.specs.Kinds.{kind_of}
 use Rattle.pb_prog.specs.Stmts.{Stmt}
 use Rattle.pb_prog.specs.Exprs.{Expr, call, cell, width, height, parentheses, exprs}

@@ -2,8 +2,8 @@
 use Rattle.std.proofs.Common.{◌≡◌, ◌<◌, ℕ, List, [], ◌∷◌, ◌++◌, length, map, Result, Ok, Err, IsErr, IsErrAnd, sym, arith}
 use Rattle.pb_prog.specs.declared.token.Token.{Token}
 use Rattle.pb_prog.specs.declared.refusal.Item.TheVariants.{Transforms}
-use Rattle.pb_prog.specs.declared.refusal.Refusal.{Refusal}
-use Rattle.pb_prog.specs.declared.refusal.Refusal.TheVariants as refusal
+use Rattle.pb_parser.specs.declared.fault.Fault.{Fault}
+use Rattle.pb_parser.specs.declared.fault.Fault.TheVariants as fault
 use Rattle.pb_prog.specs.Transforms.{TransformValue, TextValue}
 use Rattle.pb_prog.specs.Trees.{Transform, bare_transform}
 use Rattle.pb_parser.specs.Want.{Want, begin, a_transform, more_transforms}
@@ -13,11 +13,11 @@ use Rattle.pb_parser.specs.Leads.{Fails, told}
 use Rattle.pb_parser.specs.Gives.{Gives}
 use Rattle.pb_parser.proofs.RuleLemmas.{further_transform}
 
-fails_as : (e : Refusal) {P Q : Type 0} → (P → Q) → Fails e P → Fails e Q
-fails_as refusal.Memory g p = tt
+fails_as : (e : Fault) {P Q : Type 0} → (P → Q) → Fails e P → Fails e Q
+fails_as fault.Memory g p = tt
 fails_as _ g p = g p
 
-pub program_fails : (r : Result TextValue Refusal) (e : Refusal) (end : ℕ) (ts : List Token) (xs : List TransformValue) (n : ℕ) (v : Verdict)
+pub program_fails : (r : Result TextValue Fault) (e : Fault) (end : ℕ) (ts : List Token) (xs : List TransformValue) (n : ℕ) (v : Verdict)
     → IsErr r → IsErrAnd r (λ x. x ≡ e) → v ≡ read end ts (more_transforms (map bare_transform xs)) → 0 < length ts → n ≡ length xs
     → Fails e ((f : Transform → Want) → told (read end ts (begin (limited 64 n Transforms) (a_transform f))) ≡ Err e) → Gives r v
 program_fails (Ok x) e end ts xs n v failed is same some count l = grind arith

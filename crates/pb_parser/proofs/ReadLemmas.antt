@@ -5,8 +5,8 @@ use Rattle.pb_prog.specs.declared.token.Token.{Token}
 use Rattle.pb_prog.specs.declared.kind.Kind.{Kind}
 use Rattle.pb_prog.specs.declared.kind.Kind.TheVariants as k
 use Rattle.pb_prog.specs.declared.refusal.Item.{Item}
-use Rattle.pb_prog.specs.declared.refusal.Refusal.{Refusal}
-use Rattle.pb_prog.specs.declared.refusal.Refusal.TheVariants.{BadSyntax, OverLimit, Memory}
+use Rattle.pb_parser.specs.declared.fault.Fault.{Fault}
+use Rattle.pb_parser.specs.declared.fault.Fault.TheVariants.{BadSyntax, OverLimit, Memory}
 use Rattle.pb_prog.specs.Kinds.{kind_of}
 use Rattle.pb_parser.specs.Next.{next_kind, next_place, next_is, word_is, sees}
 use Rattle.pb_parser.specs.Want.{Want, begin, token, word}
@@ -15,7 +15,7 @@ use Rattle.pb_parser.specs.Reading.{Step, take, refuse, read, step, on, taken_if
 use Rattle.pb_parser.specs.Leads.{Fails, Leads, from, told}
 use Rattle.pb_parser.specs.declared.cursor.Cursor.{Cursor}
 
-pub fails_then : (e : Refusal) {P Q : Type 0} → Fails e P → (P → Q) → Fails e Q
+pub fails_then : (e : Fault) {P Q : Type 0} → Fails e P → (P → Q) → Fails e Q
 fails_then Memory p f = tt
 fails_then _ p f = f p
 
@@ -45,7 +45,7 @@ bad_token end (t ∷ ts) None kind f s = rw s refl
 bad_token end (t ∷ ts) (Some what) kind f s = rw s refl
 
 -- what is wanted from here on is what is wanted from further on
-pub leads_on : {A B : Type 0} (view : A → B) (r : Result A Refusal) (want later : (B → Want) → Want) (before middle after : Cursor) →
+pub leads_on : {A B : Type 0} (view : A → B) (r : Result A Fault) (want later : (B → Want) → Want) (before middle after : Cursor) →
     ((f : B → Want) → from before (want f) ≡ from middle (later f)) → Leads view r later middle after → Leads view r want before after
 leads_on view (Ok x) want later before middle after e h = λ f. e f ∙ h f
 leads_on view (Err r) want later before middle after e h = fails_then r h (λ p f. ap told (e f) ∙ p f)

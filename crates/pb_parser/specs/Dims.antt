@@ -3,8 +3,8 @@ use Rattle.std.specs.Prelude.{◌≡◌, ℕ, List, map, Vec, Option, Some, None
 use Rattle.std.specs.Borrow.{Bor}
 use Rattle.std.specs.declared.alloc.Global.{Global}
 use Rattle.pb_values.specs.Name.{NameValue}
-use Rattle.pb_prog.specs.declared.refusal.Refusal.{Refusal}
-use Rattle.pb_prog.specs.declared.refusal.Refusal.TheVariants.{OverLimit}
+use Rattle.pb_parser.specs.declared.fault.Fault.{Fault}
+use Rattle.pb_parser.specs.declared.fault.Fault.TheVariants.{OverLimit}
 use Rattle.pb_prog.specs.Forms.{FormValue}
 use Rattle.pb_prog.specs.Trees.{Transform}
 use Rattle.pb_prog.specs.Limits.{Sizes, after_form, sizes_in}
@@ -28,11 +28,11 @@ after_dims None dims = None
 after_dims (Some known) dims = Some (sizes_in known dims)
 
 -- a size too many, as a refusal, or else what is told further on
-abbrev pub excess_told : Option Excess → Result (List Transform) Refusal → Result (List Transform) Refusal
+abbrev pub excess_told : Option Excess → Result (List Transform) Fault → Result (List Transform) Fault
 excess_told None further = further
 excess_told (Some x) further = Err (OverLimit x.what x.at)
 
 -- a dimension is counted, or is a size too many, or memory ran out
-abbrev pub Counts : {A : Type 0} → Result A Refusal → Sizes → FormValue → Sizes → Type 0
+abbrev pub Counts : {A : Type 0} → Result A Fault → Sizes → FormValue → Sizes → Type 0
 Counts (Ok x) before form after = (excess_of before form ≡ None) × (after ≡ after_form before form)
-Counts (Err e) before form after = Fails e ((further : Result (List Transform) Refusal) → excess_told (excess_of before form) further ≡ Err e)
+Counts (Err e) before form after = Fails e ((further : Result (List Transform) Fault) → excess_told (excess_of before form) further ≡ Err e)

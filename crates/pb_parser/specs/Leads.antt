@@ -1,8 +1,8 @@
 -- What the functions of the parser promise: whatever is wanted afterwards, reading from where they began is reading
 -- from where they ended.
 use Rattle.std.specs.Prelude.{◌≡◌, ℕ, List, [], ◌∷◌, ◌++◌, Option, Some, None, Result, Ok, Err}
-use Rattle.pb_prog.specs.declared.refusal.Refusal.{Refusal}
-use Rattle.pb_prog.specs.declared.refusal.Refusal.TheVariants.{BadSyntax, OverLimit, Memory}
+use Rattle.pb_parser.specs.declared.fault.Fault.{Fault}
+use Rattle.pb_parser.specs.declared.fault.Fault.TheVariants.{BadSyntax, OverLimit, Memory}
 use Rattle.pb_prog.specs.declared.tree.expression.Level.{Level}
 use Rattle.pb_prog.specs.declared.tree.expression.Operator.{Operator}
 use Rattle.pb_prog.specs.declared.tree.expression.Relation.{Relation}
@@ -19,25 +19,25 @@ use Rattle.pb_prog.specs.Exprs.{chained}
 use Rattle.pb_parser.specs.Reading.{Verdict, accepted, bad, too_many, read}
 
 -- the refusal of a verdict
-abbrev pub told : Verdict → Result (List Transform) Refusal
+abbrev pub told : Verdict → Result (List Transform) Fault
 told (accepted ts) = Ok ts
 told (bad left at) = Err (BadSyntax at)
 told (too_many what left at) = Err (OverLimit what at)
 
 -- memory may run out
-abbrev pub Fails : Refusal → Type 0 → Type 0
+abbrev pub Fails : Fault → Type 0 → Type 0
 Fails Memory P = Unit {0}
 Fails _ P = P
 
 abbrev pub from : Cursor → Want → Verdict
 from c w = read c.end c.rest.now w
 
-abbrev pub Leads : {A B : Type 0} → (A → B) → Result A Refusal → ((B → Want) → Want) → Cursor → Cursor → Type 0
+abbrev pub Leads : {A B : Type 0} → (A → B) → Result A Fault → ((B → Want) → Want) → Cursor → Cursor → Type 0
 Leads {A} {B} view (Ok x) want before after = (f : B → Want) → from before (want f) ≡ from after (f (view x))
 Leads {A} {B} view (Err e) want before after = Fails e ((f : B → Want) → told (from before (want f)) ≡ Err e)
 
 -- the same where the number of statements of the body so far is told too
-abbrev pub LeadsCounted : {A B : Type 0} → (A → B) → Result A Refusal → ((B → ℕ → Want) → Want) → Cursor → Cursor → ℕ → Type 0
+abbrev pub LeadsCounted : {A B : Type 0} → (A → B) → Result A Fault → ((B → ℕ → Want) → Want) → Cursor → Cursor → ℕ → Type 0
 LeadsCounted {A} {B} view (Ok x) want before after n = (f : B → ℕ → Want) → from before (want f) ≡ from after (f (view x) n)
 LeadsCounted {A} {B} view (Err e) want before after n = Fails e ((f : B → ℕ → Want) → told (from before (want f)) ≡ Err e)
 
@@ -65,6 +65,6 @@ Members None before after = (d : ℕ) (n : NameValue) (f : Expr → Want) →
     told (from before (member d n f)) ≡ Err (BadSyntax (next_place after.end after.rest.now))
 
 -- the same where nothing that is read counts afterwards
-abbrev pub LeadsOn : {A : Type 0} → Result A Refusal → (Want → Want) → Cursor → Cursor → Type 0
+abbrev pub LeadsOn : {A : Type 0} → Result A Fault → (Want → Want) → Cursor → Cursor → Type 0
 LeadsOn {A} (Ok x) want before after = (w : Want) → from before (want w) ≡ from after w
 LeadsOn {A} (Err e) want before after = Fails e ((w : Want) → told (from before (want w)) ≡ Err e)

@@ -5,7 +5,8 @@ ghost use Rattle.pb_prog.specs.Limits.{limited};
 ghost use Rattle.pb_parser.specs.Leads.{Leads};
 
 use crate::cursor::Cursor;
-use pb_prog::{Item, Kind, Refusal, Token};
+use crate::fault::Fault;
+use pb_prog::{Item, Kind, Token};
 
 /// Takes the name that begins an item, of which there are so many before and may be so many.
 #[tactic(auto, using(crate::proofs::BeginLemmas::begin_within))]
@@ -14,7 +15,7 @@ pub(crate) fn begin_name<'a>(
     most: usize,
     before: usize,
     what: Item,
-) -> Result<&'a Token, Refusal>
+) -> Result<&'a Token, Fault>
     ensures leads { Leads (λ t. t.now) result (λ f. begin (limited most before what) (token Name f)) cursor.old cursor.new }
     ensures within { OnOk result (before < most) }
     ensures shorter { OnOk result (length cursor.new.rest.now < length cursor.old.rest.now) }

@@ -7,14 +7,15 @@ ghost use Rattle.pb_parser.specs.Want.{name_token, bracket, a_sign, word};
 ghost use Rattle.pb_parser.specs.Leads.{Leads, LeadsOn};
 
 use crate::cursor::{Cursor, name_in};
-use pb_prog::{Item, Kind, Name, Refusal};
+use crate::fault::Fault;
+use pb_prog::{Item, Kind, Name};
 use std::alloc::Global;
 
 const MOST_OPEN: u32 = 32;
 
 /// Takes a bracket of this kind where so many are open, and gives how many are open behind it.
 #[tactic(auto, using(crate::proofs::ReadLemmas::fails_then, crate::proofs::ReadLemmas::unlimited, crate::proofs::ReadLemmas::over_token, crate::proofs::ReadLemmas::bad_token))]
-pub(crate) fn open(cursor: &mut Cursor<'_>, kind: Kind, depth: u32) -> Result<u32, Refusal>
+pub(crate) fn open(cursor: &mut Cursor<'_>, kind: Kind, depth: u32) -> Result<u32, Fault>
     requires known { kind ≢ k.End }
     requires nested { depth ≤ 32 }
     ensures leads { LeadsOn result (bracket depth kind) cursor.old cursor.new }
@@ -34,7 +35,7 @@ pub(crate) fn open(cursor: &mut Cursor<'_>, kind: Kind, depth: u32) -> Result<u3
 
 /// Takes a sign.
 #[tactic(auto, using(crate::proofs::ReadLemmas::fails_then))]
-pub(crate) fn sign(cursor: &mut Cursor<'_>, kind: Kind) -> Result<(), Refusal>
+pub(crate) fn sign(cursor: &mut Cursor<'_>, kind: Kind) -> Result<(), Fault>
     requires known { kind ≢ k.End }
     ensures leads { LeadsOn result (a_sign kind) cursor.old cursor.new }
     ensures shorter { OnOk result (length cursor.new.rest.now < length cursor.old.rest.now) }
@@ -45,7 +46,7 @@ pub(crate) fn sign(cursor: &mut Cursor<'_>, kind: Kind) -> Result<(), Refusal>
 
 /// Takes a name.
 #[tactic(auto, using(crate::proofs::ReadLemmas::fails_then), unfolding(crate::specs::Want::name_token))]
-pub(crate) fn name(alloc: Global, cursor: &mut Cursor<'_>) -> Result<Name, Refusal>
+pub(crate) fn name(alloc: Global, cursor: &mut Cursor<'_>) -> Result<Name, Fault>
     ensures leads { Leads (λ n. n) result name_token cursor.old cursor.new }
     ensures shorter { OnOk result (length cursor.new.rest.now < length cursor.old.rest.now) }
 {
@@ -54,7 +55,7 @@ pub(crate) fn name(alloc: Global, cursor: &mut Cursor<'_>) -> Result<Name, Refus
 
 /// Takes this very name.
 #[tactic(auto, using(crate::proofs::ReadLemmas::word_taken, crate::proofs::ReadLemmas::word_else, crate::proofs::ReadLemmas::next_is_not_end))]
-pub(crate) fn word(cursor: &mut Cursor<'_>, of: &[u8]) -> Result<(), Refusal>
+pub(crate) fn word(cursor: &mut Cursor<'_>, of: &[u8]) -> Result<(), Fault>
     ensures leads { LeadsOn result (word of.now) cursor.old cursor.new }
     ensures shorter { OnOk result (length cursor.new.rest.now < length cursor.old.rest.now) }
 {

@@ -2,13 +2,14 @@ ghost use Rattle.std.specs.Prelude.{◌≡◌, ◌≢◌, ◌<◌, ◌∷◌, Ok
 ghost use Rattle.std.specs.Str.{bytes_eq};
 ghost use Rattle.pb_prog.specs.Kinds.{kind_of, name_in, number_in};
 ghost use Rattle.pb_prog.specs.declared.kind.Kind.TheVariants.{End};
-ghost use Rattle.pb_prog.specs.declared.refusal.Refusal.TheVariants.{BadSyntax, OverLimit, Memory};
+ghost use Rattle.pb_parser.specs.declared.fault.Fault.TheVariants.{BadSyntax, OverLimit, Memory};
 ghost use Rattle.pb_parser.specs.Numbers.{kind_number, same};
 ghost use Rattle.pb_parser.specs.Next.{next_kind, next_place, word_is, next_is, sees};
 ghost use Rattle.pb_parser.specs.Want.{token};
 ghost use Rattle.pb_parser.specs.Leads.{Leads};
 
-use pb_prog::{Item, Kind, Name, Refusal, Token, TokenWhat, kind_of};
+use crate::fault::Fault;
+use pb_prog::{Item, Kind, Name, Token, TokenWhat, kind_of};
 use std::alloc::Global;
 
 /// The tokens that are left, and the length of the text.
@@ -97,17 +98,17 @@ impl<'a> Cursor<'a> {
     }
 
     /// The next token fits nothing that may stand here.
-    pub(crate) fn bad(&self) -> Refusal
+    pub(crate) fn bad(&self) -> Fault
         ensures { result ≡ BadSyntax (next_place self.now.end self.now.rest.now) }
     {
-        Refusal::BadSyntax { at: self.place() }
+        Fault::BadSyntax { at: self.place() }
     }
 
     /// The next token begins an item too many.
-    pub(crate) fn over(&self, what: Item) -> Refusal
+    pub(crate) fn over(&self, what: Item) -> Fault
         ensures { result ≡ OverLimit what (next_place self.now.end self.now.rest.now) }
     {
-        Refusal::OverLimit {
+        Fault::OverLimit {
             what,
             at: self.place(),
         }
@@ -146,7 +147,7 @@ impl<'a> Cursor<'a> {
     }
 
     /// Takes a token of this kind.
-    pub(crate) fn expect(&mut self, kind: Kind) -> Result<&'a Token, Refusal>
+    pub(crate) fn expect(&mut self, kind: Kind) -> Result<&'a Token, Fault>
         requires { kind ≢ End }
         ensures leads { Leads (λ t. t.now) result (token kind) self.old self.new }
         ensures shorter { OnOk result (length self.new.rest.now < length self.old.rest.now) }
@@ -175,7 +176,7 @@ pub(crate) fn number_in(token: &Token) -> u64
 }
 
 /// A copy of the name that a token is.
-pub(crate) fn name_in(alloc: Global, token: &Token) -> Result<Name, Refusal>
+pub(crate) fn name_in(alloc: Global, token: &Token) -> Result<Name, Fault>
     ensures named { IfOk result (λ n. n ≡ name_in token.now) }
     ensures memory { IfErr result (λ e. e ≡ Memory) }
 {

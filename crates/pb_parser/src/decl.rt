@@ -7,8 +7,9 @@ ghost use Rattle.pb_parser.specs.Leads.{Leads};
 use crate::begin::begin_name;
 use crate::cursor::{Cursor, name_in};
 use crate::dims::counted_dims;
+use crate::fault::Fault;
 use crate::form::small;
-use pb_prog::{DeclText, Item, Kind, Name, Refusal};
+use pb_prog::{DeclText, Item, Kind, Name};
 use std::alloc::Global;
 
 const MOST_MATRICES: usize = 16;
@@ -29,7 +30,7 @@ fn decl(
     cursor: &mut Cursor<'_>,
     before: usize,
     known: &mut Option<Vec<Name>>,
-) -> Result<DeclText, Refusal>
+) -> Result<DeclText, Fault>
     ensures leads { Leads (λ d. d) result (a_decl before (sizes_known known.old)) cursor.old cursor.new }
     ensures counted { IfOk result (λ d. sizes_known known.new ≡ after_dims (sizes_known known.old) d.dims) }
     ensures within { OnOk result (before < 16) }
@@ -52,7 +53,7 @@ pub(crate) fn decls(
     cursor: &mut Cursor<'_>,
     before: usize,
     sized: bool,
-) -> Result<Vec<DeclText>, Refusal>
+) -> Result<Vec<DeclText>, Fault>
     requires { before ≤ 16 }
     ensures leads { Leads (λ v. v.items) result (decls before sized) cursor.old cursor.new }
     ensures within { IfOk result (λ v. before + length v.items ≤ 16) }
@@ -77,7 +78,7 @@ pub(crate) fn through(
     alloc: Global,
     cursor: &mut Cursor<'_>,
     before: usize,
-) -> Result<Vec<DeclText>, Refusal>
+) -> Result<Vec<DeclText>, Fault>
     requires { before ≤ 16 }
     ensures leads { Leads (λ v. v.items) result (through before) cursor.old cursor.new }
     ensures within { IfOk result (λ v. before + length v.items ≤ 16) }
@@ -98,7 +99,7 @@ pub(crate) fn through(
     }
 }
 
-fn minimum(alloc: Global, cursor: &mut Cursor<'_>, before: usize) -> Result<(Name, u64), Refusal>
+fn minimum(alloc: Global, cursor: &mut Cursor<'_>, before: usize) -> Result<(Name, u64), Fault>
     ensures leads { Leads (λ m. m) result (minimum before) cursor.old cursor.new }
     ensures shorter { OnOk result (length cursor.new.rest.now < length cursor.old.rest.now) }
 {
@@ -111,7 +112,7 @@ fn minimum(alloc: Global, cursor: &mut Cursor<'_>, before: usize) -> Result<(Nam
     Ok((name, least))
 }
 
-fn some_minimums(alloc: Global, cursor: &mut Cursor<'_>) -> Result<Vec<(Name, u64)>, Refusal>
+fn some_minimums(alloc: Global, cursor: &mut Cursor<'_>) -> Result<Vec<(Name, u64)>, Fault>
     ensures leads { Leads (λ v. v.items) result (λ f. minimum 0 (λ m. more_minimums (m ∷ []) f)) cursor.old cursor.new }
     ensures shorter { OnOk result (length cursor.new.rest.now < length cursor.old.rest.now) }
 {
@@ -134,7 +135,7 @@ fn some_minimums(alloc: Global, cursor: &mut Cursor<'_>) -> Result<Vec<(Name, u6
 }
 
 /// `where` and least values of sizes, or none, and `from`.
-pub(crate) fn minimums(alloc: Global, cursor: &mut Cursor<'_>) -> Result<Vec<(Name, u64)>, Refusal>
+pub(crate) fn minimums(alloc: Global, cursor: &mut Cursor<'_>) -> Result<Vec<(Name, u64)>, Fault>
     ensures leads { Leads (λ v. v.items) result minimums cursor.old cursor.new }
     ensures shorter { OnOk result (length cursor.new.rest.now < length cursor.old.rest.now) }
 {

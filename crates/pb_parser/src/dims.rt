@@ -1,13 +1,14 @@
 ghost use Rattle.std.specs.Prelude.{◌≡◌, ◌<◌, ◌≤◌, length, None, OnOk, IfOk, IfErr};
-ghost use Rattle.pb_prog.specs.declared.refusal.Refusal.TheVariants.{Memory};
+ghost use Rattle.pb_parser.specs.declared.fault.Fault.TheVariants.{Memory};
 ghost use Rattle.pb_parser.specs.Want.{form, dims_known, after_dim, last_dim};
 ghost use Rattle.pb_prog.specs.Limits.{after_form, alone, is_known};
 ghost use Rattle.pb_parser.specs.Dims.{name_seen, names_of, sizes_known, after_dims, Counts};
 ghost use Rattle.pb_parser.specs.Leads.{Leads, LeadsOn};
 
 use crate::cursor::Cursor;
+use crate::fault::Fault;
 use crate::form::form;
-use pb_prog::{FormText, Item, Kind, Name, Refusal};
+use pb_prog::{FormText, Item, Kind, Name};
 use std::alloc::Global;
 
 const MOST_SIZES: usize = 8;
@@ -45,7 +46,7 @@ fn is_known(name: &Name, known: &Vec<Name>) -> bool
 }
 
 /// Counts a dimension that is a name alone, where names are counted.
-fn count(alloc: Global, known: &mut Option<Vec<Name>>, form: &FormText) -> Result<(), Refusal>
+fn count(alloc: Global, known: &mut Option<Vec<Name>>, form: &FormText) -> Result<(), Fault>
     ensures { Counts result (sizes_known known.old) form.now (sizes_known known.new) }
 {
     let Some(names) = known else {
@@ -58,7 +59,7 @@ fn count(alloc: Global, known: &mut Option<Vec<Name>>, form: &FormText) -> Resul
         return Ok(());
     }
     if names.len() >= MOST_SIZES {
-        return Err(Refusal::OverLimit {
+        return Err(Fault::OverLimit {
             what: Item::Sizes,
             at: name.at(),
         });
@@ -73,7 +74,7 @@ fn last_dim(
     cursor: &mut Cursor<'_>,
     known: &mut Option<Vec<Name>>,
     form: &FormText,
-) -> Result<(), Refusal>
+) -> Result<(), Fault>
     ensures leads { LeadsOn result (last_dim (sizes_known known.old) form.now) cursor.old cursor.new }
     ensures counted { OnOk result (sizes_known known.new ≡ after_form (sizes_known known.old) form.now) }
     ensures shorter { OnOk result (length cursor.new.rest.now < length cursor.old.rest.now) }
@@ -95,7 +96,7 @@ pub(crate) fn counted_dims(
     alloc: Global,
     cursor: &mut Cursor<'_>,
     known: &mut Option<Vec<Name>>,
-) -> Result<Vec<FormText>, Refusal>
+) -> Result<Vec<FormText>, Fault>
     ensures leads { Leads (λ v. v.items) result (dims_known (sizes_known known.old)) cursor.old cursor.new }
     ensures counted { IfOk result (λ v. sizes_known known.new ≡ after_dims (sizes_known known.old) v.items) }
     ensures shorter { OnOk result (length cursor.new.rest.now < length cursor.old.rest.now) }
@@ -121,7 +122,7 @@ pub(crate) fn counted_dims(
 }
 
 /// The dimensions of a matrix behind `[`, and the `]`.
-pub(crate) fn dims(alloc: Global, cursor: &mut Cursor<'_>) -> Result<Vec<FormText>, Refusal>
+pub(crate) fn dims(alloc: Global, cursor: &mut Cursor<'_>) -> Result<Vec<FormText>, Fault>
     ensures leads { Leads (λ v. v.items) result (λ f. form (λ e. after_dim None e f)) cursor.old cursor.new }
     ensures shorter { OnOk result (length cursor.new.rest.now < length cursor.old.rest.now) }
 {

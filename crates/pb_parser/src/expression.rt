@@ -13,10 +13,11 @@ ghost use Rattle.pb_parser.specs.Leads.{Leads, LeadsOn, Fails, told, from, Opera
 
 use crate::bracket::{name, open, sign};
 use crate::cursor::{Cursor, name_in, number_in};
+use crate::fault::Fault;
 use crate::make::{
     call, cell, chained, compared, height, named, number, one, parentheses, signed, two, width,
 };
-use pb_prog::{ExprText, Item, Kind, Level, Name, Operator, Refusal, Relation, Sign};
+use pb_prog::{ExprText, Item, Kind, Level, Name, Operator, Relation, Sign};
 use std::alloc::Global;
 
 const MOST_ARGUMENTS: usize = 16;
@@ -118,7 +119,7 @@ fn take_member(cursor: &mut Cursor<'_>) -> Option<Part>
 /// A number, a name with what stands behind it, or an expression in parentheses.
 #[cycle(expression)]
 #[tactic(auto, using(crate::proofs::ReadLemmas::fails_then, crate::proofs::GrammarLemmas::primary_open))]
-fn primary(alloc: Global, cursor: &mut Cursor<'_>, depth: u32) -> Result<ExprText, Refusal>
+fn primary(alloc: Global, cursor: &mut Cursor<'_>, depth: u32) -> Result<ExprText, Fault>
     requires nested { depth ≤ 32 }
     ensures leads { Leads bare result (primary depth) cursor.old cursor.new }
     ensures shorter { OnOk result (length cursor.new.rest.now < length cursor.old.rest.now) }
@@ -151,7 +152,7 @@ fn after_name(
     cursor: &mut Cursor<'_>,
     depth: u32,
     name: Name,
-) -> Result<ExprText, Refusal>
+) -> Result<ExprText, Fault>
     requires nested { depth ≤ 32 }
     ensures leads { Leads bare result (after_name depth name) cursor.old cursor.new }
     ensures shorter { OnOk result (length cursor.new.rest.now ≤ length cursor.old.rest.now) }
@@ -173,12 +174,7 @@ fn after_name(
 /// A cell, the width or the height of a view, behind its `.`.
 #[cycle(expression)]
 #[tactic(auto, using(crate::proofs::ReadLemmas::fails_then))]
-fn member(
-    alloc: Global,
-    cursor: &mut Cursor<'_>,
-    depth: u32,
-    view: Name,
-) -> Result<ExprText, Refusal>
+fn member(alloc: Global, cursor: &mut Cursor<'_>, depth: u32, view: Name) -> Result<ExprText, Fault>
     requires nested { depth ≤ 32 }
     ensures leads { Leads bare result (member depth view) cursor.old cursor.new }
     ensures shorter { OnOk result (length cursor.new.rest.now < length cursor.old.rest.now) }
@@ -202,7 +198,7 @@ fn member(
 
 /// `(` and `)`.
 #[tactic(auto, using(crate::proofs::ReadLemmas::fails_then))]
-fn nothing(cursor: &mut Cursor<'_>, depth: u32) -> Result<(), Refusal>
+fn nothing(cursor: &mut Cursor<'_>, depth: u32) -> Result<(), Fault>
     requires nested { depth ≤ 32 }
     ensures leads { LeadsOn result (λ w. bracket depth k.Open (a_sign k.Close w)) cursor.old cursor.new }
     ensures shorter { OnOk result (length cursor.new.rest.now < length cursor.old.rest.now) }
@@ -218,7 +214,7 @@ pub(crate) fn coordinates(
     alloc: Global,
     cursor: &mut Cursor<'_>,
     depth: u32,
-) -> Result<Vec<ExprText>, Refusal>
+) -> Result<Vec<ExprText>, Fault>
     requires nested { depth ≤ 32 }
     ensures leads { Leads (λ v. bares v.items) result (coordinates depth) cursor.old cursor.new }
     ensures shorter { OnOk result (length cursor.new.rest.now < length cursor.old.rest.now) }
@@ -238,7 +234,7 @@ pub(crate) fn coordinates(
 /// The arguments of a call in an expression, behind `(`.
 #[cycle(expression)]
 #[tactic(auto, using(crate::proofs::ReadLemmas::fails_then, crate::proofs::GrammarLemmas::arguments_else, crate::proofs::ReadLemmas::leads_on))]
-fn arguments(alloc: Global, cursor: &mut Cursor<'_>, depth: u32) -> Result<Vec<ExprText>, Refusal>
+fn arguments(alloc: Global, cursor: &mut Cursor<'_>, depth: u32) -> Result<Vec<ExprText>, Fault>
     requires nested { depth ≤ 32 }
     ensures leads { Leads (λ v. bares v.items) result (arguments depth) cursor.old cursor.new }
     ensures shorter { OnOk result (length cursor.new.rest.now < length cursor.old.rest.now) }
@@ -252,7 +248,7 @@ fn arguments(alloc: Global, cursor: &mut Cursor<'_>, depth: u32) -> Result<Vec<E
 
 /// The refusal where no more arguments may follow, behind `,`.
 #[tactic(auto, using(crate::proofs::ReadLemmas::fails_then), unfolding(crate::specs::Want::expression, crate::specs::Want::conjunction, crate::specs::Want::compared, crate::specs::Want::total, crate::specs::Want::product))]
-fn too_many(cursor: &Cursor<'_>) -> Refusal
+fn too_many(cursor: &Cursor<'_>) -> Fault
     ensures refused { Fails result ((d : ℕ) (f : Expr → Want) →
         told (from cursor.now (begin (Some Arguments) (expression d f))) ≡ Err result) }
 {
@@ -270,7 +266,7 @@ fn next_argument(
     cursor: &mut Cursor<'_>,
     depth: u32,
     before: usize,
-) -> Result<ExprText, Refusal>
+) -> Result<ExprText, Fault>
     requires nested { depth ≤ 32 }
     ensures leads { Leads bare result (λ f. begin (limited 16 before Arguments) (expression depth f)) cursor.old cursor.new }
     ensures shorter { OnOk result (length cursor.new.rest.now < length cursor.old.rest.now) }
@@ -288,7 +284,7 @@ pub(crate) fn some_arguments(
     alloc: Global,
     cursor: &mut Cursor<'_>,
     depth: u32,
-) -> Result<Vec<ExprText>, Refusal>
+) -> Result<Vec<ExprText>, Fault>
     requires nested { depth ≤ 32 }
     ensures leads { Leads (λ v. bares v.items) result (some_arguments depth) cursor.old cursor.new }
     ensures shorter { OnOk result (length cursor.new.rest.now < length cursor.old.rest.now) }
@@ -307,7 +303,7 @@ pub(crate) fn some_arguments(
 /// A primary with a sign or none.
 #[cycle(expression)]
 #[tactic(auto, using(crate::proofs::ReadLemmas::fails_then, crate::proofs::GrammarLemmas::factor_else, crate::proofs::ReadLemmas::leads_on))]
-fn factor(alloc: Global, cursor: &mut Cursor<'_>, depth: u32) -> Result<ExprText, Refusal>
+fn factor(alloc: Global, cursor: &mut Cursor<'_>, depth: u32) -> Result<ExprText, Fault>
     requires nested { depth ≤ 32 }
     ensures leads { Leads bare result (factor depth) cursor.old cursor.new }
     ensures shorter { OnOk result (length cursor.new.rest.now < length cursor.old.rest.now) }
@@ -334,7 +330,7 @@ fn operand(
     cursor: &mut Cursor<'_>,
     depth: u32,
     level: Level,
-) -> Result<ExprText, Refusal>
+) -> Result<ExprText, Fault>
     requires nested { depth ≤ 32 }
     ensures leads { Leads bare result (operand level depth) cursor.old cursor.new }
     ensures shorter { OnOk result (length cursor.new.rest.now < length cursor.old.rest.now) }
@@ -350,12 +346,7 @@ fn operand(
 /// A line of the grammar that repeats.
 #[cycle(expression)]
 #[tactic(auto, using(crate::proofs::ReadLemmas::fails_then, crate::proofs::GrammarLemmas::line_is))]
-fn line(
-    alloc: Global,
-    cursor: &mut Cursor<'_>,
-    depth: u32,
-    level: Level,
-) -> Result<ExprText, Refusal>
+fn line(alloc: Global, cursor: &mut Cursor<'_>, depth: u32, level: Level) -> Result<ExprText, Fault>
     requires nested { depth ≤ 32 }
     ensures leads { Leads bare result (line level depth) cursor.old cursor.new }
     ensures shorter { OnOk result (length cursor.new.rest.now < length cursor.old.rest.now) }
@@ -372,7 +363,7 @@ fn line(
 /// A sum, or two with a relation between them.
 #[cycle(expression)]
 #[tactic(auto, using(crate::proofs::ReadLemmas::fails_then), unfolding(crate::specs::Want::compared))]
-fn comparison(alloc: Global, cursor: &mut Cursor<'_>, depth: u32) -> Result<ExprText, Refusal>
+fn comparison(alloc: Global, cursor: &mut Cursor<'_>, depth: u32) -> Result<ExprText, Fault>
     requires nested { depth ≤ 32 }
     ensures leads { Leads bare result (compared depth) cursor.old cursor.new }
     ensures shorter { OnOk result (length cursor.new.rest.now < length cursor.old.rest.now) }
@@ -393,7 +384,7 @@ pub(crate) fn expression(
     alloc: Global,
     cursor: &mut Cursor<'_>,
     depth: u32,
-) -> Result<ExprText, Refusal>
+) -> Result<ExprText, Fault>
     requires nested { depth ≤ 32 }
     ensures leads { Leads bare result (expression depth) cursor.old cursor.new }
     ensures shorter { OnOk result (length cursor.new.rest.now < length cursor.old.rest.now) }

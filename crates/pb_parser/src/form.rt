@@ -6,7 +6,8 @@ ghost use Rattle.pb_parser.specs.Reading.{signed_form};
 ghost use Rattle.pb_parser.specs.Leads.{Leads};
 
 use crate::cursor::{Cursor, name_in, number_in};
-use pb_prog::{FormText, Item, Kind, Name, Refusal, TermText};
+use crate::fault::Fault;
+use pb_prog::{FormText, Item, Kind, Name, TermText};
 use std::alloc::Global;
 
 const MOST_NUMBER: u64 = 1_048_576;
@@ -14,7 +15,7 @@ const MOST_NUMBER: u64 = 1_048_576;
 const MOST_TERMS: usize = 8;
 
 /// A number of a form, a minimum or a priority.
-pub(crate) fn small(cursor: &mut Cursor<'_>) -> Result<u64, Refusal>
+pub(crate) fn small(cursor: &mut Cursor<'_>) -> Result<u64, Fault>
     ensures leads { Leads (λ n. n) result small cursor.old cursor.new }
     ensures shorter { OnOk result (length cursor.new.rest.now < length cursor.old.rest.now) }
 {
@@ -31,7 +32,7 @@ pub(crate) fn small(cursor: &mut Cursor<'_>) -> Result<u64, Refusal>
     }
 }
 
-fn divisor(cursor: &mut Cursor<'_>) -> Result<u8, Refusal>
+fn divisor(cursor: &mut Cursor<'_>) -> Result<u8, Fault>
     ensures leads { Leads (λ n. n) result divisor cursor.old cursor.new }
     ensures shorter { OnOk result (length cursor.new.rest.now < length cursor.old.rest.now) }
 {
@@ -56,7 +57,7 @@ fn behind_number(
     cursor: &mut Cursor<'_>,
     minus: bool,
     factor: u64,
-) -> Result<TermText, Refusal>
+) -> Result<TermText, Fault>
     ensures leads { Leads (λ x. x) result (times minus factor) cursor.old cursor.new }
     ensures shorter { OnOk result (length cursor.new.rest.now ≤ length cursor.old.rest.now) }
 {
@@ -80,7 +81,7 @@ fn behind_number(
     }
 }
 
-fn behind_name(cursor: &mut Cursor<'_>, minus: bool, name: Name) -> Result<TermText, Refusal>
+fn behind_name(cursor: &mut Cursor<'_>, minus: bool, name: Name) -> Result<TermText, Fault>
     ensures leads { Leads (λ x. x) result (quotient minus name) cursor.old cursor.new }
     ensures shorter { OnOk result (length cursor.new.rest.now ≤ length cursor.old.rest.now) }
 {
@@ -105,7 +106,7 @@ fn behind_name(cursor: &mut Cursor<'_>, minus: bool, name: Name) -> Result<TermT
 }
 
 #[tactic(auto, using(crate::proofs::FormLemmas::term_number))]
-fn term(alloc: Global, cursor: &mut Cursor<'_>, minus: bool) -> Result<TermText, Refusal>
+fn term(alloc: Global, cursor: &mut Cursor<'_>, minus: bool) -> Result<TermText, Fault>
     ensures leads { Leads (λ x. x) result (term minus) cursor.old cursor.new }
     ensures shorter { OnOk result (length cursor.new.rest.now < length cursor.old.rest.now) }
 {
@@ -128,7 +129,7 @@ fn further_term(
     cursor: &mut Cursor<'_>,
     minus: bool,
     before: usize,
-) -> Result<TermText, Refusal>
+) -> Result<TermText, Fault>
     ensures leads { Leads (λ x. x) result (λ f. begin (limited 8 before Terms) (term minus f)) cursor.old cursor.new }
     ensures shorter { OnOk result (length cursor.new.rest.now < length cursor.old.rest.now) }
 {
@@ -146,7 +147,7 @@ fn more_terms(
     alloc: Global,
     cursor: &mut Cursor<'_>,
     first: TermText,
-) -> Result<Vec<TermText>, Refusal>
+) -> Result<Vec<TermText>, Fault>
     ensures leads { Leads (λ v. v.items) result (more_terms (first ∷ [])) cursor.old cursor.new }
     ensures shorter { OnOk result (length cursor.new.rest.now ≤ length cursor.old.rest.now) }
 {
@@ -164,7 +165,7 @@ fn more_terms(
     }
 }
 
-fn signed_form(alloc: Global, cursor: &mut Cursor<'_>, minus: bool) -> Result<FormText, Refusal>
+fn signed_form(alloc: Global, cursor: &mut Cursor<'_>, minus: bool) -> Result<FormText, Fault>
     ensures leads { Leads (λ x. x) result (λ f. term false (signed_form minus f)) cursor.old cursor.new }
     ensures shorter { OnOk result (length cursor.new.rest.now < length cursor.old.rest.now) }
 {
@@ -175,7 +176,7 @@ fn signed_form(alloc: Global, cursor: &mut Cursor<'_>, minus: bool) -> Result<Fo
 
 /// A sum of at most 8 terms, each a number or a name with a factor or a quotient.
 #[tactic(auto, using(crate::proofs::FormLemmas::form_else))]
-pub(crate) fn form(alloc: Global, cursor: &mut Cursor<'_>) -> Result<FormText, Refusal>
+pub(crate) fn form(alloc: Global, cursor: &mut Cursor<'_>) -> Result<FormText, Fault>
     ensures leads { Leads (λ x. x) result form cursor.old cursor.new }
     ensures shorter { OnOk result (length cursor.new.rest.now < length cursor.old.rest.now) }
 {

@@ -11,6 +11,7 @@ mod cursor;
 mod decl;
 mod dims;
 mod expression;
+mod fault;
 mod form;
 mod laws;
 mod make;

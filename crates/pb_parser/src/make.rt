@@ -1,11 +1,12 @@
 ghost use Rattle.std.specs.Prelude.{◌≡◌, [], ◌∷◌, IfOk, IfErr, map, Some, None};
 ghost use Rattle.pb_prog.specs.Exprs.{bare, number, name, call, parentheses, cell, width, height, signed, compare, exprs};
 ghost use Rattle.pb_prog.specs.Stmts.{bare_stmt, stmts, if_stmt, if_else, for_stmt, let_number, let_matrix, assign, assign_cell, call_stmt};
-ghost use Rattle.pb_prog.specs.declared.refusal.Refusal.TheVariants.{Memory};
+ghost use Rattle.pb_parser.specs.declared.fault.Fault.TheVariants.{Memory};
 ghost use Rattle.pb_prog.specs.Exprs.{chained};
 ghost use Rattle.pb_parser.specs.Bare.{bares, bare_operands, bare_stmts};
 
-use pb_prog::{ExprText, FormText, Level, Name, Operator, Refusal, Relation, Sign, StmtText};
+use crate::fault::Fault;
+use pb_prog::{ExprText, FormText, Level, Name, Operator, Relation, Sign, StmtText};
 use std::alloc::Global;
 
 /// A number at its place.
@@ -51,7 +52,7 @@ pub(crate) fn height(view: Name) -> ExprText
 }
 
 /// An expression in parentheses, the first of which is at `at`.
-pub(crate) fn parentheses(alloc: Global, at: u32, inner: ExprText) -> Result<ExprText, Refusal>
+pub(crate) fn parentheses(alloc: Global, at: u32, inner: ExprText) -> Result<ExprText, Fault>
     ensures made { IfOk result (λ e. bare e ≡ parentheses at (bare inner)) }
     ensures memory { IfErr result (λ e. e ≡ Memory) }
 {
@@ -62,12 +63,7 @@ pub(crate) fn parentheses(alloc: Global, at: u32, inner: ExprText) -> Result<Exp
 }
 
 /// An operand behind its sign, which is at `at`.
-pub(crate) fn signed(
-    alloc: Global,
-    at: u32,
-    sign: Sign,
-    inner: ExprText,
-) -> Result<ExprText, Refusal>
+pub(crate) fn signed(alloc: Global, at: u32, sign: Sign, inner: ExprText) -> Result<ExprText, Fault>
     ensures made { IfOk result (λ e. bare e ≡ signed at sign (bare inner)) }
     ensures memory { IfErr result (λ e. e ≡ Memory) }
 {
@@ -84,7 +80,7 @@ pub(crate) fn chained(
     level: Level,
     first: ExprText,
     rest: Vec<(Operator, ExprText)>,
-) -> Result<ExprText, Refusal>
+) -> Result<ExprText, Fault>
     ensures made { IfOk result (λ e. bare e ≡ chained level (bare first) (bare_operands rest.items)) }
     ensures memory { IfErr result (λ e. e ≡ Memory) }
 {
@@ -104,7 +100,7 @@ pub(crate) fn compared(
     left: ExprText,
     relation: Relation,
     right: ExprText,
-) -> Result<ExprText, Refusal>
+) -> Result<ExprText, Fault>
     ensures made { IfOk result (λ e. bare e ≡ compare (bare left) relation (bare right)) }
     ensures memory { IfErr result (λ e. e ≡ Memory) }
 {
@@ -116,7 +112,7 @@ pub(crate) fn compared(
 }
 
 /// An expression as a list.
-pub(crate) fn one(alloc: Global, x: ExprText) -> Result<Vec<ExprText>, Refusal>
+pub(crate) fn one(alloc: Global, x: ExprText) -> Result<Vec<ExprText>, Fault>
     ensures made { IfOk result (λ v. bares v.items ≡ bare x ∷ []) }
     ensures memory { IfErr result (λ e. e ≡ Memory) }
 {
@@ -126,7 +122,7 @@ pub(crate) fn one(alloc: Global, x: ExprText) -> Result<Vec<ExprText>, Refusal>
 }
 
 /// Two expressions as a list.
-pub(crate) fn two(alloc: Global, x: ExprText, y: ExprText) -> Result<Vec<ExprText>, Refusal>
+pub(crate) fn two(alloc: Global, x: ExprText, y: ExprText) -> Result<Vec<ExprText>, Fault>
     ensures made { IfOk result (λ v. bares v.items ≡ bare x ∷ bare y ∷ []) }
     ensures memory { IfErr result (λ e. e ≡ Memory) }
 {

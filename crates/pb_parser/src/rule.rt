@@ -8,10 +8,11 @@ ghost use Rattle.pb_parser.specs.Leads.{Leads};
 
 use crate::begin::begin_name;
 use crate::cursor::{Cursor, name_in};
+use crate::fault::Fault;
 use crate::form::{form, small};
 use crate::statement::statements;
 use crate::view::view_or_none;
-use pb_prog::{CondText, FormText, Item, Kind, MarkText, Refusal, Relation, RuleText, UseText};
+use pb_prog::{CondText, FormText, Item, Kind, MarkText, Relation, RuleText, UseText};
 use std::alloc::Global;
 
 const MOST_USES: usize = 16;
@@ -25,7 +26,7 @@ fn one_use(
     cursor: &mut Cursor<'_>,
     what: Item,
     before: usize,
-) -> Result<UseText, Refusal>
+) -> Result<UseText, Fault>
     ensures leads { Leads (λ u. u) result (a_use what before) cursor.old cursor.new }
     ensures shorter { OnOk result (length cursor.new.rest.now < length cursor.old.rest.now) }
 {
@@ -39,7 +40,7 @@ fn one_use(
     })
 }
 
-fn uses(alloc: Global, cursor: &mut Cursor<'_>, what: Item) -> Result<Vec<UseText>, Refusal>
+fn uses(alloc: Global, cursor: &mut Cursor<'_>, what: Item) -> Result<Vec<UseText>, Fault>
     ensures leads { Leads (λ v. v.items) result (uses what) cursor.old cursor.new }
     ensures shorter { OnOk result (length cursor.new.rest.now < length cursor.old.rest.now) }
 {
@@ -62,7 +63,7 @@ fn uses(alloc: Global, cursor: &mut Cursor<'_>, what: Item) -> Result<Vec<UseTex
 }
 
 #[tactic(auto, using(crate::proofs::RuleLemmas::some_reads))]
-fn reads(alloc: Global, cursor: &mut Cursor<'_>) -> Result<Vec<UseText>, Refusal>
+fn reads(alloc: Global, cursor: &mut Cursor<'_>) -> Result<Vec<UseText>, Fault>
     ensures leads { Leads (λ v. v.items) result reads cursor.old cursor.new }
     ensures shorter { OnOk result (length cursor.new.rest.now < length cursor.old.rest.now) }
 {
@@ -75,7 +76,7 @@ fn reads(alloc: Global, cursor: &mut Cursor<'_>) -> Result<Vec<UseText>, Refusal
     }
 }
 
-fn relation(cursor: &mut Cursor<'_>) -> Result<Relation, Refusal>
+fn relation(cursor: &mut Cursor<'_>) -> Result<Relation, Fault>
     ensures leads { Leads (λ r. r) result relation cursor.old cursor.new }
     ensures shorter { OnOk result (length cursor.new.rest.now < length cursor.old.rest.now) }
 {
@@ -105,7 +106,7 @@ fn relation(cursor: &mut Cursor<'_>) -> Result<Relation, Refusal>
 }
 
 #[tactic(auto, using(crate::proofs::BeginLemmas::begin_within))]
-fn begin_form(alloc: Global, cursor: &mut Cursor<'_>, before: usize) -> Result<FormText, Refusal>
+fn begin_form(alloc: Global, cursor: &mut Cursor<'_>, before: usize) -> Result<FormText, Fault>
     ensures leads { Leads (λ x. x) result (λ f. begin (limited 16 before Conditions) (form f)) cursor.old cursor.new }
     ensures shorter { OnOk result (length cursor.new.rest.now < length cursor.old.rest.now) }
 {
@@ -120,7 +121,7 @@ fn begin_form(alloc: Global, cursor: &mut Cursor<'_>, before: usize) -> Result<F
     }
 }
 
-fn condition(alloc: Global, cursor: &mut Cursor<'_>, before: usize) -> Result<CondText, Refusal>
+fn condition(alloc: Global, cursor: &mut Cursor<'_>, before: usize) -> Result<CondText, Fault>
     ensures leads { Leads (λ c. c) result (condition before) cursor.old cursor.new }
     ensures shorter { OnOk result (length cursor.new.rest.now < length cursor.old.rest.now) }
 {
@@ -134,7 +135,7 @@ fn condition(alloc: Global, cursor: &mut Cursor<'_>, before: usize) -> Result<Co
     })
 }
 
-fn some_conditions(alloc: Global, cursor: &mut Cursor<'_>) -> Result<Vec<CondText>, Refusal>
+fn some_conditions(alloc: Global, cursor: &mut Cursor<'_>) -> Result<Vec<CondText>, Fault>
     ensures leads { Leads (λ v. v.items) result (λ f. condition 0 (λ c. more_conditions (c ∷ []) f)) cursor.old cursor.new }
     ensures shorter { OnOk result (length cursor.new.rest.now < length cursor.old.rest.now) }
 {
@@ -156,7 +157,7 @@ fn some_conditions(alloc: Global, cursor: &mut Cursor<'_>) -> Result<Vec<CondTex
     }
 }
 
-fn conditions(alloc: Global, cursor: &mut Cursor<'_>) -> Result<Vec<CondText>, Refusal>
+fn conditions(alloc: Global, cursor: &mut Cursor<'_>) -> Result<Vec<CondText>, Fault>
     ensures leads { Leads (λ v. v.items) result conditions cursor.old cursor.new }
     ensures shorter { OnOk result (length cursor.new.rest.now < length cursor.old.rest.now) }
 {
@@ -174,7 +175,7 @@ fn conditions(alloc: Global, cursor: &mut Cursor<'_>) -> Result<Vec<CondText>, R
 }
 
 #[tactic(auto, unfolding(crate::specs::Want::after_mark))]
-fn behind_mark(alloc: Global, cursor: &mut Cursor<'_>, mark: MarkText) -> Result<RuleText, Refusal>
+fn behind_mark(alloc: Global, cursor: &mut Cursor<'_>, mark: MarkText) -> Result<RuleText, Fault>
     ensures leads { Leads bare_rule result (after_mark mark) cursor.old cursor.new }
     ensures shorter { OnOk result (length cursor.new.rest.now < length cursor.old.rest.now) }
 {
@@ -195,7 +196,7 @@ fn behind_mark(alloc: Global, cursor: &mut Cursor<'_>, mark: MarkText) -> Result
     })
 }
 
-fn marked(alloc: Global, cursor: &mut Cursor<'_>, mark: MarkText) -> Result<RuleText, Refusal>
+fn marked(alloc: Global, cursor: &mut Cursor<'_>, mark: MarkText) -> Result<RuleText, Fault>
     ensures leads { Leads bare_rule result (λ f. a_sign To (after_mark mark f)) cursor.old cursor.new }
     ensures shorter { OnOk result (length cursor.new.rest.now < length cursor.old.rest.now) }
 {
@@ -203,7 +204,7 @@ fn marked(alloc: Global, cursor: &mut Cursor<'_>, mark: MarkText) -> Result<Rule
     behind_mark(alloc, cursor, mark)
 }
 
-fn rule(alloc: Global, cursor: &mut Cursor<'_>) -> Result<RuleText, Refusal>
+fn rule(alloc: Global, cursor: &mut Cursor<'_>) -> Result<RuleText, Fault>
     ensures leads { Leads bare_rule result rule cursor.old cursor.new }
     ensures shorter { OnOk result (length cursor.new.rest.now < length cursor.old.rest.now) }
 {
@@ -232,7 +233,7 @@ fn rule(alloc: Global, cursor: &mut Cursor<'_>) -> Result<RuleText, Refusal>
 }
 
 #[tactic(auto, using(crate::proofs::BeginLemmas::begin_within))]
-fn further_rule(alloc: Global, cursor: &mut Cursor<'_>, before: usize) -> Result<RuleText, Refusal>
+fn further_rule(alloc: Global, cursor: &mut Cursor<'_>, before: usize) -> Result<RuleText, Fault>
     ensures leads { Leads bare_rule result (λ f. begin (limited 32 before Rules) (rule f)) cursor.old cursor.new }
     ensures shorter { OnOk result (length cursor.new.rest.now < length cursor.old.rest.now) }
 {
@@ -250,7 +251,7 @@ fn further_rule(alloc: Global, cursor: &mut Cursor<'_>, before: usize) -> Result
 
 /// The rules of a transform, and the `}` behind them.
 #[tactic(auto, using(crate::proofs::RuleLemmas::further_rule, crate::proofs::RuleLemmas::rules_more))]
-pub(crate) fn rules(alloc: Global, cursor: &mut Cursor<'_>) -> Result<Vec<RuleText>, Refusal>
+pub(crate) fn rules(alloc: Global, cursor: &mut Cursor<'_>) -> Result<Vec<RuleText>, Fault>
     ensures leads { Leads (λ v. map bare_rule v.items) result rules cursor.old cursor.new }
     ensures shorter { OnOk result (length cursor.new.rest.now < length cursor.old.rest.now) }
 {

@@ -1,7 +1,7 @@
 ghost use Rattle.std.specs.Prelude.{◌≡◌, ◌≤◌, ◌<◌, ◌+◌, [], ◌∷◌, ℕ, length, Err, Some, OnOk, IfOk, IfErr};
 ghost use Rattle.pb_prog.specs.declared.kind.Kind.TheVariants as k;
 ghost use Rattle.pb_prog.specs.declared.refusal.Item.TheVariants.{Statements, Targets};
-ghost use Rattle.pb_prog.specs.declared.refusal.Refusal.TheVariants.{Memory};
+ghost use Rattle.pb_parser.specs.declared.fault.Fault.TheVariants.{Memory};
 ghost use Rattle.pb_prog.specs.Exprs.{bare};
 ghost use Rattle.pb_prog.specs.Stmts.{Stmt, bare_stmt};
 ghost use Rattle.pb_parser.specs.Numbers.{begins_statement};
@@ -14,10 +14,11 @@ use crate::bracket::{name, open, sign, word};
 use crate::cursor::{Cursor, name_in};
 use crate::dims::dims;
 use crate::expression::{coordinates, expression, some_arguments};
+use crate::fault::Fault;
 use crate::make::{
     assign, assign_cell, call_statement, for_each, if_holds, if_or_else, let_matrix, let_number,
 };
-use pb_prog::{ExprText, FormText, Item, Kind, Name, Refusal, StmtText};
+use pb_prog::{ExprText, FormText, Item, Kind, Name, StmtText};
 use std::alloc::Global;
 
 const MOST_TARGETS: usize = 16;
@@ -35,7 +36,7 @@ fn begins_statement(kind: Kind) -> bool
 
 /// The dimensions of a matrix of a body.
 #[tactic(auto, unfolding(crate::specs::Want::dimensions))]
-fn dimensions(alloc: Global, cursor: &mut Cursor<'_>) -> Result<Vec<FormText>, Refusal>
+fn dimensions(alloc: Global, cursor: &mut Cursor<'_>) -> Result<Vec<FormText>, Fault>
     ensures leads { Leads (λ v. v.items) result dimensions cursor.old cursor.new }
     ensures shorter { OnOk result (length cursor.new.rest.now < length cursor.old.rest.now) }
 {
@@ -50,7 +51,7 @@ fn after_let(
     depth: u32,
     at: u32,
     name: Name,
-) -> Result<StmtText, Refusal>
+) -> Result<StmtText, Fault>
     requires nested { depth ≤ 32 }
     ensures leads { Leads bare_stmt result (after_let depth at name) cursor.old cursor.new }
     ensures shorter { OnOk result (length cursor.new.rest.now < length cursor.old.rest.now) }
@@ -79,7 +80,7 @@ fn after_target(
     cursor: &mut Cursor<'_>,
     depth: u32,
     target: Name,
-) -> Result<StmtText, Refusal>
+) -> Result<StmtText, Fault>
     requires nested { depth ≤ 32 }
     ensures leads { Leads bare_stmt result (after_target depth target) cursor.old cursor.new }
     ensures shorter { OnOk result (length cursor.new.rest.now < length cursor.old.rest.now) }
@@ -105,7 +106,7 @@ fn after_target(
     }
 }
 
-fn two_names(alloc: Global, first: Name, second: Name) -> Result<Vec<Name>, Refusal>
+fn two_names(alloc: Global, first: Name, second: Name) -> Result<Vec<Name>, Fault>
     ensures made { IfOk result (λ v. v.items ≡ first ∷ second ∷ []) }
     ensures memory { IfErr result (λ e. e ≡ Memory) }
 {
@@ -122,7 +123,7 @@ fn after_dot(
     cursor: &mut Cursor<'_>,
     depth: u32,
     target: Name,
-) -> Result<StmtText, Refusal>
+) -> Result<StmtText, Fault>
     requires nested { depth ≤ 32 }
     ensures leads { Leads bare_stmt result (after_dot depth target) cursor.old cursor.new }
     ensures shorter { OnOk result (length cursor.new.rest.now < length cursor.old.rest.now) }
@@ -137,7 +138,7 @@ fn after_dot(
 
 /// A target behind `,` where there are so many before.
 #[tactic(auto, using(crate::proofs::ReadLemmas::unlimited, crate::proofs::ReadLemmas::over_token, crate::proofs::ReadLemmas::bad_token, crate::proofs::ReadLemmas::leads_on), unfolding(crate::specs::Want::name_token))]
-fn next_target(alloc: Global, cursor: &mut Cursor<'_>, before: usize) -> Result<Name, Refusal>
+fn next_target(alloc: Global, cursor: &mut Cursor<'_>, before: usize) -> Result<Name, Fault>
     ensures leads { Leads (λ n. n) result (λ f. begin (limited 16 before Targets) (name_token f)) cursor.old cursor.new }
     ensures shorter { OnOk result (length cursor.new.rest.now < length cursor.old.rest.now) }
 {
@@ -157,7 +158,7 @@ fn more_targets(
     cursor: &mut Cursor<'_>,
     depth: u32,
     first: Vec<Name>,
-) -> Result<StmtText, Refusal>
+) -> Result<StmtText, Fault>
     requires nested { depth ≤ 32 }
     ensures leads { Leads bare_stmt result (more_targets depth first.items) cursor.old cursor.new }
     ensures shorter { OnOk result (length cursor.new.rest.now < length cursor.old.rest.now) }
@@ -179,7 +180,7 @@ fn called(
     cursor: &mut Cursor<'_>,
     depth: u32,
     targets: Vec<Name>,
-) -> Result<StmtText, Refusal>
+) -> Result<StmtText, Fault>
     requires nested { depth ≤ 32 }
     ensures leads { Leads bare_stmt result (called depth targets.items) cursor.old cursor.new }
     ensures shorter { OnOk result (length cursor.new.rest.now < length cursor.old.rest.now) }
@@ -199,7 +200,7 @@ fn block(
     cursor: &mut Cursor<'_>,
     depth: u32,
     count: &mut u32,
-) -> Result<Vec<StmtText>, Refusal>
+) -> Result<Vec<StmtText>, Fault>
     requires nested { depth ≤ 32 }
     requires few { count.now ≤ 256 }
     ensures leads { LeadsCounted (λ v. bare_stmts v.items) result (block depth count.old) cursor.old cursor.new count.new }
@@ -219,7 +220,7 @@ fn after_if(
     depth: u32,
     count: &mut u32,
     at: u32,
-) -> Result<StmtText, Refusal>
+) -> Result<StmtText, Fault>
     requires nested { depth ≤ 32 }
     requires few { count.now ≤ 256 }
     ensures leads { LeadsCounted bare_stmt result (after_if depth count.old at) cursor.old cursor.new count.new }
@@ -244,7 +245,7 @@ fn otherwise(
     at: u32,
     test: ExprText,
     then: Vec<StmtText>,
-) -> Result<StmtText, Refusal>
+) -> Result<StmtText, Fault>
     requires nested { depth ≤ 32 }
     requires few { count.now ≤ 256 }
     ensures leads { LeadsCounted bare_stmt result (otherwise depth count.old at (bare test) (bare_stmts then.items)) cursor.old cursor.new count.new }
@@ -270,7 +271,7 @@ fn after_for(
     depth: u32,
     count: &mut u32,
     at: u32,
-) -> Result<StmtText, Refusal>
+) -> Result<StmtText, Fault>
     requires nested { depth ≤ 32 }
     requires few { count.now ≤ 256 }
     ensures leads { LeadsCounted bare_stmt result (after_for depth count.old at) cursor.old cursor.new count.new }
@@ -296,7 +297,7 @@ fn statement(
     cursor: &mut Cursor<'_>,
     depth: u32,
     count: &mut u32,
-) -> Result<StmtText, Refusal>
+) -> Result<StmtText, Fault>
     requires nested { depth ≤ 32 }
     requires few { count.now < 256 }
     ensures leads { LeadsCounted bare_stmt result (statement depth count.old) cursor.old cursor.new count.new }
@@ -333,7 +334,7 @@ fn statement(
 
 /// The refusal where no more statements may follow.
 #[tactic(auto, using(crate::proofs::ReadLemmas::fails_then))]
-fn too_many(cursor: &Cursor<'_>) -> Refusal
+fn too_many(cursor: &Cursor<'_>) -> Fault
     ensures refused { Fails result ((d n : ℕ) (f : Stmt → ℕ → Want) →
         told (from cursor.now (begin (Some Statements) (statement d n f))) ≡ Err result) }
 {
@@ -351,7 +352,7 @@ fn next_statement(
     cursor: &mut Cursor<'_>,
     depth: u32,
     count: &mut u32,
-) -> Result<StmtText, Refusal>
+) -> Result<StmtText, Fault>
     requires nested { depth ≤ 32 }
     requires few { count.now ≤ 256 }
     ensures leads { LeadsCounted bare_stmt result (λ f. begin (limited 256 count.old Statements) (statement depth count.old f)) cursor.old cursor.new count.new }
@@ -372,7 +373,7 @@ pub(crate) fn statements(
     cursor: &mut Cursor<'_>,
     depth: u32,
     count: &mut u32,
-) -> Result<Vec<StmtText>, Refusal>
+) -> Result<Vec<StmtText>, Fault>
     requires nested { depth ≤ 32 }
     requires few { count.now ≤ 256 }
     ensures leads { LeadsCounted (λ v. bare_stmts v.items) result (statements depth count.old []) cursor.old cursor.new count.new }

@@ -14,13 +14,14 @@ ghost use Rattle.pb_parser.specs.Gives.{Gives};
 
 use crate::cursor::{Cursor, name_in};
 use crate::decl::{decls, minimums, through};
+use crate::fault::{Fault, refused_with};
 use crate::rule::rules;
 use pb_prog::{Item, Kind, Refusal, Text, Token, TransformText};
 use std::alloc::Global;
 
 const MOST_TRANSFORMS: usize = 64;
 
-fn transform(alloc: Global, cursor: &mut Cursor<'_>) -> Result<TransformText, Refusal>
+fn transform(alloc: Global, cursor: &mut Cursor<'_>) -> Result<TransformText, Fault>
     ensures leads { Leads bare_transform result a_transform cursor.old cursor.new }
     ensures shorter { OnOk result (length cursor.new.rest.now < length cursor.old.rest.now) }
 {
@@ -47,7 +48,7 @@ fn further_transform(
     alloc: Global,
     cursor: &mut Cursor<'_>,
     before: usize,
-) -> Result<TransformText, Refusal>
+) -> Result<TransformText, Fault>
     ensures leads { Leads bare_transform result (λ f. begin (limited 64 before Transforms) (a_transform f)) cursor.old cursor.new }
     ensures shorter { OnOk result (length cursor.new.rest.now < length cursor.old.rest.now) }
 {
@@ -61,7 +62,7 @@ fn further_transform(
 }
 
 #[tactic(auto, using(crate::proofs::RuleLemmas::further_transform, crate::proofs::RuleLemmas::transforms_more))]
-fn read_program(alloc: Global, tokens: &[Token], end: u32) -> Result<Text, Refusal>
+fn read_program(alloc: Global, tokens: &[Token], end: u32) -> Result<Text, Fault>
     ensures read { Gives result (read end tokens.now program) }
 {
     let mut cursor = Cursor { rest: tokens, end };
@@ -87,5 +88,5 @@ pub fn parse(alloc: Global, tokens: &[Token], end: u32) -> Result<Text, Refusal>
     ensures over_limit { (what : AnItem) (at : ℕ) → OverLimitAt tokens.now what at
         → MatchResult result (λ _. ⊥) (λ e. (e ≡ OverLimit what at) ⊎ (e ≡ Memory)) }
 {
-    read_program(alloc, tokens, end)
+    refused_with(read_program(alloc, tokens, end))
 }

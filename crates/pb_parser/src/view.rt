@@ -7,8 +7,9 @@ ghost use Rattle.pb_parser.specs.Reading.{between};
 ghost use Rattle.pb_parser.specs.Leads.{Leads};
 
 use crate::cursor::Cursor;
+use crate::fault::Fault;
 use crate::form::form;
-use pb_prog::{Kind, Refusal, Token, TokenWhat, ViewText};
+use pb_prog::{Kind, Token, TokenWhat, ViewText};
 use std::alloc::Global;
 
 /// The bytes of the name that a token is.
@@ -21,7 +22,7 @@ pub(crate) fn word_in(token: &Token) -> &[u8]
     }
 }
 
-fn row(alloc: Global, cursor: &mut Cursor<'_>) -> Result<ViewText, Refusal>
+fn row(alloc: Global, cursor: &mut Cursor<'_>) -> Result<ViewText, Fault>
     ensures leads { Leads (λ v. v) result (λ f. a_sign Open (form (λ y. a_sign Close (f (Row y))))) cursor.old cursor.new }
     ensures shorter { OnOk result (length cursor.new.rest.now < length cursor.old.rest.now) }
 {
@@ -31,7 +32,7 @@ fn row(alloc: Global, cursor: &mut Cursor<'_>) -> Result<ViewText, Refusal>
     Ok(ViewText::Row(y))
 }
 
-fn column(alloc: Global, cursor: &mut Cursor<'_>) -> Result<ViewText, Refusal>
+fn column(alloc: Global, cursor: &mut Cursor<'_>) -> Result<ViewText, Fault>
     ensures leads { Leads (λ v. v) result (λ f. a_sign Open (form (λ x. a_sign Close (f (Column x))))) cursor.old cursor.new }
     ensures shorter { OnOk result (length cursor.new.rest.now < length cursor.old.rest.now) }
 {
@@ -41,7 +42,7 @@ fn column(alloc: Global, cursor: &mut Cursor<'_>) -> Result<ViewText, Refusal>
     Ok(ViewText::Column(x))
 }
 
-fn cell(alloc: Global, cursor: &mut Cursor<'_>) -> Result<ViewText, Refusal>
+fn cell(alloc: Global, cursor: &mut Cursor<'_>) -> Result<ViewText, Fault>
     ensures leads { Leads (λ v. v) result (λ f. a_sign Open (form (λ x. after_x x f))) cursor.old cursor.new }
     ensures shorter { OnOk result (length cursor.new.rest.now < length cursor.old.rest.now) }
 {
@@ -62,7 +63,7 @@ fn cell(alloc: Global, cursor: &mut Cursor<'_>) -> Result<ViewText, Refusal>
     }
 }
 
-fn region(alloc: Global, cursor: &mut Cursor<'_>) -> Result<ViewText, Refusal>
+fn region(alloc: Global, cursor: &mut Cursor<'_>) -> Result<ViewText, Fault>
     ensures leads { Leads (λ v. v) result between cursor.old cursor.new }
     ensures shorter { OnOk result (length cursor.new.rest.now < length cursor.old.rest.now) }
 {
@@ -95,7 +96,7 @@ fn region(alloc: Global, cursor: &mut Cursor<'_>) -> Result<ViewText, Refusal>
     }
 }
 
-fn view(alloc: Global, cursor: &mut Cursor<'_>) -> Result<ViewText, Refusal>
+fn view(alloc: Global, cursor: &mut Cursor<'_>) -> Result<ViewText, Fault>
     ensures leads { Leads (λ v. v) result view_name cursor.old cursor.new }
     ensures shorter { OnOk result (length cursor.new.rest.now < length cursor.old.rest.now) }
 {
@@ -122,7 +123,7 @@ fn view(alloc: Global, cursor: &mut Cursor<'_>) -> Result<ViewText, Refusal>
 }
 
 /// `.` and a view, or the whole matrix where no `.` comes next.
-pub(crate) fn view_or_none(alloc: Global, cursor: &mut Cursor<'_>) -> Result<ViewText, Refusal>
+pub(crate) fn view_or_none(alloc: Global, cursor: &mut Cursor<'_>) -> Result<ViewText, Fault>
     ensures leads { Leads (λ v. v) result view_or_none cursor.old cursor.new }
     ensures shorter { OnOk result (length cursor.new.rest.now ≤ length cursor.old.rest.now) }
 {
