@@ -1,8 +1,11 @@
 -- Words and files have one answer.
-use Rattle.std.proofs.Common.{◌≡◌, ℕ, List, [], ◌∷◌, map, ℤ, Option, Some, None, Result, Ok, Err, inl, inr, sym, ap, subst, ◌∙◌, refl}
+use Rattle.std.proofs.Common.{◌≡◌, ℕ, ◌≤◌, length, arith, List, [], ◌∷◌, map, ℤ, Option, Some, None, Result, Ok, Err, inl, inr, sym, ap, subst, ◌∙◌, refl}
 use Rattle.pb_outside.specs.Shelf.{Files}
 use Rattle.pb_values.specs.declared.outcome.Kind.{Kind}
 use Rattle.pb_prog.specs.Canonical.{canonical}
+use Rattle.pb_lexer.specs.Refusing.{most_bytes}
+use Rattle.pb_front.specs.Reading.{IsRead}
+use Rattle.pb_front.proofs.CanonicalLemmas.{read_again, its_own}
 use Rattle.pb_front.proofs.ReadLemmas.{one_tree, one_refusal as one_refusal_of, not_both}
 use Rattle.pb_matrix.specs.Text.{matrix_text}
 use Rattle.pb_matrix.specs.Value.{MatrixValue}
@@ -95,3 +98,11 @@ one_reply_lem words files first second (inl (inside, left)) (inl (inside_too, ri
 one_reply_lem words files first second (inl (inside, left)) (inr (outside, is)) = absurd (outside inside)
 one_reply_lem words files first second (inr (outside, is)) (inl (inside, right)) = absurd (outside inside)
 one_reply_lem words files first second (inr (outside, is)) (inr (outside_too, other_is)) = is ∙ sym other_is
+
+-- what is written of a program is written of itself
+pub checked_stays : (program text : List ℕ) → CheckAnswers program (done_reply text) → length text ≤ most_bytes → CheckAnswers text (done_reply text)
+checked_stays program text (inr (why, refused, is)) short = absurd (omega (arith, ap (λ (r : Reply). r.status) is))
+checked_stays program text (inl (tree, read, is)) short =
+    let same : canonical tree ≡ text = sym (ap (λ (r : Reply). r.out) is) in
+    let a = read_again program tree read (subst (λ t. length t ≤ most_bytes) (sym same) short) in
+    inl (a.0, subst (λ t. IsRead t a.0) same a.1, is ∙ ap done_reply (sym (its_own program tree a.0 read a.1)))

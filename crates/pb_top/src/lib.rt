@@ -20,4 +20,4 @@ mod run;
 mod tokens;
 
 pub use command::{pb_alone, pb_command};
-pub use laws::one_reply;
+pub use laws::{a_checked_text_stays, one_reply};
