@@ -1,24 +1,24 @@
 -- What is written as a tree's tokens spells that tree again, places aside.
 use Rattle.std.proofs.Common.{◌≡◌, ℕ, suc, List, [], ◌∷◌, ◌++◌, map, refl, ap, ap₂, ◌∙◌, Bool, true, false, nat_le, nat_lt, length, Option, Some, None, if◌then◌else◌, sym, subst}
-use Rattle.pb_prog.specs.declared.token.Token.{Token}
-use Rattle.pb_prog.specs.declared.token.TokenWhat.{TokenWhat}
-use Rattle.pb_prog.specs.declared.token.TokenWhat.TheVariants as what
-use Rattle.pb_prog.specs.declared.kind.Kind.TheVariants as k
-use Rattle.pb_prog.specs.declared.refusal.Item.{Item}
-use Rattle.pb_prog.specs.Kinds.{kind_of, kind_of_what, Is, word_kind, name_in, name_in_what, number_in, number_in_what}
-use Rattle.pb_prog.specs.Spelling.{Written, word, numeral, behind_commas}
+use Rattle.pb_syntax.specs.declared.token.Token.{Token}
+use Rattle.pb_syntax.specs.declared.token.TokenWhat.{TokenWhat}
+use Rattle.pb_syntax.specs.declared.token.TokenWhat.TheVariants as what
+use Rattle.pb_syntax.specs.declared.kind.TokenKind.TheVariants as k
+use Rattle.pb_syntax.specs.declared.refusal.Item.{Item}
+use Rattle.pb_syntax.specs.Kinds.{kind_of, kind_of_what, Is, word_kind, name_in, name_in_what, number_in, number_in_what}
+use Rattle.pb_prog.specs.Spelling.{Written, word, numeral, after_commas}
 use Rattle.pb_prog.specs.Canonical.{written_kind}
-use Rattle.pb_prog.specs.Grammar.{IsWord, Commas, no_comma, a_comma}
-use Rattle.pb_prog.specs.Limits.{over, Excess, most, too_great, Sizes, alone, is_known, size_excess, excess_of}
-use Rattle.pb_prog.specs.TooMany.{TooMany, in_commas, note, begun}
-use Rattle.pb_prog.specs.Places.{unplaced_name, unplaced_option, unplaced_form}
+use Rattle.pb_syntax.specs.Grammar.{IsWord, Commas, no_comma, a_comma}
+use Rattle.pb_syntax.specs.Limits.{over, Excess, most, too_great, SizeNames, alone, is_known, size_excess, excess_of}
+use Rattle.pb_syntax.specs.TooMany.{TooMany, in_commas, note, begun}
+use Rattle.pb_syntax.specs.Places.{unplaced_name, unplaced_option, unplaced_form}
 use Rattle.pb_front.proofs.Written.{written_as, Takes, nothing, one}
 use Rattle.pb_values.specs.Name.{NameValue}
-use Rattle.pb_prog.specs.declared.refusal.Item.TheVariants as item
-use Rattle.pb_prog.specs.Forms.{FormValue}
+use Rattle.pb_syntax.specs.declared.refusal.Item.TheVariants as item
+use Rattle.pb_syntax.specs.Forms.{FormValue}
 use Rattle.pb_front.proofs.Unplaced.{same_alone}
 
--- what is written so, cut behind its first part
+-- what is written so, cut after its first part
 pub data Cut (a b : List Written) (all rest : List Token) : Type 0 where
   cut : {mid : List Token} → Takes a all mid → Takes b mid rest → Cut a b all rest
 
@@ -108,7 +108,7 @@ size_fewer known (Some n) (Some o) ts us {l = l} {m = m} same h =
     (if nat_le (most item.Sizes) (length known) then Some (record { what = item.Sizes; at = o.at }) else None)) us m)) (sym (ap bytes_of same))
     (by_tests (is_known n.bytes known) (nat_le (most item.Sizes) (length known)) _ _ ts us h)
 
-pub form_fewer : (known : Sizes) (x y : FormValue) (ts us : List Token) {l m : List TooMany} → unplaced_form y ≡ unplaced_form x → Fewer l m
+pub form_fewer : (known : SizeNames) (x y : FormValue) (ts us : List Token) {l m : List TooMany} → unplaced_form y ≡ unplaced_form x → Fewer l m
     → Fewer (note (excess_of known x) ts l) (note (excess_of known y) us m)
 form_fewer None x y ts us same h = h
 form_fewer (Some known) x y ts us same h = size_fewer known (alone x) (alone y) ts us (same_alone y x same) h
@@ -128,10 +128,10 @@ made tree spelled same few = record { tree = tree; spelled = spelled; same = sam
 pub again_commas : {A : Type 0} {R : A → List Token → List Token → Type 0} (g : A → A) (tokens : A → List Written)
     (each : (x : A) (all rest : List Token) → R x all rest → List TooMany → List TooMany)
     → ((x : A) (all rest all' rest' : List Token) (d : R x all rest) → Takes (tokens x) all' rest' → Again R g x all' rest' (λ y d'. Adds (each x all rest d) (each y all' rest' d')))
-    → {xs : List A} {all rest all' rest' : List Token} (d : Commas R xs all rest) → Takes (behind_commas tokens xs) all' rest'
+    → {xs : List A} {all rest all' rest' : List Token} (d : Commas R xs all rest) → Takes (after_commas tokens xs) all' rest'
     → Again (Commas R) (map g) xs all' rest' (λ ys d'. (what : Item) (n : ℕ) → Adds (in_commas what each n d) (in_commas what each n d'))
 again_commas g tokens each item no_comma nothing = record { tree = []; spelled = no_comma; same = refl; few = λ what n l m h. h }
-again_commas g tokens each item (a_comma {x = x} {xs = xs} {all = old} i d ds) (one {t = c} {all = new} e t) = elim (split {a = tokens x} {b = behind_commas tokens xs} t) [
+again_commas g tokens each item (a_comma {x = x} {xs = xs} {all = old} i d ds) (one {t = c} {all = new} e t) = elim (split {a = tokens x} {b = after_commas tokens xs} t) [
   | cut a b ↦ let r = item x _ _ _ _ d a in let s = again_commas g tokens each item ds b in made (r.tree ∷ s.tree) (a_comma (is c e) r.spelled s.spelled)
       (ap₂ (λ y ys. y ∷ ys) r.same s.same) (λ what n l m h. begun_fewer (over what n) old new (r.few _ _ (s.few what (suc n) l m h)))
 ]

@@ -2,30 +2,30 @@
 use Rattle.std.proofs.Common.{◌≡◌, ℕ, suc, ◌+◌, ◌≤◌, Bool, true, false, ◌==◌, List, [], ◌∷◌, ◌++◌, length, map, Some, None, codes, if◌then◌else◌, refl, sym, ap, ap₂, ◌∙◌, subst, arith}
 use Rattle.std.proofs.lemmas.Bool.Decides.{nat_tests}
 use Rattle.pb_values.specs.Name.{NameValue}
-use Rattle.pb_prog.specs.declared.token.Token.{Token}
-use Rattle.pb_prog.specs.declared.refusal.Item.TheVariants as item
-use Rattle.pb_prog.specs.declared.kind.Kind.{Kind}
-use Rattle.pb_prog.specs.declared.kind.Kind.TheVariants as k
-use Rattle.pb_prog.specs.declared.tree.expression.Relation.{Relation}
-use Rattle.pb_prog.specs.declared.tree.expression.Relation.TheVariants as relation
-use Rattle.pb_prog.specs.declared.tree.form.TermText.{TermText}
-use Rattle.pb_prog.specs.declared.tree.view.ViewText.{ViewText}
-use Rattle.pb_prog.specs.declared.tree.view.ViewText.TheVariants as view
-use Rattle.pb_prog.specs.declared.tree.view.UseText.{UseText}
-use Rattle.pb_prog.specs.declared.tree.view.CondText.{CondText}
-use Rattle.pb_prog.specs.Kinds.{kind_of, sign_kind, Is, name_in, number_in}
-use Rattle.pb_prog.specs.Operators.{condition_relation}
-use Rattle.pb_prog.specs.Forms.{FormValue, DeclValue}
-use Rattle.pb_prog.specs.Spelling.{word, numeral, sign_at, term_sign, relation_sign, in_order, with_commas, behind_commas, factor_tokens, quotient_tokens, term_tokens, next_term_tokens, sum_tokens, form_tokens, decl_tokens, view_tokens, use_tokens, cond_tokens, minimum_tokens, minimums_tokens, conds_tokens, through_tokens, mark_tokens}
-use Rattle.pb_prog.specs.Grammar.{Commas, no_comma, a_comma, IsTerm, number_term, name_term, multiple, fraction, IsTerms, no_terms, plus, minus, IsForm, plain_form, minus_form, IsDims, one_dim, two_dims, IsDecl, a_decl, IsDecls, some_decls, IsView, whole, cell_x, cell_xy, row, column, region_2, region_4, IsUse, a_use, IsCond, a_cond, IsMinimum, a_minimum, IsMinimums, no_minimums, some_minimums, IsThrough, no_through, some_through, IsReads, no_reads, some_reads, IsConds, no_conds, some_conds, IsMark, unmarked, primary, secondary, priority}
-use Rattle.pb_prog.specs.Limits.{over, too_great, Sizes, after_form, excess_of, counted}
-use Rattle.pb_prog.specs.TooMany.{note, in_term, in_terms, in_form, in_dims, in_decl, in_more_decls, in_decls, in_view, in_use, in_cond, in_minimum, in_minimums, in_through, in_reads, in_conds, in_mark}
-use Rattle.pb_prog.specs.Places.{unplaced_term, unplaced_form, unplaced_decl, unplaced_view, unplaced_use, unplaced_cond, unplaced_minimum}
+use Rattle.pb_syntax.specs.declared.token.Token.{Token}
+use Rattle.pb_syntax.specs.declared.refusal.Item.TheVariants as item
+use Rattle.pb_syntax.specs.declared.kind.TokenKind.{TokenKind}
+use Rattle.pb_syntax.specs.declared.kind.TokenKind.TheVariants as k
+use Rattle.pb_syntax.specs.declared.tree.expression.Relation.{Relation}
+use Rattle.pb_syntax.specs.declared.tree.expression.Relation.TheVariants as relation
+use Rattle.pb_syntax.specs.declared.tree.form.TermText.{TermText}
+use Rattle.pb_syntax.specs.declared.tree.view.ViewText.{ViewText}
+use Rattle.pb_syntax.specs.declared.tree.view.ViewText.TheVariants as view
+use Rattle.pb_syntax.specs.declared.tree.view.UseText.{UseText}
+use Rattle.pb_syntax.specs.declared.tree.view.CondText.{CondText}
+use Rattle.pb_syntax.specs.Kinds.{kind_of, sign_kind, Is, name_in, number_in}
+use Rattle.pb_syntax.specs.Operators.{condition_relation}
+use Rattle.pb_syntax.specs.Forms.{FormValue, DeclValue}
+use Rattle.pb_prog.specs.Spelling.{word, numeral, sign_at, term_sign, relation_sign, in_order, with_commas, after_commas, factor_tokens, quotient_tokens, term_tokens, next_term_tokens, sum_tokens, form_tokens, decl_tokens, view_tokens, use_tokens, cond_tokens, minimum_tokens, minimums_tokens, conds_tokens, through_tokens, mark_tokens}
+use Rattle.pb_syntax.specs.Grammar.{Commas, no_comma, a_comma, IsTerm, number_term, name_term, multiple, fraction, IsTerms, no_terms, plus, minus, IsForm, plain_form, minus_form, IsDims, one_dim, two_dims, IsDecl, a_decl, IsDecls, some_decls, IsView, whole, cell_x, cell_xy, row, column, region_2, region_4, IsUse, a_use, IsCond, a_cond, IsMinimum, a_minimum, IsMinimums, no_minimums, some_minimums, IsThrough, no_through, some_through, IsReads, no_reads, some_reads, IsConds, no_conds, some_conds, IsMark, unmarked, primary, secondary, priority}
+use Rattle.pb_syntax.specs.Limits.{over, too_great, SizeNames, after_form, excess_of, counted}
+use Rattle.pb_syntax.specs.TooMany.{note, in_term, in_terms, in_form, in_dims, in_decl, in_more_decls, in_decls, in_view, in_use, in_cond, in_minimum, in_minimums, in_through, in_reads, in_conds, in_mark}
+use Rattle.pb_syntax.specs.Places.{unplaced_term, unplaced_form, unplaced_decl, unplaced_view, unplaced_use, unplaced_cond, unplaced_minimum}
 use Rattle.pb_front.proofs.Written.{Takes, nothing, one}
 use Rattle.pb_front.proofs.Unplaced.{same_after, same_counted, same_length}
 use Rattle.pb_front.proofs.Again.{cut, split, is, number_is, is_name, same_name, is_word, Again, made, again_commas, Fewer, Adds, dropped_fewer, begun_fewer, number_fewer, form_fewer}
-use Rattle.pb_prog.specs.declared.tree.view.MarkText.{MarkText}
-use Rattle.pb_prog.specs.declared.tree.view.MarkText.TheVariants as mark
+use Rattle.pb_syntax.specs.declared.tree.view.MarkText.{MarkText}
+use Rattle.pb_syntax.specs.declared.tree.view.MarkText.TheVariants as mark
 
 abbrev pub TermAgain : {m : Bool} {x : TermText} {all rest : List Token} → IsTerm m x all rest → List Token → List Token → Type 0
 TermAgain {m} {x} d all rest = Again (IsTerm m) unplaced_term x all rest (λ y d'. Adds (in_term d) (in_term d'))
@@ -96,7 +96,7 @@ again_form (minus_form {x = x} {xs = xs} i d ds) (one {t = u} e t) = elim (split
 
 -- dimensions, with the bracket that closes them
 pub again_dims : {ds : List FormValue} {all rest all' rest' : List Token} {c : Token} (d : IsDims ds all rest) → Takes (with_commas form_tokens ds) all' (c ∷ rest') → Is k.CloseBracket c
-    → Again IsDims (map unplaced_form) ds all' rest' (λ es d'. (known : Sizes) → Adds (in_dims known d) (in_dims known d'))
+    → Again IsDims (map unplaced_form) ds all' rest' (λ es d'. (known : SizeNames) → Adds (in_dims known d) (in_dims known d'))
 again_dims {rest' = new} {c = v} (one_dim {x = x} {c = c} {rest = old} d i) t j = elim (split {a = form_tokens x} {b = []} t) [
   | cut a nothing ↦ let r = again_form d a in made (r.tree ∷ []) (one_dim r.spelled j) (ap (λ y. y ∷ []) r.same)
       (λ known l m h. r.few _ _ (form_fewer known x r.tree (c ∷ old) (v ∷ new) r.same h))
@@ -112,7 +112,7 @@ again_dims {rest' = new} {c = v} (two_dims {x = x} {y = y} {m = m} {c = c} {mid 
 ]
 
 pub again_decl : {x : DeclValue} {all rest all' rest' : List Token} (d : IsDecl x all rest) → Takes (decl_tokens x) all' rest'
-    → Again IsDecl unplaced_decl x all' rest' (λ y d'. (n : ℕ) (known : Sizes) → Adds (in_decl n known d) (in_decl n known d'))
+    → Again IsDecl unplaced_decl x all' rest' (λ y d'. (n : ℕ) (known : SizeNames) → Adds (in_decl n known d) (in_decl n known d'))
 unfolding decl_tokens
 again_decl (a_decl {ds = ds} {n = n} {b = b} {all = old} i j d) (one {t = u} e (one {t = v} {all = new} f t)) = elim (split {a = with_commas form_tokens ds} t) [
   | cut a (one {t = w} g nothing) ↦ let r = again_dims d a (is w g) in made (record { name = name_in u; dims = r.tree }) (a_decl (is_name n u i e) (is v f) r.spelled)
@@ -127,17 +127,17 @@ map_append g (x ∷ xs) ys = rw (map_append g xs ys) refl
 longer : {A : Type 0} (g : A → A) (xs ys : List A) (x y : A) → map g ys ≡ map g xs → g y ≡ g x → map g (ys ++ y ∷ []) ≡ map g (xs ++ x ∷ [])
 longer g xs ys x y e f = map_append g ys (y ∷ []) ∙ ap₂ (λ zs z. zs ++ z ∷ []) e f ∙ sym (map_append g xs (x ∷ []))
 
--- what depends on the matrices before is the same behind those that differ in places alone
-same_before : (n : ℕ) (from : Bool) (found others : List DeclValue) → map unplaced_decl others ≡ map unplaced_decl found → (P : ℕ → Sizes → Type 0)
+-- what depends on the matrices before is the same after those that differ in places alone
+same_before : (n : ℕ) (from : Bool) (found others : List DeclValue) → map unplaced_decl others ≡ map unplaced_decl found → (P : ℕ → SizeNames → Type 0)
     → P (n + length found) (counted from found) → P (n + length others) (counted from others)
 same_before n from found others e P h = subst (λ k. P (n + k) (counted from others)) (sym (same_length unplaced_decl others found e))
     (subst (P (n + length found)) (sym (same_counted from others found e)) h)
 
-again_more_decls : {ds : List DeclValue} {all rest all' rest' : List Token} (d : Commas IsDecl ds all rest) → Takes (behind_commas decl_tokens ds) all' rest'
+again_more_decls : {ds : List DeclValue} {all rest all' rest' : List Token} (d : Commas IsDecl ds all rest) → Takes (after_commas decl_tokens ds) all' rest'
     → Again (Commas IsDecl) (map unplaced_decl) ds all' rest' (λ es d'. (n : ℕ) (from : Bool) (found others : List DeclValue)
     → map unplaced_decl others ≡ map unplaced_decl found → Adds (in_more_decls n from found d) (in_more_decls n from others d'))
 again_more_decls no_comma nothing = made [] no_comma refl (λ n from found others e l m h. h)
-again_more_decls (a_comma {x = x} {xs = xs} i d ds) (one {t = c} e t) = elim (split {a = decl_tokens x} {b = behind_commas decl_tokens xs} t) [
+again_more_decls (a_comma {x = x} {xs = xs} i d ds) (one {t = c} e t) = elim (split {a = decl_tokens x} {b = after_commas decl_tokens xs} t) [
   | cut a b ↦ let r = again_decl d a in let s = again_more_decls ds b in made (r.tree ∷ s.tree) (a_comma (is c e) r.spelled s.spelled) (ap₂ (λ y ys. y ∷ ys) r.same s.same)
       (λ n from found others q l m h. same_before n from found others q
       (λ k known. Fewer (in_decl (n + length found) (counted from found) d (in_more_decls n from (found ++ x ∷ []) ds l))
@@ -147,7 +147,7 @@ again_more_decls (a_comma {x = x} {xs = xs} i d ds) (one {t = c} e t) = elim (sp
 
 pub again_decls : {ds : List DeclValue} {all rest all' rest' : List Token} (d : IsDecls ds all rest) → Takes (with_commas decl_tokens ds) all' rest'
     → Again IsDecls (map unplaced_decl) ds all' rest' (λ es d'. (n : ℕ) (from : Bool) → Adds (in_decls n from d) (in_decls n from d'))
-again_decls (some_decls {d = x} {ds = xs} d ds) t = elim (split {a = decl_tokens x} {b = behind_commas decl_tokens xs} t) [
+again_decls (some_decls {d = x} {ds = xs} d ds) t = elim (split {a = decl_tokens x} {b = after_commas decl_tokens xs} t) [
   | cut a b ↦ let r = again_decl d a in let s = again_more_decls ds b in made (r.tree ∷ s.tree) (some_decls r.spelled s.spelled) (ap₂ (λ y ys. y ∷ ys) r.same s.same)
       (λ n from l m h. r.few n (counted from []) _ _ (s.few n from (x ∷ []) (r.tree ∷ []) (ap (λ y. y ∷ []) r.same) l m h))
 ]
@@ -205,11 +205,11 @@ again_use x all rest all' rest' (a_use {v = v} {m = m} {b = b} i d j) (one {t = 
       (ap₂ (λ (y : NameValue × NameValue) z. record { matrix = y.0; view = z; bound = y.1 }) (ap₂ (λ y z. (y, z)) (same_name m t e) (same_name b u f)) r.same) r.few
 ]
 
-no_unequal : (kind : Kind) → condition_relation kind ≡ Some relation.Unequal → ⊥
+no_unequal : (kind : TokenKind) → condition_relation kind ≡ Some relation.Unequal → ⊥
 no_unequal k.Less e = absurd (cc)
 no_unequal _ e = absurd (cc)
 
-relation_again : (kind : Kind) (r : Relation) → condition_relation kind ≡ Some r → condition_relation (sign_kind (relation_sign r)) ≡ Some r
+relation_again : (kind : TokenKind) (r : Relation) → condition_relation kind ≡ Some r → condition_relation (sign_kind (relation_sign r)) ≡ Some r
 relation_again kind relation.Unequal e = absurd (no_unequal kind e)
 relation_again kind _ e = refl
 
@@ -231,7 +231,7 @@ again_minimum x all rest all' rest' (a_minimum {n = t} {v = o} {rest = old} i j 
 pub again_minimums : {xs : List (NameValue × ℕ)} {all rest all' rest' : List Token} (d : IsMinimums xs all rest) → Takes (minimums_tokens xs) all' rest'
     → Again IsMinimums (map unplaced_minimum) xs all' rest' (λ y d'. Adds (in_minimums d) (in_minimums d'))
 again_minimums no_minimums nothing = made [] no_minimums refl (λ l m h. h)
-again_minimums (some_minimums {x = x} {xs = xs} i d ds) (one {t = u} e t) = elim (split {a = minimum_tokens x} {b = behind_commas minimum_tokens xs} t) [
+again_minimums (some_minimums {x = x} {xs = xs} i d ds) (one {t = u} e t) = elim (split {a = minimum_tokens x} {b = after_commas minimum_tokens xs} t) [
   | cut a b ↦ let r = again_minimum x _ _ _ _ d a in let s = again_commas unplaced_minimum minimum_tokens (λ x a b. in_minimum) again_minimum ds b in made (r.tree ∷ s.tree)
       (some_minimums (is u e) r.spelled s.spelled) (ap₂ (λ y ys. y ∷ ys) r.same s.same) (λ l m h. r.few _ _ (s.few item.Minimums 1 l m h))
 ]
@@ -245,7 +245,7 @@ again_through (some_through i (some_decls d ds)) (one {t = u} e t) = let r = aga
 pub again_reads : {us : List UseText} {all rest all' rest' : List Token} (d : IsReads us all rest) → Takes (with_commas use_tokens us) all' rest'
     → Again IsReads (map unplaced_use) us all' rest' (λ y d'. Adds (in_reads d) (in_reads d'))
 again_reads no_reads nothing = made [] no_reads refl (λ l m h. h)
-again_reads (some_reads {u = x} {us = xs} d ds) t = elim (split {a = use_tokens x} {b = behind_commas use_tokens xs} t) [
+again_reads (some_reads {u = x} {us = xs} d ds) t = elim (split {a = use_tokens x} {b = after_commas use_tokens xs} t) [
   | cut a b ↦ let r = again_use _ _ _ _ _ d a in let s = again_commas unplaced_use use_tokens (λ x a b. in_use) again_use ds b in made (r.tree ∷ s.tree)
       (some_reads r.spelled s.spelled) (ap₂ (λ y ys. y ∷ ys) r.same s.same) (λ l m h. r.few _ _ (s.few item.Reads 1 l m h))
 ]
@@ -253,7 +253,7 @@ again_reads (some_reads {u = x} {us = xs} d ds) t = elim (split {a = use_tokens 
 pub again_conds : {cs : List CondText} {all rest all' rest' : List Token} (d : IsConds cs all rest) → Takes (conds_tokens cs) all' rest'
     → Again IsConds (map unplaced_cond) cs all' rest' (λ y d'. Adds (in_conds d) (in_conds d'))
 again_conds no_conds nothing = made [] no_conds refl (λ l m h. h)
-again_conds (some_conds {c = x} {cs = xs} i d ds) (one {t = u} e t) = elim (split {a = cond_tokens x} {b = behind_commas cond_tokens xs} t) [
+again_conds (some_conds {c = x} {cs = xs} i d ds) (one {t = u} e t) = elim (split {a = cond_tokens x} {b = after_commas cond_tokens xs} t) [
   | cut a b ↦ let r = again_cond _ _ _ _ _ d a in let s = again_commas unplaced_cond cond_tokens (λ x a b. in_cond) again_cond ds b in made (r.tree ∷ s.tree)
       (some_conds (is u e) r.spelled s.spelled) (ap₂ (λ y ys. y ∷ ys) r.same s.same) (λ l m h. r.few _ _ (s.few item.Conditions 1 l m h))
 ]

@@ -4,35 +4,35 @@ use Rattle.std.specs.List.{list_all}
 use Rattle.std.proofs.lemmas.Bool.{cases_lt, ltb-true, not-true}
 use Rattle.std.proofs.lemmas.List.{get_or_past}
 use Rattle.pb_values.specs.Name.{NameValue}
-use Rattle.pb_prog.proofs.TestLemmas.{and_parts}
-use Rattle.pb_prog.proofs.SignLemmas.{long_listed, short_listed}
-use Rattle.pb_prog.specs.declared.token.Token.{Token}
-use Rattle.pb_prog.specs.declared.token.TokenWhat.{TokenWhat}
-use Rattle.pb_prog.specs.declared.token.TokenWhat.TheVariants as what
-use Rattle.pb_prog.specs.declared.kind.Kind.{Kind}
-use Rattle.pb_prog.specs.declared.kind.Kind.TheVariants as k
-use Rattle.pb_prog.specs.declared.tree.expression.Operator.{Operator}
-use Rattle.pb_prog.specs.declared.tree.expression.Operator.TheVariants as operator
-use Rattle.pb_prog.specs.declared.tree.expression.Relation.{Relation}
-use Rattle.pb_prog.specs.declared.tree.expression.Relation.TheVariants as relation
-use Rattle.pb_prog.specs.declared.tree.expression.Level.{Level}
-use Rattle.pb_prog.specs.declared.tree.form.TermText.{TermText}
-use Rattle.pb_prog.specs.declared.tree.view.ViewText.{ViewText}
-use Rattle.pb_prog.specs.declared.tree.view.UseText.{UseText}
-use Rattle.pb_prog.specs.declared.tree.view.CondText.{CondText}
-use Rattle.pb_prog.specs.declared.tree.view.MarkText.{MarkText}
-use Rattle.pb_prog.specs.Bytes.{begins_name, is_in_name}
-use Rattle.pb_prog.specs.Signs.{signs}
-use Rattle.pb_prog.specs.Kinds.{sign_kind, Is, name_in, name_in_what, number_in, number_in_what, kind_of_what}
-use Rattle.pb_prog.specs.Tokens as piece
-use Rattle.pb_prog.specs.Tokens.{Piece, Pieces}
-use Rattle.pb_prog.specs.Grammar as g
-use Rattle.pb_prog.specs.Grammar.{Commas, no_comma, a_comma, IsTerm, IsTerms, IsForm, IsDims, IsDecl, IsDecls, IsView, IsUse, IsCond, IsMark, IsLine, IsOperands, IsOperand, IsComp, IsUnary, IsPrim, IsArguments, IsCoordinates, IsStmt, IsBlock, IsStmts, IsRule, IsRules, IsTransform, IsTransforms, Program}
-use Rattle.pb_prog.specs.Forms.{FormValue, DeclValue}
-use Rattle.pb_prog.specs.Exprs.{Expr, exprs, operands, chained}
-use Rattle.pb_prog.specs.Stmts.{Stmt, stmts}
-use Rattle.pb_prog.specs.Trees.{Rule, Transform}
-use Rattle.pb_prog.specs.Spelling.{Written, word, numeral, sign_at, relation_sign, operator_sign, term_sign, behind_commas, with_commas, in_order, name_tokens, minimum_tokens, minimums_tokens, factor_tokens, quotient_tokens, term_tokens, next_term_tokens, sum_tokens, form_tokens, decl_tokens, through_tokens, view_tokens, use_tokens, cond_tokens, conds_tokens, mark_tokens, expr_tokens, operands_tokens, arguments_tokens, more_arguments_tokens, stmt_tokens, stmts_tokens, rule_tokens, transform_tokens, text_tokens}
+use Rattle.pb_syntax.proofs.TestLemmas.{and_parts}
+use Rattle.pb_syntax.proofs.SignLemmas.{long_listed, short_listed}
+use Rattle.pb_syntax.specs.declared.token.Token.{Token}
+use Rattle.pb_syntax.specs.declared.token.TokenWhat.{TokenWhat}
+use Rattle.pb_syntax.specs.declared.token.TokenWhat.TheVariants as what
+use Rattle.pb_syntax.specs.declared.kind.TokenKind.{TokenKind}
+use Rattle.pb_syntax.specs.declared.kind.TokenKind.TheVariants as k
+use Rattle.pb_syntax.specs.declared.tree.expression.Operator.{Operator}
+use Rattle.pb_syntax.specs.declared.tree.expression.Operator.TheVariants as operator
+use Rattle.pb_syntax.specs.declared.tree.expression.Relation.{Relation}
+use Rattle.pb_syntax.specs.declared.tree.expression.Relation.TheVariants as relation
+use Rattle.pb_syntax.specs.declared.tree.expression.Level.{Level}
+use Rattle.pb_syntax.specs.declared.tree.form.TermText.{TermText}
+use Rattle.pb_syntax.specs.declared.tree.view.ViewText.{ViewText}
+use Rattle.pb_syntax.specs.declared.tree.view.UseText.{UseText}
+use Rattle.pb_syntax.specs.declared.tree.view.CondText.{CondText}
+use Rattle.pb_syntax.specs.declared.tree.view.MarkText.{MarkText}
+use Rattle.pb_syntax.specs.Bytes.{begins_name, is_in_name}
+use Rattle.pb_syntax.specs.Signs.{signs}
+use Rattle.pb_syntax.specs.Kinds.{sign_kind, Is, name_in, name_in_what, number_in, number_in_what, kind_of_what}
+use Rattle.pb_syntax.specs.Tokens as piece
+use Rattle.pb_syntax.specs.Tokens.{Piece, Pieces}
+use Rattle.pb_syntax.specs.Grammar as g
+use Rattle.pb_syntax.specs.Grammar.{Commas, no_comma, a_comma, IsTerm, IsTerms, IsForm, IsDims, IsDecl, IsDecls, IsView, IsUse, IsCond, IsMark, IsLine, IsOperands, IsOperand, IsComp, IsUnary, IsPrim, IsArguments, IsCoordinates, IsStmt, IsBlock, IsStmts, IsRule, IsRules, IsTransform, IsTransforms, IsProgram}
+use Rattle.pb_syntax.specs.Forms.{FormValue, DeclValue}
+use Rattle.pb_syntax.specs.Exprs.{ExprTree, exprs, operands, chained}
+use Rattle.pb_syntax.specs.Stmts.{StmtTree, stmts}
+use Rattle.pb_syntax.specs.Trees.{RuleTree, TransformTree}
+use Rattle.pb_prog.specs.Spelling.{Written, word, numeral, sign_at, relation_sign, operator_sign, term_sign, after_commas, with_commas, in_order, name_tokens, minimum_tokens, minimums_tokens, factor_tokens, quotient_tokens, term_tokens, next_term_tokens, sum_tokens, form_tokens, decl_tokens, through_tokens, view_tokens, use_tokens, cond_tokens, conds_tokens, mark_tokens, expr_tokens, operands_tokens, arguments_tokens, more_arguments_tokens, stmt_tokens, stmts_tokens, rule_tokens, transform_tokens, text_tokens}
 use Rattle.pb_front.proofs.Written.{written_as, IsWordText, CanBe, Plain, none, plain, member}
 use Rattle.pb_front.proofs.LayoutLemmas.{each}
 
@@ -51,7 +51,7 @@ all_good (t ∷ a) b g h = (g.0, all_good a b g.1 h)
 listed : (p b : ℕ) (s : List ℕ) → get_or signs p [] ≡ b ∷ s → p < 25
 listed p b s e = elim (cases_lt p 25) [ inl less ↦ less | inr past ↦ let none_there = get_or_past signs p [] past in absurd (cc) ]
 
-good : {at : ℕ} {bytes behind : List ℕ} {ts : List Token} → Piece at bytes behind ts → AllGood ts
+good : {at : ℕ} {bytes after : List ℕ} {ts : List Token} → Piece at bytes after ts → AllGood ts
 good (piece.blank e) = tt
 good (piece.line_comment h e) = tt
 good (piece.block_comment inside h) = tt
@@ -61,12 +61,12 @@ good (piece.two_byte_sign {a = a} {b = b} {place = p} e) = (listed p _ _ (long_l
 good (piece.one_byte_sign {a = a} {place = p} e ends) = (listed p _ _ (short_listed a p e), tt)
 
 -- the tokens of a text
-pub goods : {at : ℕ} {text behind : List ℕ} {ts : List Token} → Pieces at text behind ts → AllGood ts
+pub goods : {at : ℕ} {text after : List ℕ} {ts : List Token} → Pieces at text after ts → AllGood ts
 goods piece.none = tt
 goods (piece.one_more {here = here} {later = later} p ps) = all_good here later (good p) (goods ps)
 
 -- names and numbers among them
-abbrev is_name : Kind → Bool
+abbrev is_name : TokenKind → Bool
 is_name k.Name = true
 is_name _ = false
 
@@ -135,7 +135,7 @@ both f g = record { kept = λ h. let r = f.kept h in let s = g.kept r.1 in (appe
 
 -- the lines of the grammar, in its order
 commas : {A : Type 0} {Item : A → List Token → List Token → Type 0} {tokens : A → List Written} {xs : List A} {all rest : List Token}
-    → ((x : A) (all rest : List Token) → Item x all rest → Keeps (tokens x) all rest) → Commas Item xs all rest → Keeps (behind_commas tokens xs) all rest
+    → ((x : A) (all rest : List Token) → Item x all rest → Keeps (tokens x) all rest) → Commas Item xs all rest → Keeps (after_commas tokens xs) all rest
 commas item no_comma = done
 commas item (a_comma is x xs) = fixed refl (both (item _ _ _ x) (commas item xs))
 
@@ -176,7 +176,7 @@ unfolding form_tokens sum_tokens
 form (g.plain_form t ts) = both (term t) (terms ts)
 form (g.minus_form is t ts) = fixed refl (both (term t) (terms ts))
 
--- the bracket behind them isn't among their tokens
+-- the bracket after them isn't among their tokens
 dims : {ds : List FormValue} {all rest : List Token} → IsDims ds all rest → Keeps (with_commas form_tokens ds) all rest
 dims (g.one_dim x c) = both (form x) (skip done)
 dims (g.two_dims x m y c) = both (form x) (fixed refl (both (form y) (skip done)))
@@ -234,7 +234,7 @@ mark (g.primary t) = fixed refl done
 mark (g.secondary t) = fixed refl done
 mark (g.priority t o n c) = fixed refl (fixed refl (counted (fixed refl done)))
 
-line_of : (l : Level) (x : Expr) (xs : List (Operator × Expr)) {all mid rest : List Token} → Keeps (expr_tokens x) all mid
+line_of : (l : Level) (x : ExprTree) (xs : List (Operator × ExprTree)) {all mid rest : List Token} → Keeps (expr_tokens x) all mid
     → Keeps (operands_tokens (operands xs)) mid rest → Keeps (expr_tokens (chained l x xs)) all rest
 unfolding expr_tokens operands_tokens
 line_of l x [] {all = all} {rest = rest} f g = subst (λ ws. Keeps ws all rest) (append-nil (expr_tokens x)) (both f g)
@@ -243,29 +243,29 @@ line_of l x (o ∷ xs) f g = both f g
 mutual
   unfolding expr_tokens operands_tokens arguments_tokens more_arguments_tokens
 
-  line : {l : Level} {x : Expr} {all rest : List Token} → IsLine l x all rest → Keeps (expr_tokens x) all rest
+  line : {l : Level} {x : ExprTree} {all rest : List Token} → IsLine l x all rest → Keeps (expr_tokens x) all rest
   line (g.a_line {l = l} {xs = xs} x os) = line_of l _ xs (operand x) (more_operands os)
 
-  more_operands : {l : Level} {xs : List (Operator × Expr)} {all rest : List Token} → IsOperands l xs all rest → Keeps (operands_tokens (operands xs)) all rest
+  more_operands : {l : Level} {xs : List (Operator × ExprTree)} {all rest : List Token} → IsOperands l xs all rest → Keeps (operands_tokens (operands xs)) all rest
   more_operands g.no_operand = done
   more_operands (g.an_operand {o = o} is x xs) = fixed (operator_fixed o) (both (operand x) (more_operands xs))
 
-  operand : {l : Level} {x : Expr} {all rest : List Token} → IsOperand l x all rest → Keeps (expr_tokens x) all rest
+  operand : {l : Level} {x : ExprTree} {all rest : List Token} → IsOperand l x all rest → Keeps (expr_tokens x) all rest
   operand (g.a_conj x) = line x
   operand (g.a_comp x) = comp x
   operand (g.a_prod x) = line x
   operand (g.a_unary x) = unary x
 
-  comp : {x : Expr} {all rest : List Token} → IsComp x all rest → Keeps (expr_tokens x) all rest
+  comp : {x : ExprTree} {all rest : List Token} → IsComp x all rest → Keeps (expr_tokens x) all rest
   comp (g.a_sum x) = line x
   comp (g.two_sums {r = r} x is y) = both (line x) (fixed (relation_fixed r) (line y))
 
-  unary : {x : Expr} {all rest : List Token} → IsUnary x all rest → Keeps (expr_tokens x) all rest
+  unary : {x : ExprTree} {all rest : List Token} → IsUnary x all rest → Keeps (expr_tokens x) all rest
   unary (g.unsigned x) = prim x
   unary (g.minus_prim is x) = fixed refl (prim x)
   unary (g.not_prim is x) = fixed refl (prim x)
 
-  prim : {x : Expr} {all rest : List Token} → IsPrim x all rest → Keeps (expr_tokens x) all rest
+  prim : {x : ExprTree} {all rest : List Token} → IsPrim x all rest → Keeps (expr_tokens x) all rest
   prim (g.a_number is) = counted done
   prim (g.the_name is) = named is done
   prim (g.call_of_none n o c) = named n (fixed refl (fixed refl done))
@@ -275,23 +275,23 @@ mutual
   prim (g.width_of n d w o c) = named n (dotted refl (fixed refl (fixed refl done)))
   prim (g.height_of n d w o c) = named n (dotted refl (fixed refl (fixed refl done)))
 
-  -- the bracket behind them isn't among their tokens
-  arguments : {xs : List Expr} {all rest : List Token} → IsArguments xs all rest → Keeps (arguments_tokens (exprs xs)) all rest
+  -- the bracket after them isn't among their tokens
+  arguments : {xs : List ExprTree} {all rest : List Token} → IsArguments xs all rest → Keeps (arguments_tokens (exprs xs)) all rest
   arguments (g.last_argument x c) = both (line x) (skip done)
   arguments (g.an_argument x m xs) = both (line x) (skip (more_arguments xs))
 
-  more_arguments : {xs : List Expr} {all rest : List Token} → IsArguments xs all rest → Keeps (more_arguments_tokens (exprs xs)) all rest
+  more_arguments : {xs : List ExprTree} {all rest : List Token} → IsArguments xs all rest → Keeps (more_arguments_tokens (exprs xs)) all rest
   more_arguments (g.last_argument x c) = free refl (both (line x) (skip done))
   more_arguments (g.an_argument x m xs) = free refl (both (line x) (skip (more_arguments xs)))
 
-  coordinates : {xs : List Expr} {all rest : List Token} → IsCoordinates xs all rest → Keeps (arguments_tokens (exprs xs)) all rest
+  coordinates : {xs : List ExprTree} {all rest : List Token} → IsCoordinates xs all rest → Keeps (arguments_tokens (exprs xs)) all rest
   coordinates (g.one_coordinate x c) = both (line x) (skip done)
   coordinates (g.two_coordinates x m y c) = both (line x) (fixed refl (both (line y) (skip done)))
 
 mutual
   unfolding stmt_tokens stmts_tokens
 
-  stmt : {s : Stmt} {all rest : List Token} → IsStmt s all rest → Keeps (stmt_tokens s) all rest
+  stmt : {s : StmtTree} {all rest : List Token} → IsStmt s all rest → Keeps (stmt_tokens s) all rest
   stmt (g.let_a_number t n e x s) = fixed refl (named n (fixed refl (both (line x) (fixed refl done))))
   stmt (g.let_a_matrix t n b ds s) = fixed refl (named n (fixed refl (both (dims ds) (free refl (fixed refl done)))))
   stmt (g.an_assignment n e x s) = named n (fixed refl (both (line x) (fixed refl done)))
@@ -305,34 +305,34 @@ mutual
   stmt (g.a_for t o n e a d b c (g.a_block p ss)) =
       fixed refl (fixed refl (named n (fixed refl (both (line a) (fixed refl (both (line b) (fixed refl (fixed refl (both (body ss) (free refl done))))))))))
 
-  -- the brace behind them isn't among their tokens
-  body : {ss : List Stmt} {all rest : List Token} → IsStmts ss all rest → Keeps (stmts_tokens (stmts ss)) all rest
+  -- the brace after them isn't among their tokens
+  body : {ss : List StmtTree} {all rest : List Token} → IsStmts ss all rest → Keeps (stmts_tokens (stmts ss)) all rest
   body (g.no_stmt c) = skip done
   body (g.one_stmt s ss) = both (stmt s) (body ss)
 
-rule_body : {ss : List Stmt} {all rest : List Token} → IsStmts ss all rest → Keeps (in_order stmt_tokens ss) all rest
+rule_body : {ss : List StmtTree} {all rest : List Token} → IsStmts ss all rest → Keeps (in_order stmt_tokens ss) all rest
 rule_body (g.no_stmt c) = skip done
 rule_body (g.one_stmt s ss) = both (stmt s) (rule_body ss)
 
-rule : {r : Rule} {all rest : List Token} → IsRule r all rest → Keeps (rule_tokens r) all rest
+rule : {r : RuleTree} {all rest : List Token} → IsRule r all rest → Keeps (rule_tokens r) all rest
 unfolding rule_tokens
 rule (g.a_rule m t o u us c f p rs q cs (g.a_block b ss)) =
     both (mark m) (fixed refl (fixed refl (both (both (a_use u) (commas (λ x all rest. a_use) us)) (fixed refl (fixed refl (fixed refl
     (both (reads rs) (fixed refl (both (conds cs) (fixed refl (both (rule_body ss) (free refl done))))))))))))
 
-rules : {rs : List Rule} {all rest : List Token} → IsRules rs all rest → Keeps (in_order rule_tokens rs) all rest
+rules : {rs : List RuleTree} {all rest : List Token} → IsRules rs all rest → Keeps (in_order rule_tokens rs) all rest
 rules g.no_rules = done
 rules (g.one_rule r rs) = both (rule r) (rules rs)
 
-transform : {x : Transform} {all rest : List Token} → IsTransform x all rest → Keeps (transform_tokens x) all rest
+transform : {x : TransformTree} {all rest : List Token} → IsTransform x all rest → Keeps (transform_tokens x) all rest
 unfolding transform_tokens
 transform (g.a_transform t n ms f from kept o to b r rs c) =
     fixed refl (named n (both (minimums ms) (fixed refl (both (decls from) (both (through kept) (fixed refl (both (decls to) (fixed refl
     (both (both (rule r) (rules rs)) (fixed refl done))))))))))
 
-transforms : {xs : List Transform} {all rest : List Token} → IsTransforms xs all rest → Keeps (in_order transform_tokens xs) all rest
+transforms : {xs : List TransformTree} {all rest : List Token} → IsTransforms xs all rest → Keeps (in_order transform_tokens xs) all rest
 transforms g.no_transforms = done
 transforms (g.one_transform x xs) = both (transform x) (transforms xs)
 
-pub plain_program : (tree : List Transform) (tokens : List Token) → Program tree tokens → AllGood tokens → Plain (text_tokens tree)
+pub plain_program : (tree : List TransformTree) (tokens : List Token) → IsProgram tree tokens → AllGood tokens → Plain (text_tokens tree)
 plain_program tree tokens (g.a_program x xs) good = ((both (transform x) (transforms xs)).kept good).0

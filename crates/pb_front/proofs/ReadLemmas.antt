@@ -2,17 +2,17 @@
 use Rattle.std.proofs.Common.{◌≡◌, ℕ, ◌≤◌, ◌<◌, ◌⊎◌, inl, inr, List, length, Result, Ok, Err, refl, ap, ap₂, subst, arith}
 use Rattle.std.specs.Result.{IfOk, IfErr}
 use Rattle.std.proofs.lemmas.Bool.{cases_lt}
-use Rattle.pb_prog.specs.declared.token.Token.{Token}
-use Rattle.pb_prog.specs.declared.refusal.Item.{Item}
-use Rattle.pb_prog.specs.declared.refusal.Refusal.{Refusal}
-use Rattle.pb_prog.specs.declared.refusal.Refusal.TheVariants.{TooLong, BadToken, BadSyntax, OverLimit, Memory}
-use Rattle.pb_prog.specs.Tokens.{Spells, BadTokenAt}
-use Rattle.pb_prog.specs.Transforms.{TextValue}
-use Rattle.pb_prog.specs.Trees.{Transform, bare_text}
-use Rattle.pb_prog.specs.Faults.{Accepted, RefusedTokens, BadSyntaxAt, OverLimitAt}
+use Rattle.pb_syntax.specs.declared.token.Token.{Token}
+use Rattle.pb_syntax.specs.declared.refusal.Item.{Item}
+use Rattle.pb_syntax.specs.declared.refusal.Refusal.{Refusal}
+use Rattle.pb_syntax.specs.declared.refusal.Refusal.TheVariants.{TooLong, BadToken, BadSyntax, OverLimit, Memory}
+use Rattle.pb_syntax.specs.Tokens.{Spells, BadTokenAt}
+use Rattle.pb_syntax.specs.Transforms.{TextValue}
+use Rattle.pb_syntax.specs.Trees.{TransformTree, bare_text}
+use Rattle.pb_syntax.specs.Faults.{Accepted, RefusedTokens, BadSyntaxAt, OverLimitAt}
 use Rattle.pb_lexer.specs.Refusing.{most_bytes, Refused}
 use Rattle.pb_lexer.proofs.EndLemmas.{tokens_or_fault, one_list, no_fault, one_fault}
-use Rattle.pb_parser.proofs.Exact.{some_answer, one_tree as one_tree_of, one_place, one_item, not_both as apart, no_bad_program, no_large_program}
+use Rattle.pb_grammar.proofs.Exact.{some_answer, one_tree as one_tree_of, one_place, one_item, not_both as apart, no_bad_program, no_large_program}
 use Rattle.pb_front.specs.Reading.{IsRead, HasFault, IsRefused}
 
 -- a text without tokens is refused
@@ -41,7 +41,7 @@ parsed_refusal text tokens (Ok t) short spelled refused = tt
 parsed_refusal text tokens (Err e) short spelled refused = refused_so text tokens e short spelled refused
 
 -- a text has one reading
-pub one_tree : (text : List ℕ) (first second : List Transform) → IsRead text first → IsRead text second → first ≡ second
+pub one_tree : (text : List ℕ) (first second : List TransformTree) → IsRead text first → IsRead text second → first ≡ second
 one_tree text first second a b =
     one_tree_of b.tokens first second (subst (λ l. Accepted first l) (one_list text a.tokens b.tokens a.spelled b.spelled) a.accepted).0 b.accepted.0
 
@@ -52,7 +52,7 @@ moved {F} text tokens spelled a = subst F (one_list text a.tokens tokens a.spell
 no_tokens : {F : List Token → Type 0} (text : List ℕ) (at : ℕ) → (length text ≤ most_bytes) × BadTokenAt text at → HasFault text F → ⊥
 no_tokens text at bad a = no_fault text a.tokens at a.spelled bad.1
 
-pub not_both : (text : List ℕ) (tree : List Transform) (why : Refusal) → IsRead text tree → IsRefused text why → ⊥
+pub not_both : (text : List ℕ) (tree : List TransformTree) (why : Refusal) → IsRead text tree → IsRefused text why → ⊥
 not_both text tree TooLong a long = absurd (omega (arith, a.short, long))
 not_both text tree (BadToken at) a bad = no_fault text a.tokens at a.spelled bad.1
 not_both text tree (BadSyntax at) a bad = no_bad_program a.tokens (length text) at tree (moved text a.tokens a.spelled bad) a.accepted
@@ -94,7 +94,7 @@ one_refusal text (BadSyntax at) second a b = one_end text at second a b
 one_refusal text (OverLimit what at) second a b = one_excess text what at second a b
 one_refusal text other second no_cause b = absurd no_cause
 
-pub some_reading : (text : List ℕ) → ((tree : List Transform) × IsRead text tree) ⊎ ((why : Refusal) × IsRefused text why)
+pub some_reading : (text : List ℕ) → ((tree : List TransformTree) × IsRead text tree) ⊎ ((why : Refusal) × IsRefused text why)
 some_reading text = elim (cases_lt most_bytes (length text)) [
   | inl long ↦ inr (TooLong, long)
   | inr short ↦ elim (tokens_or_fault text) [

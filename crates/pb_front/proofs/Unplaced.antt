@@ -1,19 +1,19 @@
 -- What doesn't depend on the places of a tree.
 use Rattle.std.proofs.Common.{◌≡◌, ℕ, Bool, true, false, ◌&&◌, ◌==◌, List, [], ◌∷◌, length, map, Option, Some, None, codes, if◌then◌else◌, refl, sym, ap, ◌∙◌}
 use Rattle.pb_values.specs.Name.{NameValue}
-use Rattle.pb_prog.specs.declared.tree.form.TermText.{TermText}
-use Rattle.pb_prog.specs.declared.tree.view.ViewText.{ViewText}
-use Rattle.pb_prog.specs.declared.tree.view.ViewText.TheVariants as view
-use Rattle.pb_prog.specs.declared.tree.view.UseText.{UseText}
-use Rattle.pb_prog.specs.declared.tree.view.CondText.{CondText}
-use Rattle.pb_prog.specs.Forms.{FormValue, DeclValue}
-use Rattle.pb_prog.specs.Exprs.{Expr, Exprs, Operands, number, name, call, parentheses, cell, width, height, signed, chain, compare, no_exprs, an_expr, no_operands, an_operand, exprs}
-use Rattle.pb_prog.specs.Stmts.{Stmt, Stmts, let_number, let_matrix, assign, call_stmt, assign_cell, if_stmt, if_else, for_stmt, no_stmts, a_stmt}
-use Rattle.pb_prog.specs.Trees.{Rule, Transform}
-use Rattle.pb_prog.specs.Limits.{alone, alone_in, put_size, sizes_in, sizes_of, counted, after_form, Sizes}
-use Rattle.pb_prog.specs.TooMany.{statements_in, statements_among, among}
-use Rattle.pb_prog.specs.Spelling.{Written, in_order, behind_commas, with_commas, behind_keyword, name_tokens, minimum_tokens, term_tokens, term_tokens_at, next_term_tokens, sum_tokens, form_tokens, form_tokens_at, decl_tokens, view_tokens, use_tokens, cond_tokens, expr_tokens, operands_tokens, arguments_tokens, more_arguments_tokens, stmt_tokens, stmts_tokens, rule_tokens, transform_tokens, text_tokens}
-use Rattle.pb_prog.specs.Places.{unplaced_name, unplaced_option, unplaced_minimum, unplaced_term, unplaced_form, unplaced_decl, unplaced_view, unplaced_use, unplaced_cond, unplaced_expr, unplaced_exprs, unplaced_operands, unplaced_stmt, unplaced_stmts, unplaced_rule, unplaced_transform, unplaced}
+use Rattle.pb_syntax.specs.declared.tree.form.TermText.{TermText}
+use Rattle.pb_syntax.specs.declared.tree.view.ViewText.{ViewText}
+use Rattle.pb_syntax.specs.declared.tree.view.ViewText.TheVariants as view
+use Rattle.pb_syntax.specs.declared.tree.view.UseText.{UseText}
+use Rattle.pb_syntax.specs.declared.tree.view.CondText.{CondText}
+use Rattle.pb_syntax.specs.Forms.{FormValue, DeclValue}
+use Rattle.pb_syntax.specs.Exprs.{ExprTree, ExprTrees, Operands, number, name, call, parentheses, cell, width, height, signed, chain, compare, no_exprs, an_expr, no_operands, an_operand, exprs}
+use Rattle.pb_syntax.specs.Stmts.{StmtTree, StmtTrees, let_number, let_matrix, assign, call_stmt, assign_cell, if_stmt, if_else, for_stmt, no_stmts, a_stmt}
+use Rattle.pb_syntax.specs.Trees.{RuleTree, TransformTree}
+use Rattle.pb_syntax.specs.Limits.{alone, alone_in, put_size, sizes_in, sizes_of, counted, after_form, SizeNames}
+use Rattle.pb_syntax.specs.TooMany.{statements_in, statements_among, among}
+use Rattle.pb_prog.specs.Spelling.{Written, in_order, after_commas, with_commas, after_keyword, name_tokens, minimum_tokens, term_tokens, term_tokens_at, next_term_tokens, sum_tokens, form_tokens, form_tokens_at, decl_tokens, view_tokens, use_tokens, cond_tokens, expr_tokens, operands_tokens, arguments_tokens, more_arguments_tokens, stmt_tokens, stmts_tokens, rule_tokens, transform_tokens, text_tokens}
+use Rattle.pb_syntax.specs.Places.{unplaced_name, unplaced_option, unplaced_minimum, unplaced_term, unplaced_form, unplaced_decl, unplaced_view, unplaced_use, unplaced_cond, unplaced_expr, unplaced_exprs, unplaced_operands, unplaced_stmt, unplaced_stmts, unplaced_rule, unplaced_transform, unplaced}
 
 -- what is kept is the same of trees that differ in places alone
 pub through : {A B : Type 0} (f : A → B) (g : A → A) → ((x : A) → f (g x) ≡ f x) → (y x : A) → g y ≡ g x → f y ≡ f x
@@ -24,7 +24,7 @@ module _ {A : Type 0} (f : A → List Written) (g : A → A) (h : (x : A) → f 
   order_kept [] = refl
   order_kept (x ∷ xs) = rw (h x, order_kept xs) refl
 
-  commas_kept : (xs : List A) → behind_commas f (map g xs) ≡ behind_commas f xs
+  commas_kept : (xs : List A) → after_commas f (map g xs) ≡ after_commas f xs
   commas_kept [] = refl
   commas_kept (x ∷ xs) = rw (h x, commas_kept xs) refl
 
@@ -32,7 +32,7 @@ module _ {A : Type 0} (f : A → List Written) (g : A → A) (h : (x : A) → f 
   with_kept [] = refl
   with_kept (x ∷ xs) = rw (h x, commas_kept xs) refl
 
-  keyword_kept : (w : List ℕ) (xs : List A) → behind_keyword w f (map g xs) ≡ behind_keyword w f xs
+  keyword_kept : (w : List ℕ) (xs : List A) → after_keyword w f (map g xs) ≡ after_keyword w f xs
   keyword_kept w [] = refl
   keyword_kept w (x ∷ xs) = rw (h x, commas_kept xs) refl
 
@@ -93,7 +93,7 @@ cond_kept c = rw (form_kept c.left, form_kept c.right) refl
 mutual
   unfolding expr_tokens
 
-  expr_kept : (x : Expr) → expr_tokens (unplaced_expr x) ≡ expr_tokens x
+  expr_kept : (x : ExprTree) → expr_tokens (unplaced_expr x) ≡ expr_tokens x
   expr_kept (number at n) = refl
   expr_kept (name n) = refl
   expr_kept (call n xs) = rw (arguments_kept xs) refl
@@ -109,25 +109,25 @@ mutual
   operands_kept no_operands = refl
   operands_kept (an_operand o x xs) = rw (expr_kept x, operands_kept xs) refl
 
-  arguments_kept : (xs : Exprs) → arguments_tokens (unplaced_exprs xs) ≡ arguments_tokens xs
+  arguments_kept : (xs : ExprTrees) → arguments_tokens (unplaced_exprs xs) ≡ arguments_tokens xs
   arguments_kept no_exprs = refl
   arguments_kept (an_expr x xs) = rw (expr_kept x, more_kept xs) refl
 
-  more_kept : (xs : Exprs) → more_arguments_tokens (unplaced_exprs xs) ≡ more_arguments_tokens xs
+  more_kept : (xs : ExprTrees) → more_arguments_tokens (unplaced_exprs xs) ≡ more_arguments_tokens xs
   more_kept no_exprs = refl
   more_kept (an_expr x xs) = rw (expr_kept x, more_kept xs) refl
 
-pub exprs_unplaced : (xs : List Expr) → exprs (map unplaced_expr xs) ≡ unplaced_exprs (exprs xs)
+pub exprs_unplaced : (xs : List ExprTree) → exprs (map unplaced_expr xs) ≡ unplaced_exprs (exprs xs)
 exprs_unplaced [] = refl
 exprs_unplaced (x ∷ xs) = rw (exprs_unplaced xs) refl
 
-list_kept : (xs : List Expr) → arguments_tokens (exprs (map unplaced_expr xs)) ≡ arguments_tokens (exprs xs)
+list_kept : (xs : List ExprTree) → arguments_tokens (exprs (map unplaced_expr xs)) ≡ arguments_tokens (exprs xs)
 list_kept xs = ap arguments_tokens (exprs_unplaced xs) ∙ arguments_kept (exprs xs)
 
 mutual
   unfolding stmt_tokens
 
-  stmt_kept : (s : Stmt) → stmt_tokens (unplaced_stmt s) ≡ stmt_tokens s
+  stmt_kept : (s : StmtTree) → stmt_tokens (unplaced_stmt s) ≡ stmt_tokens s
   stmt_kept (let_number at n x) = rw (expr_kept x) refl
   stmt_kept (let_matrix at n ds) = rw (dims_kept ds) refl
   stmt_kept (assign n x) = rw (expr_kept x) refl
@@ -137,11 +137,11 @@ mutual
   stmt_kept (if_else at x ss others) = rw (expr_kept x, stmts_kept ss, stmts_kept others) refl
   stmt_kept (for_stmt at n a b ss) = rw (expr_kept a, expr_kept b, stmts_kept ss) refl
 
-  stmts_kept : (ss : Stmts) → stmts_tokens (unplaced_stmts ss) ≡ stmts_tokens ss
+  stmts_kept : (ss : StmtTrees) → stmts_tokens (unplaced_stmts ss) ≡ stmts_tokens ss
   stmts_kept no_stmts = refl
   stmts_kept (a_stmt s ss) = rw (stmt_kept s, stmts_kept ss) refl
 
-rule_kept : (r : Rule) → rule_tokens (unplaced_rule r) ≡ rule_tokens r
+rule_kept : (r : RuleTree) → rule_tokens (unplaced_rule r) ≡ rule_tokens r
 unfolding rule_tokens
 rule_kept r = rw (
   with_kept use_tokens unplaced_use use_kept r.outs,
@@ -150,7 +150,7 @@ rule_kept r = rw (
   order_kept stmt_tokens unplaced_stmt stmt_kept r.body,
 ) refl
 
-transform_kept : (t : Transform) → transform_tokens (unplaced_transform t) ≡ transform_tokens t
+transform_kept : (t : TransformTree) → transform_tokens (unplaced_transform t) ≡ transform_tokens t
 unfolding transform_tokens
 transform_kept t = rw (
   keyword_kept minimum_tokens unplaced_minimum minimum_kept (codes "where") t.minimums,
@@ -161,12 +161,12 @@ transform_kept t = rw (
 ) refl
 
 -- trees that differ in places alone have the same tokens
-pub same_tokens : (y x : List Transform) → unplaced y ≡ unplaced x → text_tokens y ≡ text_tokens x
+pub same_tokens : (y x : List TransformTree) → unplaced y ≡ unplaced x → text_tokens y ≡ text_tokens x
 same_tokens y x e = through text_tokens unplaced (order_kept transform_tokens unplaced_transform transform_kept) y x e
 
 -- the same number of statements
 mutual
-  statements_kept : (s : Stmt) → statements_in (unplaced_stmt s) ≡ statements_in s
+  statements_kept : (s : StmtTree) → statements_in (unplaced_stmt s) ≡ statements_in s
   statements_kept (let_number at n x) = refl
   statements_kept (let_matrix at n ds) = refl
   statements_kept (assign n x) = refl
@@ -176,18 +176,18 @@ mutual
   statements_kept (if_else at x ss others) = rw (nested_kept ss, nested_kept others) refl
   statements_kept (for_stmt at n a b ss) = rw (nested_kept ss) refl
 
-  nested_kept : (ss : Stmts) → statements_among (unplaced_stmts ss) ≡ statements_among ss
+  nested_kept : (ss : StmtTrees) → statements_among (unplaced_stmts ss) ≡ statements_among ss
   nested_kept no_stmts = refl
   nested_kept (a_stmt s ss) = rw (statements_kept s, nested_kept ss) refl
 
-among_kept : (ss : List Stmt) → among (map unplaced_stmt ss) ≡ among ss
+among_kept : (ss : List StmtTree) → among (map unplaced_stmt ss) ≡ among ss
 among_kept [] = refl
 among_kept (s ∷ ss) = rw (statements_kept s, among_kept ss) refl
 
-pub same_statements : (y x : Stmt) → unplaced_stmt y ≡ unplaced_stmt x → statements_in y ≡ statements_in x
+pub same_statements : (y x : StmtTree) → unplaced_stmt y ≡ unplaced_stmt x → statements_in y ≡ statements_in x
 same_statements y x e = through statements_in unplaced_stmt statements_kept y x e
 
-pub same_among : (y x : List Stmt) → map unplaced_stmt y ≡ map unplaced_stmt x → among y ≡ among x
+pub same_among : (y x : List StmtTree) → map unplaced_stmt y ≡ map unplaced_stmt x → among y ≡ among x
 same_among y x e = through among (map unplaced_stmt) among_kept y x e
 
 -- the same sizes
@@ -219,11 +219,11 @@ sizes_of_kept : (known : List (List ℕ)) (ds : List DeclValue) → sizes_of kno
 sizes_of_kept known [] = refl
 sizes_of_kept known (d ∷ ds) = ap (λ l. sizes_of l (map unplaced_decl ds)) (sizes_in_kept known d.dims) ∙ sizes_of_kept (sizes_in known d.dims) ds
 
-after_kept : (known : Sizes) (f : FormValue) → after_form known (unplaced_form f) ≡ after_form known f
+after_kept : (known : SizeNames) (f : FormValue) → after_form known (unplaced_form f) ≡ after_form known f
 after_kept None f = refl
 after_kept (Some known) f = ap Some (form_put known f)
 
-pub same_after : (known : Sizes) (y x : FormValue) → unplaced_form y ≡ unplaced_form x → after_form known y ≡ after_form known x
+pub same_after : (known : SizeNames) (y x : FormValue) → unplaced_form y ≡ unplaced_form x → after_form known y ≡ after_form known x
 same_after known y x e = through (after_form known) unplaced_form (after_kept known) y x e
 
 pub same_counted : (from : Bool) (y x : List DeclValue) → map unplaced_decl y ≡ map unplaced_decl x → counted from y ≡ counted from x

@@ -1,10 +1,10 @@
 -- Tokens as they are written, their places aside, and lists of them that a text can have side by side.
 use Rattle.std.proofs.Common.{◌≡◌, ℕ, ◌≤◌, ◌<◌, Bool, false, ◌==◌, List, [], ◌∷◌, IsTrue}
 use Rattle.std.specs.List.{list_all}
-use Rattle.pb_prog.specs.declared.token.Token.{Token}
-use Rattle.pb_prog.specs.declared.token.TokenWhat.{TokenWhat}
-use Rattle.pb_prog.specs.declared.token.TokenWhat.TheVariants as what
-use Rattle.pb_prog.specs.Bytes.{begins_name, is_in_name}
+use Rattle.pb_syntax.specs.declared.token.Token.{Token}
+use Rattle.pb_syntax.specs.declared.token.TokenWhat.{TokenWhat}
+use Rattle.pb_syntax.specs.declared.token.TokenWhat.TheVariants as what
+use Rattle.pb_syntax.specs.Bytes.{begins_name, is_in_name}
 use Rattle.pb_prog.specs.Spelling.{Written, word, numeral, sign_at}
 
 abbrev pub written_as : TokenWhat → Written
@@ -34,7 +34,7 @@ is_dot (word w) = false
 is_dot (numeral n) = false
 is_dot (sign_at p) = p == 8
 
--- tokens that a text can have, where a word stands behind each dot
+-- tokens that a text can have, where a word stands after each dot
 pub data Plain : List Written → Type 0 where
   none : Plain []
   plain : {w : Written} {ws : List Written} → CanBe w → is_dot w ≡ false → Plain ws → Plain (w ∷ ws)

@@ -1,15 +1,15 @@
 -- How a program text is read, and when it is refused.
 use Rattle.std.specs.Prelude.{ℕ, ◌≤◌, ◌<◌, List, length}
-use Rattle.pb_prog.specs.declared.token.Token.{Token}
-use Rattle.pb_prog.specs.declared.refusal.Refusal.{Refusal}
-use Rattle.pb_prog.specs.declared.refusal.Refusal.TheVariants.{TooLong, BadToken, BadSyntax, OverLimit}
-use Rattle.pb_prog.specs.Tokens.{Spells, BadTokenAt}
-use Rattle.pb_prog.specs.Trees.{Transform}
-use Rattle.pb_prog.specs.Faults.{Accepted, BadSyntaxAt, OverLimitAt}
+use Rattle.pb_syntax.specs.declared.token.Token.{Token}
+use Rattle.pb_syntax.specs.declared.refusal.Refusal.{Refusal}
+use Rattle.pb_syntax.specs.declared.refusal.Refusal.TheVariants.{TooLong, BadToken, BadSyntax, OverLimit}
+use Rattle.pb_syntax.specs.Tokens.{Spells, BadTokenAt}
+use Rattle.pb_syntax.specs.Trees.{TransformTree}
+use Rattle.pb_syntax.specs.Faults.{Accepted, BadSyntaxAt, OverLimitAt}
 use Rattle.pb_lexer.specs.Refusing.{most_bytes}
 
 -- the text isn't too long, and its tokens spell this tree, in which nothing is too many
-pub record IsRead (text : List ℕ) (tree : List Transform) : Type 0 where
+pub record IsRead (text : List ℕ) (tree : List TransformTree) : Type 0 where
   pub short : length text ≤ most_bytes
   pub tokens : List Token
   pub spelled : Spells text tokens

@@ -1,23 +1,23 @@
 ghost use Rattle.std.specs.Prelude.{◌≡◌, ℕ, ◌≤◌, ◌⊎◌, List, length};
-ghost use Rattle.pb_prog.specs.declared.refusal.Refusal.{Refusal};
-ghost use Rattle.pb_prog.specs.Trees.{Transform};
+ghost use Rattle.pb_syntax.specs.declared.refusal.Refusal.{Refusal};
+ghost use Rattle.pb_syntax.specs.Trees.{TransformTree};
 ghost use Rattle.pb_prog.specs.Canonical.{canonical};
-ghost use Rattle.pb_prog.specs.Places.{unplaced};
+ghost use Rattle.pb_syntax.specs.Places.{unplaced};
 ghost use Rattle.pb_lexer.specs.Refusing.{most_bytes};
 ghost use Rattle.pb_front.specs.Reading.{IsRead, IsRefused};
 
 /// A law: a text is read as one tree or is refused with one refusal, and never both.
 pub fn a_text_has_one_reading()
-    ensures some { (text : List ℕ) → ((tree : List Transform) × IsRead text tree) ⊎ ((why : Refusal) × IsRefused text why) }
-    ensures one_tree { (text : List ℕ) (first second : List Transform) → IsRead text first → IsRead text second → first ≡ second }
+    ensures some { (text : List ℕ) → ((tree : List TransformTree) × IsRead text tree) ⊎ ((why : Refusal) × IsRefused text why) }
+    ensures one_tree { (text : List ℕ) (first second : List TransformTree) → IsRead text first → IsRead text second → first ≡ second }
     ensures one_refusal { (text : List ℕ) (first second : Refusal) → IsRefused text first → IsRefused text second → first ≡ second }
-    ensures not_both { (text : List ℕ) (tree : List Transform) (why : Refusal) → IsRead text tree → IsRefused text why → ⊥ }
+    ensures not_both { (text : List ℕ) (tree : List TransformTree) (why : Refusal) → IsRead text tree → IsRefused text why → ⊥ }
 {}
 
 /// A law: the canonical text of a tree that was read, where it isn't too long, is read as the same tree, places aside;
 /// so it is its own canonical text.
 pub fn a_canonical_text_is_read()
-    ensures read { (text : List ℕ) (tree : List Transform) → IsRead text tree → length (canonical tree) ≤ most_bytes
-        → (again : List Transform) × IsRead (canonical tree) again × (unplaced again ≡ unplaced tree) }
-    ensures its_own { (text : List ℕ) (tree again : List Transform) → IsRead text tree → IsRead (canonical tree) again → canonical again ≡ canonical tree }
+    ensures read { (text : List ℕ) (tree : List TransformTree) → IsRead text tree → length (canonical tree) ≤ most_bytes
+        → (again : List TransformTree) × IsRead (canonical tree) again × (unplaced again ≡ unplaced tree) }
+    ensures its_own { (text : List ℕ) (tree again : List TransformTree) → IsRead text tree → IsRead (canonical tree) again → canonical again ≡ canonical tree }
 {}

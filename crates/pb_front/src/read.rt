@@ -1,6 +1,6 @@
 ghost use Rattle.std.specs.Prelude.{◌≡◌, ◌⊎◌, IfOk, IfErr};
-ghost use Rattle.pb_prog.specs.declared.refusal.Refusal.TheVariants.{Memory};
-ghost use Rattle.pb_prog.specs.Trees.{bare_text};
+ghost use Rattle.pb_syntax.specs.declared.refusal.Refusal.TheVariants.{Memory};
+ghost use Rattle.pb_syntax.specs.Trees.{bare_text};
 ghost use Rattle.pb_front.specs.Reading.{IsRead, IsRefused};
 
 use pb_lexer::tokens;

@@ -7,14 +7,14 @@ use Rattle.std.proofs.Math.Numerals.{one-add}
 use Rattle.std.proofs.Math.Seq.{take-append_seam}
 use Rattle.std.proofs.lemmas.Option.{none-some, same_Some}
 use Rattle.std.proofs.lemmas.Bool.Decides.{nat_tests}
-use Rattle.pb_prog.proofs.TestLemmas.{is_byte, if_parts, and_parts}
-use Rattle.pb_prog.specs.declared.token.Token.{Token}
-use Rattle.pb_prog.specs.Bytes.{is_blank, begins_name, is_in_name, is_in_line, EndsBefore, begins_slash, has_close}
-use Rattle.pb_prog.specs.Signs.{long_sign, short_sign, begins_comment, goes_on}
-use Rattle.pb_prog.specs.Tokens.{Piece, blank, line_comment, block_comment, word, number, two_byte_sign, one_byte_sign}
+use Rattle.pb_syntax.proofs.TestLemmas.{is_byte, if_parts, and_parts}
+use Rattle.pb_syntax.specs.declared.token.Token.{Token}
+use Rattle.pb_syntax.specs.Bytes.{is_blank, begins_name, is_in_name, is_in_line, EndsBefore, begins_slash, has_close}
+use Rattle.pb_syntax.specs.Signs.{long_sign, short_sign, begins_comment, goes_on}
+use Rattle.pb_syntax.specs.Tokens.{Piece, blank, line_comment, block_comment, word, number, two_byte_sign, one_byte_sign}
 use Rattle.pb_lexer.specs.declared.piece.Front.{Front}
-use Rattle.pb_lexer.specs.declared.piece.Kind.{Kind}
-use Rattle.pb_lexer.specs.declared.piece.Kind.TheVariants.{Gap, Word, Number, Sign}
+use Rattle.pb_lexer.specs.declared.piece.PieceKind.{PieceKind}
+use Rattle.pb_lexer.specs.declared.piece.PieceKind.TheVariants.{Gap, Word, Number, Sign}
 use Rattle.pb_lexer.specs.Reading.{close_from, value_within, number_of, number_read, word_read, closed, comment_read, sign_of, two_read, sign_read, piece_read, tokens_of}
 
 or_parts : (a b : Bool) → (a || b) ≡ false → (a ≡ false) × (b ≡ false)
@@ -99,7 +99,7 @@ module _ (test : ℕ → Bool) where
       step true e f = record { front = b ∷ f.front; back = f.back; parts = ap (λ (l : List ℕ). b ∷ l) f.parts; pass = rw e f.pass; ends = f.ends }
       step false e f = record { front = []; back = b ∷ rest; parts = refl; pass = refl; ends = e }
 
--- the bytes before the first `*/`, and what stands behind it
+-- the bytes before the first `*/`, and what stands after it
 record IsClosed (text : List ℕ) (size : ℕ) : Type 0 where
   inside : List ℕ
   back : List ℕ
@@ -107,15 +107,15 @@ record IsClosed (text : List ℕ) (size : ℕ) : Type 0 where
   open_yet : has_close inside ≡ false
   count : size ≡ length inside
 
-slash_behind : (xs back : List ℕ) → begins_slash (xs ++ 42 ∷ 47 ∷ [] ++ back) ≡ begins_slash xs
-slash_behind [] back = refl
-slash_behind (x ∷ xs) back = refl
+slash_after : (xs back : List ℕ) → begins_slash (xs ++ 42 ∷ 47 ∷ [] ++ back) ≡ begins_slash xs
+slash_after [] back = refl
+slash_after (x ∷ xs) back = refl
 
 close_is : (n : ℕ) (xs back : List ℕ) → has_close xs ≡ false → close_from n (xs ++ 42 ∷ 47 ∷ [] ++ back) ≡ Some (n + length xs)
 close_is n [] back h = ap (λ (k : ℕ). Some k) (omega arith)
 close_is n (x ∷ xs) back h =
     let p = or_parts (x == 42 && begins_slash xs) (has_close xs) h in
-    let not_here : (x == 42 && begins_slash (xs ++ 42 ∷ 47 ∷ [] ++ back)) ≡ false = rw slash_behind p.0 in
+    let not_here : (x == 42 && begins_slash (xs ++ 42 ∷ 47 ∷ [] ++ back)) ≡ false = rw slash_after p.0 in
     rw not_here (close_is (n + 1) xs back p.1 ∙ ap (λ (k : ℕ). Some k) (omega arith))
 
 close_found : (n : ℕ) (text : List ℕ) (size : ℕ) → close_from n text ≡ Some size → (k : ℕ) × (size ≡ n + k) × IsClosed text k
@@ -133,14 +133,14 @@ close_found n (b ∷ rest) size e =
     later : (b == 42 && begins_slash rest) ≡ false → (k : ℕ) × (size ≡ n + 1 + k) × IsClosed rest k → (k : ℕ) × (size ≡ n + k) × IsClosed (b ∷ rest) k
     later h f =
         let g = f.2 in
-        let same : begins_slash g.inside ≡ begins_slash rest = sym (ap begins_slash g.parts ∙ slash_behind g.inside g.back) in
+        let same : begins_slash g.inside ≡ begins_slash rest = sym (ap begins_slash g.parts ∙ slash_after g.inside g.back) in
         let not_here : (b == 42 && begins_slash g.inside) ≡ false = rw same h in
         (suc f.0, omega (arith, f.1), record { inside = b ∷ g.inside; back = g.back; parts = ap (λ (l : List ℕ). b ∷ l) g.parts; open_yet = rw not_here g.open_yet; count = ap suc g.count })
 
-abbrev front : Kind → ℕ → Front
+abbrev front : PieceKind → ℕ → Front
 front k n = record { kind = k; size = n }
 
-sized : (k : Kind) (n m : ℕ) → n ≡ m → Some (front k n) ≡ Some (front k m)
+sized : (k : PieceKind) (n m : ℕ) → n ≡ m → Some (front k n) ≡ Some (front k m)
 sized k n m e = ap (λ (i : ℕ). Some (front k i)) e
 
 name_front : (b : ℕ) (rest : List ℕ) → begins_name b ≡ true → piece_read (b ∷ rest) ≡ word_read rest
@@ -159,45 +159,45 @@ value_is : (xs : List ℕ) → list_all is_ascii_digit xs ≡ true → digits_va
 value_is xs all most = let fits : nat_le (digits_value 10 xs) 9223372036854775807 ≡ true = grind (arith, nat_tests) in rw (all, fits) refl
 
 -- what stands first is found, with its token
-pub record IsTaken (at : ℕ) (spelled behind : List ℕ) (here : List Token) : Type 0 where
-  pub kind : Kind
-  pub read : piece_read (spelled ++ behind) ≡ Some (front kind (length spelled))
+pub record IsTaken (at : ℕ) (spelled after : List ℕ) (here : List Token) : Type 0 where
+  pub kind : PieceKind
+  pub read : piece_read (spelled ++ after) ≡ Some (front kind (length spelled))
   pub says : here ≡ tokens_of at spelled kind
 
-one_sign : (a : ℕ) (behind : List ℕ) → EndsBefore (goes_on a) behind → sign_read a behind ≡ sign_of 1 (short_sign a)
+one_sign : (a : ℕ) (after : List ℕ) → EndsBefore (goes_on a) after → sign_read a after ≡ sign_of 1 (short_sign a)
 one_sign a [] e = refl
-one_sign a (b ∷ behind) e = step (long_sign a b) (begins_comment a b) (or_parts (is_some (long_sign a b)) (begins_comment a b) e) refl refl
+one_sign a (b ∷ after) e = step (long_sign a b) (begins_comment a b) (or_parts (is_some (long_sign a b)) (begins_comment a b) e) refl refl
   where
     step : (o : Option ℕ) (c : Bool) → (is_some (long_sign a b) ≡ false) × (begins_comment a b ≡ false) → long_sign a b ≡ o → begins_comment a b ≡ c
-        → two_read a b behind (long_sign a b) ≡ sign_of 1 (short_sign a)
+        → two_read a b after (long_sign a b) ≡ sign_of 1 (short_sign a)
     step (Some p) c h o d = absurd (true≢false (sym (ap is_some o) ∙ h.0))
     step None true h o d = absurd (true≢false (sym d ∙ h.1))
-    step None false h o d = ap (two_read a b behind) o ∙ ap (λ (t : Bool). cond t (comment_read (b ∷ behind)) (sign_of 1 (short_sign a))) d
+    step None false h o d = ap (two_read a b after) o ∙ ap (λ (t : Bool). cond t (comment_read (b ∷ after)) (sign_of 1 (short_sign a))) d
 
-pub taken : {at : ℕ} {spelled behind : List ℕ} {here : List Token} → Piece at spelled behind here → IsTaken at spelled behind here
+pub taken : {at : ℕ} {spelled after : List ℕ} {here : List Token} → Piece at spelled after here → IsTaken at spelled after here
 taken (blank {b = b} e) = record { kind = Gap; read = rw e refl; says = refl }
-taken (line_comment {inside = inside} {behind = behind} h e) =
-    record { kind = Gap; read = sized Gap _ _ (omega (arith, run_is is_in_line inside behind h e)); says = refl }
-taken (block_comment {behind = behind} inside h) =
-    let same : close_from 0 (inside ++ 42 ∷ 47 ∷ [] ++ behind) ≡ Some (0 + length inside) = close_is 0 inside behind h in
+taken (line_comment {inside = inside} {after = after} h e) =
+    record { kind = Gap; read = sized Gap _ _ (omega (arith, run_is is_in_line inside after h e)); says = refl }
+taken (block_comment {after = after} inside h) =
+    let same : close_from 0 (inside ++ 42 ∷ 47 ∷ [] ++ after) ≡ Some (0 + length inside) = close_is 0 inside after h in
     record { kind = Gap; read = ap closed same ∙ sized Gap _ _ (omega (arith, length-append inside (42 ∷ 47 ∷ []))); says = refl }
-taken (word {b = b} {more = more} {behind = behind} n h e) =
-    record { kind = Word; read = name_front b (more ++ behind) n ∙ sized Word _ _ (omega (arith, run_is is_in_name more behind h e)); says = refl }
-taken (number {d = d} {more = more} {behind = behind} n h e m) =
+taken (word {b = b} {more = more} {after = after} n h e) =
+    record { kind = Word; read = name_front b (more ++ after) n ∙ sized Word _ _ (omega (arith, run_is is_in_name more after h e)); says = refl }
+taken (number {d = d} {more = more} {after = after} n h e m) =
     let all : list_all is_ascii_digit (d ∷ more) ≡ true = rw n h in
-    record { kind = Number (digits_value 10 (d ∷ more)); read = digit_front d (more ++ behind) n ∙ number_is (d ∷ more) behind all e ∙ ap (number_of (length (d ∷ more))) (value_is (d ∷ more) all m); says = refl }
-taken (two_byte_sign {a = a} {b = b} {place = place} {behind = behind} e) =
-    record { kind = Sign place; read = plain_front a (b ∷ behind) (long_plain a b place e) ∙ ap (two_read a b behind) e; says = refl }
-taken (one_byte_sign {a = a} {place = place} {behind = behind} e ends) =
-    record { kind = Sign place; read = plain_front a behind (short_plain a place e) ∙ one_sign a behind ends ∙ ap (sign_of 1) e; says = refl }
+    record { kind = Number (digits_value 10 (d ∷ more)); read = digit_front d (more ++ after) n ∙ number_is (d ∷ more) after all e ∙ ap (number_of (length (d ∷ more))) (value_is (d ∷ more) all m); says = refl }
+taken (two_byte_sign {a = a} {b = b} {place = place} {after = after} e) =
+    record { kind = Sign place; read = plain_front a (b ∷ after) (long_plain a b place e) ∙ ap (two_read a b after) e; says = refl }
+taken (one_byte_sign {a = a} {place = place} {after = after} e ends) =
+    record { kind = Sign place; read = plain_front a after (short_plain a place e) ∙ one_sign a after ends ∙ ap (sign_of 1) e; says = refl }
 
 -- what is found stands first, and is a piece
 pub record IsFound (at : ℕ) (text : List ℕ) (f : Front) : Type 0 where
   pub spelled : List ℕ
-  pub behind : List ℕ
-  pub parts : text ≡ spelled ++ behind
+  pub after : List ℕ
+  pub parts : text ≡ spelled ++ after
   pub size : f.size ≡ length spelled
-  pub piece : Piece at spelled behind (tokens_of at spelled f.kind)
+  pub piece : Piece at spelled after (tokens_of at spelled f.kind)
 
 says : (at : ℕ) (text : List ℕ) (f g : Front) → Some f ≡ Some g → IsFound at text f → IsFound at text g
 says at text f g e h = subst (IsFound at text) (same_Some f g e) h
@@ -218,19 +218,19 @@ number_found at b rest f d e =
     let read : number_of (length (b ∷ r.front)) (value_within (b ∷ r.front)) ≡ Some f =
     sym (number_is (b ∷ r.front) r.back all r.ends) ∙ ap (λ (l : List ℕ). number_read (b ∷ l)) (sym r.parts) ∙ e in
     let s = number_some (b ∷ r.front) f all read in
-    says at (b ∷ rest) _ f s.1 (record { spelled = b ∷ r.front; behind = r.back; parts = ap (λ (l : List ℕ). b ∷ l) r.parts; size = refl; piece = number d r.pass r.ends s.0 })
+    says at (b ∷ rest) _ f s.1 (record { spelled = b ∷ r.front; after = r.back; parts = ap (λ (l : List ℕ). b ∷ l) r.parts; size = refl; piece = number d r.pass r.ends s.0 })
 
 word_found : (at b : ℕ) (rest : List ℕ) (f : Front) → begins_name b ≡ true → word_read rest ≡ Some f → IsFound at (b ∷ rest) f
 word_found at b rest f n e =
     let r = run_found is_in_name rest in
     let size : prefix_len is_in_name rest ≡ length r.front = ap (prefix_len is_in_name) r.parts ∙ run_is is_in_name r.front r.back r.pass r.ends in
-    says at (b ∷ rest) _ f e (record { spelled = b ∷ r.front; behind = r.back; parts = ap (λ (l : List ℕ). b ∷ l) r.parts; size = omega (arith, size); piece = word n r.pass r.ends })
+    says at (b ∷ rest) _ f e (record { spelled = b ∷ r.front; after = r.back; parts = ap (λ (l : List ℕ). b ∷ l) r.parts; size = omega (arith, size); piece = word n r.pass r.ends })
 
 line_found : (at : ℕ) (inside : List ℕ) → IsFound at (47 ∷ 47 ∷ inside) (front Gap (2 + prefix_len is_in_line inside))
 line_found at inside =
     let r = run_found is_in_line inside in
     let size : prefix_len is_in_line inside ≡ length r.front = ap (prefix_len is_in_line) r.parts ∙ run_is is_in_line r.front r.back r.pass r.ends in
-    record { spelled = 47 ∷ 47 ∷ r.front; behind = r.back; parts = ap (λ (l : List ℕ). 47 ∷ 47 ∷ l) r.parts; size = omega (arith, size); piece = line_comment r.pass r.ends }
+    record { spelled = 47 ∷ 47 ∷ r.front; after = r.back; parts = ap (λ (l : List ℕ). 47 ∷ 47 ∷ l) r.parts; size = omega (arith, size); piece = line_comment r.pass r.ends }
 
 block_found : (at : ℕ) (inside : List ℕ) (o : Option ℕ) (f : Front) → close_from 0 inside ≡ o → closed o ≡ Some f → IsFound at (47 ∷ 42 ∷ inside) f
 block_found at inside None f c e = absurd (none-some f e)
@@ -239,13 +239,13 @@ block_found at inside (Some size) f c e =
     let g = k.2 in
     says at (47 ∷ 42 ∷ inside) _ f e (record {
       spelled = 47 ∷ 42 ∷ (g.inside ++ 42 ∷ 47 ∷ []);
-      behind = g.back;
+      after = g.back;
       parts = ap (λ (l : List ℕ). 47 ∷ 42 ∷ l) g.parts;
       size = omega (arith, k.1, g.count, length-append g.inside (42 ∷ 47 ∷ []));
       piece = block_comment g.inside g.open_yet;
     })
 
-comment_found : (at a : ℕ) (behind : List ℕ) (f : Front) → (a == 47) ≡ true → comment_read behind ≡ Some f → IsFound at (a ∷ behind) f
+comment_found : (at a : ℕ) (after : List ℕ) (f : Front) → (a == 47) ≡ true → comment_read after ≡ Some f → IsFound at (a ∷ after) f
 comment_found at a [] f s e = absurd (none-some f e)
 comment_found at a (b ∷ inside) f s e =
     elim (if_parts (b == 47) (Some (front Gap (2 + prefix_len is_in_line inside))) (cond (b == 42) (closed (close_from 0 inside)) None) (Some f) e) [
@@ -256,29 +256,29 @@ comment_found at a (b ∷ inside) f s e =
       ]
     ]
 
-short_found : (at a : ℕ) (behind : List ℕ) (o : Option ℕ) (f : Front) → EndsBefore (goes_on a) behind → short_sign a ≡ o → sign_of 1 o ≡ Some f → IsFound at (a ∷ behind) f
-short_found at a behind None f ends s e = absurd (none-some f e)
-short_found at a behind (Some place) f ends s e =
-    says at (a ∷ behind) _ f e (record { spelled = a ∷ []; behind = behind; parts = refl; size = refl; piece = one_byte_sign s ends })
+short_found : (at a : ℕ) (after : List ℕ) (o : Option ℕ) (f : Front) → EndsBefore (goes_on a) after → short_sign a ≡ o → sign_of 1 o ≡ Some f → IsFound at (a ∷ after) f
+short_found at a after None f ends s e = absurd (none-some f e)
+short_found at a after (Some place) f ends s e =
+    says at (a ∷ after) _ f e (record { spelled = a ∷ []; after = after; parts = refl; size = refl; piece = one_byte_sign s ends })
 
-two_found : (at a b : ℕ) (behind : List ℕ) (o : Option ℕ) (f : Front) → long_sign a b ≡ o → two_read a b behind o ≡ Some f → IsFound at (a ∷ b ∷ behind) f
-two_found at a b behind (Some place) f s e =
-    says at (a ∷ b ∷ behind) _ f e (record { spelled = a ∷ b ∷ []; behind = behind; parts = refl; size = refl; piece = two_byte_sign s })
-two_found at a b behind None f s e =
-    elim (if_parts (begins_comment a b) (comment_read (b ∷ behind)) (sign_of 1 (short_sign a)) (Some f) e) [
-      | inl p ↦ comment_found at a (b ∷ behind) f (and_parts (a == 47) (b == 47 || b == 42) p.0).0 p.1
-      | inr p ↦ short_found at a (b ∷ behind) (short_sign a) f (rw (s, p.0) refl) refl p.1
+two_found : (at a b : ℕ) (after : List ℕ) (o : Option ℕ) (f : Front) → long_sign a b ≡ o → two_read a b after o ≡ Some f → IsFound at (a ∷ b ∷ after) f
+two_found at a b after (Some place) f s e =
+    says at (a ∷ b ∷ after) _ f e (record { spelled = a ∷ b ∷ []; after = after; parts = refl; size = refl; piece = two_byte_sign s })
+two_found at a b after None f s e =
+    elim (if_parts (begins_comment a b) (comment_read (b ∷ after)) (sign_of 1 (short_sign a)) (Some f) e) [
+      | inl p ↦ comment_found at a (b ∷ after) f (and_parts (a == 47) (b == 47 || b == 42) p.0).0 p.1
+      | inr p ↦ short_found at a (b ∷ after) (short_sign a) f (rw (s, p.0) refl) refl p.1
     ]
 
-sign_found : (at a : ℕ) (behind : List ℕ) (f : Front) → sign_read a behind ≡ Some f → IsFound at (a ∷ behind) f
+sign_found : (at a : ℕ) (after : List ℕ) (f : Front) → sign_read a after ≡ Some f → IsFound at (a ∷ after) f
 sign_found at a [] f e = short_found at a [] (short_sign a) f tt refl e
-sign_found at a (b ∷ behind) f e = two_found at a b behind (long_sign a b) f refl e
+sign_found at a (b ∷ after) f e = two_found at a b after (long_sign a b) f refl e
 
 pub found : (at : ℕ) (text : List ℕ) (f : Front) → piece_read text ≡ Some f → IsFound at text f
 found at [] f e = absurd (none-some f e)
 found at (b ∷ rest) f e =
     elim (if_parts (is_blank b) (Some (front Gap 1)) (cond (begins_name b) (word_read rest) (cond (is_ascii_digit b) (number_read (b ∷ rest)) (sign_read b rest))) (Some f) e) [
-      | inl p ↦ says at (b ∷ rest) _ f p.1 (record { spelled = b ∷ []; behind = rest; parts = refl; size = refl; piece = blank p.0 })
+      | inl p ↦ says at (b ∷ rest) _ f p.1 (record { spelled = b ∷ []; after = rest; parts = refl; size = refl; piece = blank p.0 })
       | inr p ↦ elim (if_parts (begins_name b) (word_read rest) (cond (is_ascii_digit b) (number_read (b ∷ rest)) (sign_read b rest)) (Some f) p.1) [
         | inl q ↦ word_found at b rest f q.0 q.1
         | inr q ↦ elim (if_parts (is_ascii_digit b) (number_read (b ∷ rest)) (sign_read b rest) (Some f) q.1) [

@@ -1,8 +1,8 @@
 -- When a text has no tokens.
 use Rattle.std.specs.Prelude.{ℕ, ◌<◌, ◌≤◌, List, length}
-use Rattle.pb_prog.specs.declared.refusal.Refusal.{Refusal}
-use Rattle.pb_prog.specs.declared.refusal.Refusal.TheVariants.{TooLong, BadToken, Memory}
-use Rattle.pb_prog.specs.Tokens.{BadTokenAt}
+use Rattle.pb_syntax.specs.declared.refusal.Refusal.{Refusal}
+use Rattle.pb_syntax.specs.declared.refusal.Refusal.TheVariants.{TooLong, BadToken, Memory}
+use Rattle.pb_syntax.specs.Tokens.{BadTokenAt}
 
 -- the most bytes of a text
 abbrev pub most_bytes : ℕ

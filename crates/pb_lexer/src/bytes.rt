@@ -1,6 +1,6 @@
 ghost use Rattle.std.specs.Prelude.{◌≡◌, ◌≤◌, ◌+◌, length, IfSome};
 ghost use Rattle.std.specs.List.{prefix_len};
-ghost use Rattle.pb_prog.specs.Bytes.{is_blank, begins_name, begins_slash};
+ghost use Rattle.pb_syntax.specs.Bytes.{is_blank, begins_name, begins_slash};
 ghost use Rattle.pb_lexer.specs.Reading.{in_run, close_from};
 
 /// The bytes that go on with a word, a number or a line.
@@ -64,12 +64,12 @@ pub(crate) fn before_close(text: &[u8]) -> Option<usize>
 {
     let mut size: usize = 0;
     let mut rest = text;
-    while let [first, behind @ ..] = rest {
-        if *first == b'*' && begins_slash(behind) {
+    while let [first, after @ ..] = rest {
+        if *first == b'*' && begins_slash(after) {
             return Some(size);
         }
         size += 1;
-        rest = behind;
+        rest = after;
     }
     None
 }

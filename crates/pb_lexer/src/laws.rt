@@ -1,6 +1,6 @@
 ghost use Rattle.std.specs.Prelude.{◌≡◌, ℕ, ◌⊎◌, List};
-ghost use Rattle.pb_prog.specs.declared.token.Token.{Token};
-ghost use Rattle.pb_prog.specs.Tokens.{Spells, BadTokenAt};
+ghost use Rattle.pb_syntax.specs.declared.token.Token.{Token};
+ghost use Rattle.pb_syntax.specs.Tokens.{Spells, BadTokenAt};
 
 /// A law: a text has at most one list of tokens.
 pub fn a_text_has_one_list()

@@ -1,17 +1,17 @@
 ghost use Rattle.std.specs.Prelude.{◌≡◌, ◌+◌, ◌≤◌, ◌<◌, length, IfSome};
-ghost use Rattle.pb_prog.specs.Signs.{long_sign, short_sign, begins_comment};
+ghost use Rattle.pb_syntax.specs.Signs.{long_sign, short_sign, begins_comment};
 ghost use Rattle.pb_lexer.specs.Reading.{value_within, number_read, word_read, comment_read, sign_read, piece_read};
 
 use crate::bytes::{Run, before_close, begins_name, is_blank, run_length};
 
-// Another digit behind a larger number would pass the greatest.
+// Another digit after a larger number would pass the greatest.
 const MOST_BEFORE_DIGIT: u64 = 922_337_203_685_477_580;
 
 const MOST: u64 = 9_223_372_036_854_775_807;
 
 /// What some bytes are: a blank or comment, a word, a number with its value, a sign with its place.
 #[derive(Clone, Copy)]
-pub(crate) enum Kind {
+pub(crate) enum PieceKind {
     Gap,
     Word,
     Number(u64),
@@ -21,7 +21,7 @@ pub(crate) enum Kind {
 /// What stands first in a text, and how many bytes it has.
 #[derive(Clone, Copy)]
 pub(crate) struct Front {
-    pub kind: Kind,
+    pub kind: PieceKind,
     pub size: usize,
 }
 
@@ -50,7 +50,7 @@ fn read_number(text: &[u8]) -> Option<Front>
     let size = run_length(Run::InNumber, text);
     let value = read_value(&text[..size])?;
     Some(Front {
-        kind: Kind::Number(value),
+        kind: PieceKind::Number(value),
         size,
     })
 }
@@ -102,21 +102,21 @@ fn begins_comment(first: u8, second: u8) -> bool
     first == b'/' && matches!(second, b'/' | b'*')
 }
 
-// A comment: what stands behind its `/`.
-fn read_comment(behind: &[u8]) -> Option<Front>
-    ensures front { result ≡ comment_read behind.now }
-    ensures within { IfSome result (λ f. f.size ≤ 1 + length behind.now) }
+// A comment: what stands after its `/`.
+fn read_comment(after: &[u8]) -> Option<Front>
+    ensures front { result ≡ comment_read after.now }
+    ensures within { IfSome result (λ f. f.size ≤ 1 + length after.now) }
     ensures some { IfSome result (λ f. 0 < f.size) }
 {
-    match behind {
+    match after {
         [b'/', inside @ ..] => Some(Front {
-            kind: Kind::Gap,
+            kind: PieceKind::Gap,
             size: 2 + run_length(Run::InLine, inside),
         }),
         [b'*', inside @ ..] => {
             let size = before_close(inside)?;
             Some(Front {
-                kind: Kind::Gap,
+                kind: PieceKind::Gap,
                 size: 4 + size,
             })
         }
@@ -124,25 +124,25 @@ fn read_comment(behind: &[u8]) -> Option<Front>
     }
 }
 
-fn read_sign(first: u8, behind: &[u8]) -> Option<Front>
-    ensures front { result ≡ sign_read first behind.now }
-    ensures within { IfSome result (λ f. f.size ≤ 1 + length behind.now) }
+fn read_sign(first: u8, after: &[u8]) -> Option<Front>
+    ensures front { result ≡ sign_read first after.now }
+    ensures within { IfSome result (λ f. f.size ≤ 1 + length after.now) }
     ensures some { IfSome result (λ f. 0 < f.size) }
 {
-    if let [second, ..] = behind {
+    if let [second, ..] = after {
         if let Some(place) = long_sign(first, *second) {
             return Some(Front {
-                kind: Kind::Sign(place),
+                kind: PieceKind::Sign(place),
                 size: 2,
             });
         }
         if begins_comment(first, *second) {
-            return read_comment(behind);
+            return read_comment(after);
         }
     }
     let place = short_sign(first)?;
     Some(Front {
-        kind: Kind::Sign(place),
+        kind: PieceKind::Sign(place),
         size: 1,
     })
 }
@@ -153,23 +153,23 @@ pub(crate) fn read_front(text: &[u8]) -> Option<Front>
     ensures within { IfSome result (λ f. f.size ≤ length text.now) }
     ensures some { IfSome result (λ f. 0 < f.size) }
 {
-    let [first, behind @ ..] = text else {
+    let [first, after @ ..] = text else {
         return None;
     };
     if is_blank(*first) {
         return Some(Front {
-            kind: Kind::Gap,
+            kind: PieceKind::Gap,
             size: 1,
         });
     }
     if begins_name(*first) {
         return Some(Front {
-            kind: Kind::Word,
-            size: 1 + run_length(Run::InName, behind),
+            kind: PieceKind::Word,
+            size: 1 + run_length(Run::InName, after),
         });
     }
     if first.is_ascii_digit() {
         return read_number(text);
     }
-    read_sign(*first, behind)
+    read_sign(*first, after)
 }

@@ -1,33 +1,33 @@
 ghost use Rattle.std.specs.Prelude.{◌≡◌, ℕ, ◌≤◌, ◌<◌, ◌⊎◌, List, ◌++◌, length, IfOk, IfErr, MatchResult};
-ghost use Rattle.pb_prog.specs.declared.token.Token.{Token as AToken};
-ghost use Rattle.pb_prog.specs.declared.refusal.Refusal.TheVariants.{TooLong, BadToken, Memory};
-ghost use Rattle.pb_prog.specs.Tokens.{Spells, BadTokenAt};
+ghost use Rattle.pb_syntax.specs.declared.token.Token.{Token as AToken};
+ghost use Rattle.pb_syntax.specs.declared.refusal.Refusal.TheVariants.{TooLong, BadToken, Memory};
+ghost use Rattle.pb_syntax.specs.Tokens.{Spells, BadTokenAt};
 ghost use Rattle.pb_lexer.specs.Reading.{tokens_of};
 ghost use Rattle.pb_lexer.specs.Refusing.{most_bytes, Refused};
 
-use crate::piece::{Kind, read_front};
-use pb_prog::{Name, Refusal, Token, TokenWhat};
+use crate::piece::{PieceKind, read_front};
+use pb_syntax::{Name, Refusal, Token, TokenWhat};
 use std::alloc::Global;
 
 /// The most bytes of a text.
 pub const MOST_BYTES: usize = 1_048_576;
 
-// Puts the token of some bytes behind the others, if they are one.
+// Puts the token of some bytes after the others, if they are one.
 fn put_token(
     alloc: Global,
     found: &mut Vec<Token>,
     at: u32,
     spelled: &[u8],
-    kind: Kind,
+    kind: PieceKind,
 ) -> Result<(), Refusal>
     ensures put { IfOk result (λ _. found.new.items ≡ found.old.items ++ tokens_of at spelled.now kind) }
     ensures memory { IfErr result (λ e. e ≡ Memory) }
 {
     let what = match kind {
-        Kind::Gap => return Ok(()),
-        Kind::Word => TokenWhat::Word(Name::new(spelled.to_vec(alloc)?, at)),
-        Kind::Number(value) => TokenWhat::Number(value),
-        Kind::Sign(place) => TokenWhat::Sign(place),
+        PieceKind::Gap => return Ok(()),
+        PieceKind::Word => TokenWhat::Word(Name::new(spelled.to_vec(alloc)?, at)),
+        PieceKind::Number(value) => TokenWhat::Number(value),
+        PieceKind::Sign(place) => TokenWhat::Sign(place),
     };
     found.push(Token { at, what })?;
     Ok(())

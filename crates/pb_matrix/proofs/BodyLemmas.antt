@@ -14,7 +14,7 @@ use Rattle.pb_matrix.specs.Reading.{body_read}
 use Rattle.pb_matrix.specs.declared.matrix.MatrixRefusal.{MatrixRefusal}
 use Rattle.pb_matrix.specs.declared.matrix.MatrixRefusal.TheVariants.{BadNumber, TooFew, TooMany}
 
--- what words say behind the cells that were read
+-- what words say after the cells that were read
 abbrev pub read_on : Shape → List ℤ → List (List ℕ) → Result MatrixValue MatrixRefusal
 read_on s cells [] =
     if nat_lt (length cells) (cell_count s) then Err (TooFew (cell_count s) (length cells)) else Ok (record { shape = s; cells = cells })
@@ -74,7 +74,7 @@ module _ (s : Shape) where
   next_number : (done : List (List ℕ)) (cells : List ℤ) (w : List ℕ) (z : ℤ) → SpellsCells done cells → cell_number w ≡ Some z → SpellsCells (done ++ w ∷ []) (cells ++ z ∷ [])
   next_number done cells w z e number = rw (map_push cell_number done w, map_push Some cells z, e, number) refl
 
-  -- behind these words, whatever cells they spell, reading goes on to what the whole says
+  -- after these words, whatever cells they spell, reading goes on to what the whole says
   abbrev ReadsOn : List (List ℕ) → List (List ℕ) → Type 0
   ReadsOn done ws = (cells : List ℤ) → SpellsCells done cells → length cells ≤ cell_count s → read_on s cells ws ≡ body_read s (done ++ ws)
 

@@ -115,9 +115,9 @@ rows_words : (h w : ℕ) (cells : List ℤ) → length cells ≡ h * w → AllFi
 rows_words zero w cells count fits = rw (nil_from_length cells (omega (arith, count))) refl
 rows_words (suc h) w cells count fits =
     let row = map signed_decimal (take w cells) in
-    let behind = flat_map row_text (rows h w (drop w cells)) in
+    let after = flat_map row_text (rows h w (drop w cells)) in
     let later = rows_words h w (drop w cells) (omega (arith, length-drop w cells, count)) (All-drop (λ z. IsTrue (fits_i64 z)) w cells fits) in
-    ap (words is_gap) (append_assoc (join_with_byte 32 row) (10 ∷ []) behind) ∙ words-append is_gap (join_with_byte 32 row) behind 10 refl
+    ap (words is_gap) (append_assoc (join_with_byte 32 row) (10 ∷ []) after) ∙ words-append is_gap (join_with_byte 32 row) after 10 refl
     ∙ rw (words_joined is_gap no_gap refl row (row_words (take w cells) (All-take (λ z. IsTrue (fits_i64 z)) w cells fits)), later)
     (sym (map-append signed_decimal (take w cells) (drop w cells)) ∙ ap (map signed_decimal) (take-append-drop w cells))
 

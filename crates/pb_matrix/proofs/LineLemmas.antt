@@ -8,7 +8,7 @@ use Rattle.std.proofs.lemmas.List.Sums.{prefix_len-le-length}
 use Rattle.std.proofs.lemmas.Bool.Decides.{nat_tests}
 use Rattle.pb_matrix.specs.Words.{is_line_end, is_blank, is_gap, words}
 use Rattle.pb_matrix.specs.Header.{header_shape}
-use Rattle.pb_matrix.specs.Reading.{matrix_read, behind_header}
+use Rattle.pb_matrix.specs.Reading.{matrix_read, after_header}
 use Rattle.pb_matrix.proofs.WordLemmas.{first_part, words-append}
 
 not_zero : (n : ℕ) → 0 < n → (n == 0) ≡ false
@@ -62,5 +62,5 @@ pub blank_line : (text line rest : List ℕ) → lines text ≡ line ∷ lines r
 blank_line text line rest e blank = rw (e, blank) refl
 
 pub header_line : (text line rest : List ℕ) → lines text ≡ line ∷ lines rest → list_all is_blank line ≡ false
-    → matrix_read text ≡ behind_header (header_shape (words is_blank line)) (words is_gap rest)
+    → matrix_read text ≡ after_header (header_shape (words is_blank line)) (words is_gap rest)
 header_line text line rest e blank = rw (e, blank, body_words rest) refl

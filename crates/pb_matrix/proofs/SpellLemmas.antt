@@ -8,7 +8,7 @@ use Rattle.pb_values.specs.declared.shape.Shape.{Shape}
 use Rattle.pb_matrix.specs.Words.{is_blank, is_gap, words, cell_number, is_faulty}
 use Rattle.pb_matrix.specs.Header.{header_shape, cell_count}
 use Rattle.pb_matrix.specs.Value.{MatrixValue}
-use Rattle.pb_matrix.specs.Reading.{body_read, behind_header, lines_read, matrix_read, Reads}
+use Rattle.pb_matrix.specs.Reading.{body_read, after_header, lines_read, matrix_read, Reads}
 use Rattle.pb_matrix.specs.Spelling.{SpellsCells, LinesSpell, blank, header, Spells}
 use Rattle.pb_matrix.proofs.BodyLemmas.{same_length, at_end}
 use Rattle.pb_matrix.specs.declared.matrix.MatrixRefusal.{MatrixRefusal}
@@ -68,7 +68,7 @@ lines_spelled : (ls : List (List ℕ)) (matrix : MatrixValue) → lines_read ls 
 lines_spelled [] matrix e = absurd (cc)
 lines_spelled (line ∷ rest) matrix e = by_blank (list_all is_blank line) refl (lines_spelled rest matrix)
   where
-    by_shape : (o : Option Shape) → header_shape (words is_blank line) ≡ o → behind_header o (flat_map (words is_gap) rest) ≡ Ok matrix → LinesSpell (line ∷ rest) matrix
+    by_shape : (o : Option Shape) → header_shape (words is_blank line) ≡ o → after_header o (flat_map (words is_gap) rest) ≡ Ok matrix → LinesSpell (line ∷ rest) matrix
     by_shape None none e = absurd (cc)
     by_shape (Some s) named e =
         let body = body_spelled s (flat_map (words is_gap) rest) matrix e in

@@ -6,7 +6,7 @@ use Rattle.std.proofs.lemmas.List.{drop-drop, nil_from_length}
 use Rattle.std.proofs.lemmas.List.Elements.{filter-append}
 use Rattle.pb_matrix.specs.Words.{has_bytes, words}
 
--- the parts behind the first part
+-- the parts after the first part
 abbrev pub rest_parts : (ℕ → Bool) → List ℕ → List (List ℕ)
 rest_parts p [] = []
 rest_parts p (_ ∷ more) = slice_split p more
@@ -29,17 +29,17 @@ module _ (p : ℕ → Bool) where
   rest_words [] = refl
   rest_words (_ ∷ _) = refl
 
-  -- the words behind the first part
-  behind_words : (xs : List ℕ) → filter has_bytes (rest_parts p (drop (position_or_len p xs) xs)) ≡ words p (after_first p xs)
-  behind_words xs = rest_words (drop (position_or_len p xs) xs) ∙ ap (words p) (drop-drop 1 (position_or_len p xs) xs)
+  -- the words after the first part
+  after_words : (xs : List ℕ) → filter has_bytes (rest_parts p (drop (position_or_len p xs) xs)) ≡ words p (after_first p xs)
+  after_words xs = rest_words (drop (position_or_len p xs) xs) ∙ ap (words p) (drop-drop 1 (position_or_len p xs) xs)
 
   -- where the first part has bytes, it is a word
-  pub one_word : (xs word behind : List ℕ) → word ≡ before_first p xs → behind ≡ after_first p xs → 0 < length word → words p xs ≡ word ∷ words p behind
-  one_word xs word behind w b some = let bytes : has_bytes (before_first p xs) ≡ true = rw w at (some_bytes word some) in rw (w, b, first_part xs, bytes, behind_words xs) refl
+  pub one_word : (xs word after : List ℕ) → word ≡ before_first p xs → after ≡ after_first p xs → 0 < length word → words p xs ≡ word ∷ words p after
+  one_word xs word after w b some = let bytes : has_bytes (before_first p xs) ≡ true = rw w at (some_bytes word some) in rw (w, b, first_part xs, bytes, after_words xs) refl
 
   -- and else there is none before the cut
-  pub no_word : (xs word behind : List ℕ) → word ≡ before_first p xs → behind ≡ after_first p xs → length word ≡ 0 → words p xs ≡ words p behind
-  no_word xs word behind w b none = let empty : before_first p xs ≡ [] = sym w ∙ nil_from_length word none in rw (b, first_part xs, empty, behind_words xs) refl
+  pub no_word : (xs word after : List ℕ) → word ≡ before_first p xs → after ≡ after_first p xs → length word ≡ 0 → words p xs ≡ words p after
+  no_word xs word after w b none = let empty : before_first p xs ≡ [] = sym w ∙ nil_from_length word none in rw (b, first_part xs, empty, after_words xs) refl
 
   -- a text cut at a byte that passes
   slice_split-append : (xs ys : List ℕ) (s : ℕ) → p s ≡ true → slice_split p (xs ++ s ∷ ys) ≡ slice_split p xs ++ slice_split p ys

@@ -5,7 +5,7 @@ use Rattle.pb_values.specs.declared.shape.Shape.{Shape}
 use Rattle.pb_matrix.specs.Words.{is_digits}
 use Rattle.pb_matrix.specs.declared.header.TheConstants.{MAX_CELLS}
 
--- a 0, and more behind it
+-- a 0, and more after it
 abbrev pub has_leading_zero : List ℕ → Bool
 has_leading_zero word = nat_lt 1 (length word) && slice_index word 0 == 48
 

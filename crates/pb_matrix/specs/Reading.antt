@@ -21,16 +21,16 @@ judged shape found None =
 abbrev pub body_read : Shape → List (List ℕ) → Result MatrixValue MatrixRefusal
 body_read shape found = judged shape found (position_from is_faulty 0 (take (cell_count shape) found))
 
-abbrev pub behind_header : Option Shape → List (List ℕ) → Result MatrixValue MatrixRefusal
-behind_header (Some shape) found = body_read shape found
-behind_header None found = Err BadHeader
+abbrev pub after_header : Option Shape → List (List ℕ) → Result MatrixValue MatrixRefusal
+after_header (Some shape) found = body_read shape found
+after_header None found = Err BadHeader
 
--- the first line that isn't blank is the header; the words of all lines behind it are the body
+-- the first line that isn't blank is the header; the words of all lines after it are the body
 abbrev pub lines_read : List (List ℕ) → Result MatrixValue MatrixRefusal
 lines_read [] = Err BadHeader
 lines_read (line ∷ rest) =
     if list_all is_blank line then lines_read rest
-    else behind_header (header_shape (words is_blank line)) (flat_map (words is_gap) rest)
+    else after_header (header_shape (words is_blank line)) (flat_map (words is_gap) rest)
 
 abbrev pub matrix_read : List ℕ → Result MatrixValue MatrixRefusal
 matrix_read text = lines_read (lines text)

@@ -10,7 +10,7 @@ use Rattle.pb_matrix.specs.Value.{MatrixValue}
 abbrev pub SpellsCells : List (List ℕ) → List ℤ → Type 0
 SpellsCells found cells = map cell_number found ≡ map Some cells
 
--- blank lines may stand first; behind the header, which names the shape, stand just the words that spell the cells
+-- blank lines may stand first; after the header, which names the shape, stand just the words that spell the cells
 pub data LinesSpell : List (List ℕ) → MatrixValue → Type 0 where
   blank : {line : List ℕ} {rest : List (List ℕ)} {matrix : MatrixValue}
       → IsTrue (list_all is_blank line)

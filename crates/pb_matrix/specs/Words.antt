@@ -33,7 +33,7 @@ is_digits ds = has_bytes ds && all_ascii_digits ds
 abbrev pub in_cell : List ℕ → ℤ → Option ℤ
 in_cell ds z = if is_digits ds && fits_i64 z then Some z else None
 
--- the number that a word spells: digits, maybe behind a `-`
+-- the number that a word spells: digits, maybe after a `-`
 abbrev pub cell_number : List ℕ → Option ℤ
 cell_number [] = None
 cell_number (c ∷ cs) =

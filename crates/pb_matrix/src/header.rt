@@ -4,7 +4,7 @@ ghost use Rattle.std.specs.Option.{ForSome};
 ghost use Rattle.std.specs.Str.Lines.{lines, strip_carriage_return};
 ghost use Rattle.pb_matrix.specs.Header.{side, header_shape, one_side, two_sides, IsMatrixShape};
 ghost use Rattle.pb_matrix.specs.Words.{is_blank, is_gap, words};
-ghost use Rattle.pb_matrix.specs.Reading.{matrix_read, behind_header};
+ghost use Rattle.pb_matrix.specs.Reading.{matrix_read, after_header};
 
 use crate::matrix::MatrixRefusal;
 use crate::numbers::read_digits;
@@ -101,7 +101,7 @@ fn split_line(text: &[u8]) -> (&[u8], &[u8])
 #[tactic(auto, using(crate::proofs::LineLemmas::blank_line, crate::proofs::LineLemmas::header_line))]
 pub(crate) fn split_header(text: &[u8]) -> Option<(&[u8], &[u8])>
     ensures { MatchOption result (matrix_read text.now ≡ Err MatrixRefusal.BadHeader)
-        (λ found. matrix_read text.now ≡ behind_header (header_shape (words is_blank found.0.now)) (words is_gap found.1.now)) }
+        (λ found. matrix_read text.now ≡ after_header (header_shape (words is_blank found.0.now)) (words is_gap found.1.now)) }
 {
     let mut rest = text;
     while !rest.is_empty() {

@@ -19,7 +19,7 @@ impl Model for Matrix {
     ghost view = { λ m. record { shape = m.shape; cells = m.cells.items } };
 }
 
-/// The first fault of a text that is no matrix. `word` counts the words behind the header from 0, `wanted` is the
+/// The first fault of a text that is no matrix. `word` counts the words after the header from 0, `wanted` is the
 /// number of cells that the header promises, `found` the number of words. `Memory`: memory ran out.
 #[derive(Debug, Drop, Error)]
 pub enum MatrixRefusal {

@@ -2,7 +2,7 @@ ghost use Rattle.std.specs.Prelude.{◌≡◌, ◌^◌, ◌≤◌, IfSome, neg_�
 ghost use Rattle.pb_matrix.specs.Words.{cell_number};
 ghost use Rattle.pb_matrix.specs.Digits.{magnitude};
 
-// Another digit behind a larger number would pass 2^63.
+// Another digit after a larger number would pass 2^63.
 const MOST_BEFORE_DIGIT: u64 = 922_337_203_685_477_580;
 
 const MOST: u64 = 1 << 63;
@@ -42,7 +42,7 @@ fn negated(value: u64) -> i64
     }
 }
 
-/// The number of 64 bits that a word spells: digits, maybe behind a `-`.
+/// The number of 64 bits that a word spells: digits, maybe after a `-`.
 #[inline]
 pub(crate) fn read_number(word: &[u8]) -> Option<i64>
     ensures { result ≡ cell_number word.now }

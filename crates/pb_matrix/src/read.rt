@@ -56,7 +56,7 @@ fn read_text(alloc: Global, bytes: &[u8]) -> Result<Matrix, MatrixRefusal>
 }
 
 /// The matrix that a text spells. The header is the first line that isn't blank: `matrix` and the width, or the
-/// width and the height, each and their product at most `MAX_CELLS`. Behind it stand as many numbers of 64 bits.
+/// width and the height, each and their product at most `MAX_CELLS`. After it stand as many numbers of 64 bits.
 ///
 /// Refuses with the first fault: of the header, then of a word among those that are wanted, then too few or too many.
 pub fn read_matrix(alloc: Global, bytes: &[u8]) -> Result<Matrix, MatrixRefusal>

@@ -24,11 +24,11 @@ pub(crate) fn cuts(cut: Cut, byte: u8) -> bool
     }
 }
 
-/// What stands before the first cut, and what behind it; the whole and nothing where there is none.
+/// What stands before the first cut, and what after it; the whole and nothing where there is none.
 #[inline]
 pub(crate) fn split_first(cut: Cut, text: &[u8]) -> (&[u8], &[u8])
     ensures front { result.0.now ≡ before_first (cuts cut) text.now }
-    ensures behind { result.1.now ≡ after_first (cuts cut) text.now }
+    ensures after { result.1.now ≡ after_first (cuts cut) text.now }
     ensures shorter { 0 < length text.now → length result.1.now < length text.now }
 {
     for (i, byte) in text.iter().enumerate() {
@@ -39,7 +39,7 @@ pub(crate) fn split_first(cut: Cut, text: &[u8]) -> (&[u8], &[u8])
     (text, &[])
 }
 
-/// The first word of a text and what stands behind it, if there is a word.
+/// The first word of a text and what stands after it, if there is a word.
 #[inline]
 #[tactic(auto, using(crate::proofs::WordLemmas::one_word, crate::proofs::WordLemmas::no_word))]
 pub(crate) fn next_word(cut: Cut, text: &[u8]) -> Option<(&[u8], &[u8])>
@@ -49,11 +49,11 @@ pub(crate) fn next_word(cut: Cut, text: &[u8]) -> Option<(&[u8], &[u8])>
 {
     let mut rest = text;
     while !rest.is_empty() {
-        let (word, behind) = split_first(cut, rest);
+        let (word, after) = split_first(cut, rest);
         if !word.is_empty() {
-            return Some((word, behind));
+            return Some((word, after));
         }
-        rest = behind;
+        rest = after;
     }
     None
 }

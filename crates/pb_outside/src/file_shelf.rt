@@ -38,7 +38,7 @@ impl<'a, R: Files> FileShelf<'a, R> {
     }
 }
 
-// One read of at most `most` bytes, put behind the bytes that are there: how many it gave, or None where
+// One read of at most `most` bytes, put after the bytes that are there: how many it gave, or None where
 // it fails.
 fn read_piece<F: Read>(
     file: &mut F,

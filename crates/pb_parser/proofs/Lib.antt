@@ -1,21 +1,4 @@
-mod BeginLemmas
+mod Answers
 mod DeclLemmas
-mod DimLemmas
-mod Endings
-pub mod Exact
-mod ExprLaws
-mod FormLaws
-mod FormLemmas
-mod GrammarLemmas
-mod HeaderLaws
-mod Keeps
-mod NextLemmas
-mod ProgramLaws
 mod ProgramLemmas
-mod ReadLemmas
 mod RuleLemmas
-mod Spelled
-mod Steps
-mod StmtLaws
-mod Taken
-mod ViewLaws

@@ -1,15 +1,15 @@
 ghost use Rattle.std.specs.Prelude.{◌≡◌, ◌+◌, ◌<◌, ◌≤◌, [], ◌∷◌, length, OnOk, IfOk};
-ghost use Rattle.pb_parser.specs.Want.{a_decl, decls, through, minimum, minimums, more_minimums};
-ghost use Rattle.pb_prog.specs.Limits.{counted};
-ghost use Rattle.pb_parser.specs.Dims.{sizes_known, after_dims};
-ghost use Rattle.pb_parser.specs.Leads.{Leads};
+ghost use Rattle.pb_grammar.specs.Want.{a_decl, decls, through, minimum, minimums, more_minimums};
+ghost use Rattle.pb_syntax.specs.Limits.{counted};
+ghost use Rattle.pb_body_parser.specs.Dims.{sizes_known, after_dims};
+ghost use Rattle.pb_body_parser.specs.Leads.{Leads};
 
-use crate::begin::begin_name;
-use crate::cursor::{Cursor, name_in};
-use crate::dims::counted_dims;
-use crate::fault::Fault;
-use crate::form::small;
-use pb_prog::{DeclText, Item, Kind, Name};
+use pb_body_parser::begin_name;
+use pb_body_parser::{Cursor, name_in};
+use pb_body_parser::counted_dims;
+use pb_body_parser::Fault;
+use pb_body_parser::small;
+use pb_syntax::{DeclText, Item, TokenKind, Name};
 use std::alloc::Global;
 
 const MOST_MATRICES: usize = 16;
@@ -40,7 +40,7 @@ fn decl(
         alloc,
         begin_name(cursor, MOST_MATRICES, before, Item::Matrices)?,
     )?;
-    cursor.expect(Kind::OpenBracket)?;
+    cursor.expect(TokenKind::OpenBracket)?;
     let dims = counted_dims(alloc, cursor, known)?;
     Ok(DeclText { name, dims })
 }
@@ -64,7 +64,7 @@ pub(crate) fn decls(
     found.push(decl(alloc, cursor, before, &mut known)?)?;
     loop {
         match cursor.peek() {
-            Kind::Comma => {}
+            TokenKind::Comma => {}
             _ => return Ok(found),
         }
         cursor.take();
@@ -85,13 +85,13 @@ pub(crate) fn through(
     ensures shorter { OnOk result (length cursor.new.rest.now < length cursor.old.rest.now) }
 {
     match cursor.peek() {
-        Kind::Through => {
+        TokenKind::Through => {
             cursor.take();
             let kept = decls(alloc, cursor, before, false)?;
-            cursor.expect(Kind::To)?;
+            cursor.expect(TokenKind::To)?;
             Ok(kept)
         }
-        Kind::To => {
+        TokenKind::To => {
             cursor.take();
             Ok(Vec::new(alloc))
         }
@@ -107,7 +107,7 @@ fn minimum(alloc: Global, cursor: &mut Cursor<'_>, before: usize) -> Result<(Nam
         alloc,
         begin_name(cursor, MOST_MINIMUMS, before, Item::Minimums)?,
     )?;
-    cursor.expect(Kind::GreaterOrEqual)?;
+    cursor.expect(TokenKind::GreaterOrEqual)?;
     let least = small(cursor)?;
     Ok((name, least))
 }
@@ -120,12 +120,12 @@ fn some_minimums(alloc: Global, cursor: &mut Cursor<'_>) -> Result<Vec<(Name, u6
     found.push(minimum(alloc, cursor, 0)?)?;
     loop {
         match cursor.peek() {
-            Kind::Comma => {
+            TokenKind::Comma => {
                 cursor.take();
                 let further = minimum(alloc, cursor, found.len())?;
                 found.push(further)?;
             }
-            Kind::From => {
+            TokenKind::From => {
                 cursor.take();
                 return Ok(found);
             }
@@ -140,11 +140,11 @@ pub(crate) fn minimums(alloc: Global, cursor: &mut Cursor<'_>) -> Result<Vec<(Na
     ensures shorter { OnOk result (length cursor.new.rest.now < length cursor.old.rest.now) }
 {
     match cursor.peek() {
-        Kind::Where => {
+        TokenKind::Where => {
             cursor.take();
             some_minimums(alloc, cursor)
         }
-        Kind::From => {
+        TokenKind::From => {
             cursor.take();
             Ok(Vec::new(alloc))
         }

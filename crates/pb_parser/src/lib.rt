@@ -1,24 +1,15 @@
 //! The tree of a program's tokens.
 //!
 //! In: the tokens of a text. Out: the tree that they spell by the grammar, or the first token at which they begin no
-//! program, or the first item that is too many. One pass from left to right with one token of sight; nothing nests deeper
-//! than its brackets, of which at most 32 are open.
+//! program, or the first item that is too many. One pass from left to right with one token of lookahead; it recurses only at
+//! brackets, of which at most 32 are open.
 #![tactic(auto)]
 
-mod begin;
-mod bracket;
-mod cursor;
 mod decl;
-mod dims;
-mod expression;
-mod fault;
-mod form;
-mod laws;
-mod make;
+mod refused;
 mod rule;
-mod statement;
 mod transform;
 mod view;
 
-pub use laws::{a_list_has_one_tree, tokens_have_one_answer};
+pub use pb_grammar::{a_list_has_one_tree, tokens_have_one_answer};
 pub use transform::parse;

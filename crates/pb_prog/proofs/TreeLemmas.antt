@@ -1,17 +1,17 @@
 -- The tokens of lists of trees, as they are held.
 use Rattle.std.proofs.Common.{◌≡◌, ℕ, ◌+◌, ◌<◌, List, [], ◌∷◌, ◌++◌, length, get_or, drop, map, refl, ap, arith}
-use Rattle.pb_prog.specs.declared.tree.expression.Operator.{Operator}
-use Rattle.pb_prog.specs.declared.tree.expression.Operator.TheVariants as operator
-use Rattle.pb_prog.specs.declared.tree.expression.Sign.{Sign}
-use Rattle.pb_prog.specs.declared.tree.expression.Sign.TheVariants as sign
-use Rattle.pb_prog.specs.declared.tree.expression.ExprText.{ExprText}
-use Rattle.pb_prog.specs.declared.tree.statement.StmtText.{StmtText}
-use Rattle.pb_prog.specs.Exprs.{bare, exprs}
-use Rattle.pb_prog.specs.Stmts.{bare_stmt}
-use Rattle.pb_prog.specs.Rules.{RuleValue}
-use Rattle.pb_prog.specs.Transforms.{TransformValue}
-use Rattle.pb_prog.specs.Trees.{bare_rule, bare_transform}
-use Rattle.pb_prog.specs.Spelling.{sign_at, comma, operator_sign, unary_sign, in_order, behind_commas, with_commas, expr_tokens, more_arguments_tokens, stmt_tokens, rule_tokens, transform_tokens}
+use Rattle.pb_syntax.specs.declared.tree.expression.Operator.{Operator}
+use Rattle.pb_syntax.specs.declared.tree.expression.Operator.TheVariants as operator
+use Rattle.pb_syntax.specs.declared.tree.expression.UnarySign.{UnarySign}
+use Rattle.pb_syntax.specs.declared.tree.expression.UnarySign.TheVariants as sign
+use Rattle.pb_syntax.specs.declared.tree.expression.ExprText.{ExprText}
+use Rattle.pb_syntax.specs.declared.tree.statement.StmtText.{StmtText}
+use Rattle.pb_syntax.specs.Exprs.{bare, exprs}
+use Rattle.pb_syntax.specs.Stmts.{bare_stmt}
+use Rattle.pb_syntax.specs.Rules.{RuleValue}
+use Rattle.pb_syntax.specs.Transforms.{TransformValue}
+use Rattle.pb_syntax.specs.Trees.{bare_rule, bare_transform}
+use Rattle.pb_prog.specs.Spelling.{sign_at, comma, operator_sign, unary_sign, in_order, after_commas, with_commas, expr_tokens, more_arguments_tokens, stmt_tokens, rule_tokens, transform_tokens}
 use Rattle.pb_prog.specs.Writing.{WriterValue, put, puts, expr_in, operand_in, stmt_in, rule_in, transform_in, args_in, operands_in, body_in}
 use Rattle.pb_prog.proofs.WriterLemmas.{order_more}
 
@@ -24,11 +24,11 @@ operator_listed operator.Minus = omega arith
 operator_listed operator.And = omega arith
 operator_listed operator.Or = omega arith
 
-pub unary_listed : (s : Sign) → unary_sign s < 25
+pub unary_listed : (s : UnarySign) → unary_sign s < 25
 unary_listed sign.Minus = omega arith
 unary_listed sign.Not = omega arith
 
-more_arguments_listed : (xs : List ExprText) → more_arguments_tokens (exprs (map bare xs)) ≡ behind_commas expr_in xs
+more_arguments_listed : (xs : List ExprText) → more_arguments_tokens (exprs (map bare xs)) ≡ after_commas expr_in xs
 unfolding expr_tokens expr_in
 more_arguments_listed [] = refl
 more_arguments_listed (x ∷ xs) = ap (λ ts. comma ∷ (expr_in x ++ ts)) (more_arguments_listed xs)

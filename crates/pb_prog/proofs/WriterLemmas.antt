@@ -1,11 +1,11 @@
--- Tokens that are put one behind the other.
+-- Tokens that are put one after the other.
 use Rattle.std.proofs.Common.{◌≡◌, ℕ, zero, suc, add-one, ◌+◌, Bool, true, false, List, [], ◌∷◌, ◌++◌, length, get_or, drop, ◌<◌, ◌≤◌, refl, ap, sym, subst, Result, OnOk, ◌∙◌, arith}
 use Rattle.std.proofs.lemmas.List.{append_assoc, append-nil, drop_more, drop_all}
-use Rattle.pb_prog.specs.declared.tree.expression.Relation.{Relation}
-use Rattle.pb_prog.specs.declared.tree.expression.Relation.TheVariants as relation
-use Rattle.pb_prog.specs.declared.tree.form.TermText.{TermText}
+use Rattle.pb_syntax.specs.declared.tree.expression.Relation.{Relation}
+use Rattle.pb_syntax.specs.declared.tree.expression.Relation.TheVariants as relation
+use Rattle.pb_syntax.specs.declared.tree.form.TermText.{TermText}
 use Rattle.pb_prog.specs.Canonical.{indentation, layout}
-use Rattle.pb_prog.specs.Spelling.{Written, sign_at, term_sign, relation_sign, word, comma, in_order, behind_commas, with_commas, behind_keyword, term_tokens, next_term_tokens, sum_tokens}
+use Rattle.pb_prog.specs.Spelling.{Written, sign_at, term_sign, relation_sign, word, comma, in_order, after_commas, with_commas, after_keyword, term_tokens, next_term_tokens, sum_tokens}
 use Rattle.pb_prog.specs.Writing.{WriterValue, put, puts, comma_unless, commas_from, sign_unless, terms_from}
 
 indentation_suc : (n : ℕ) → indentation (suc n) ≡ indentation n ++ (32 ∷ 32 ∷ [])
@@ -50,13 +50,13 @@ module _ {A : Type 0} (tokens : A → List Written) (w v : WriterValue) (xs : Li
       rw (split, done) (sym (puts_append w (tokens x) (in_order tokens (drop (i + 1) xs))))
 
   pub commas_more : (b : Bool) → v ≡ puts (puts w (comma_unless b)) (tokens x) → i < length xs → x ≡ get_or xs i x
-      → puts v (behind_commas tokens (drop (i + 1) xs)) ≡ puts w (commas_from b tokens (drop i xs))
+      → puts v (after_commas tokens (drop (i + 1) xs)) ≡ puts w (commas_from b tokens (drop i xs))
   commas_more true done within here =
       let split : drop i xs ≡ x ∷ drop (i + 1) xs = drop_more xs i x within ∙ ap (λ y. y ∷ drop (i + 1) xs) (sym here) in
-      rw (split, done) (sym (puts_append w (tokens x) (behind_commas tokens (drop (i + 1) xs))))
+      rw (split, done) (sym (puts_append w (tokens x) (after_commas tokens (drop (i + 1) xs))))
   commas_more false done within here =
       let split : drop i xs ≡ x ∷ drop (i + 1) xs = drop_more xs i x within ∙ ap (λ y. y ∷ drop (i + 1) xs) (sym here) in
-      rw (split, done) (sym (puts_append (put w comma) (tokens x) (behind_commas tokens (drop (i + 1) xs))))
+      rw (split, done) (sym (puts_append (put w comma) (tokens x) (after_commas tokens (drop (i + 1) xs))))
 
 -- no item is left
 pub order_end : {A : Type 0} (tokens : A → List Written) (w : WriterValue) (xs : List A) (i : ℕ) → length xs ≤ i → puts w (in_order tokens (drop i xs)) ≡ w
@@ -82,6 +82,6 @@ terms_end true w xs i past = rw (drop_all i xs past) refl
 terms_end false w xs i past = rw (drop_all i xs past) refl
 
 pub keyword_some : {A : Type 0} (keyword : List ℕ) (tokens : A → List Written) (xs : List A) → 1 ≤ length xs
-    → behind_keyword keyword tokens xs ≡ word keyword ∷ with_commas tokens xs
+    → after_keyword keyword tokens xs ≡ word keyword ∷ with_commas tokens xs
 keyword_some keyword tokens [] within = absurd (omega arith)
 keyword_some keyword tokens (x ∷ xs) within = refl

@@ -1,23 +1,23 @@
 -- The tokens of a tree, in the order of the grammar.
 use Rattle.std.specs.Prelude.{ℕ, Bool, true, false, ◌==◌, List, [], ◌∷◌, ◌++◌, Option, Some, None, codes, if◌then◌else◌}
 use Rattle.pb_values.specs.Name.{NameValue}
-use Rattle.pb_prog.specs.declared.tree.expression.Operator.{Operator}
-use Rattle.pb_prog.specs.declared.tree.expression.Operator.TheVariants as operator
-use Rattle.pb_prog.specs.declared.tree.expression.Relation.{Relation}
-use Rattle.pb_prog.specs.declared.tree.expression.Relation.TheVariants as relation
-use Rattle.pb_prog.specs.declared.tree.expression.Sign.{Sign}
-use Rattle.pb_prog.specs.declared.tree.expression.Sign.TheVariants as sign
-use Rattle.pb_prog.specs.declared.tree.form.TermText.{TermText}
-use Rattle.pb_prog.specs.declared.tree.view.ViewText.{ViewText}
-use Rattle.pb_prog.specs.declared.tree.view.ViewText.TheVariants as view
-use Rattle.pb_prog.specs.declared.tree.view.UseText.{UseText}
-use Rattle.pb_prog.specs.declared.tree.view.CondText.{CondText}
-use Rattle.pb_prog.specs.declared.tree.view.MarkText.{MarkText}
-use Rattle.pb_prog.specs.declared.tree.view.MarkText.TheVariants as mark
-use Rattle.pb_prog.specs.Forms.{FormValue, DeclValue}
-use Rattle.pb_prog.specs.Exprs.{Expr, Exprs, Operands, number, name, call, parentheses, cell, width, height, signed, chain, compare, no_exprs, an_expr, no_operands, an_operand, exprs}
-use Rattle.pb_prog.specs.Stmts.{Stmt, Stmts, let_number, let_matrix, assign, call_stmt, assign_cell, if_stmt, if_else, for_stmt, no_stmts, a_stmt}
-use Rattle.pb_prog.specs.Trees.{Rule, Transform}
+use Rattle.pb_syntax.specs.declared.tree.expression.Operator.{Operator}
+use Rattle.pb_syntax.specs.declared.tree.expression.Operator.TheVariants as operator
+use Rattle.pb_syntax.specs.declared.tree.expression.Relation.{Relation}
+use Rattle.pb_syntax.specs.declared.tree.expression.Relation.TheVariants as relation
+use Rattle.pb_syntax.specs.declared.tree.expression.UnarySign.{UnarySign}
+use Rattle.pb_syntax.specs.declared.tree.expression.UnarySign.TheVariants as sign
+use Rattle.pb_syntax.specs.declared.tree.form.TermText.{TermText}
+use Rattle.pb_syntax.specs.declared.tree.view.ViewText.{ViewText}
+use Rattle.pb_syntax.specs.declared.tree.view.ViewText.TheVariants as view
+use Rattle.pb_syntax.specs.declared.tree.view.UseText.{UseText}
+use Rattle.pb_syntax.specs.declared.tree.view.CondText.{CondText}
+use Rattle.pb_syntax.specs.declared.tree.view.MarkText.{MarkText}
+use Rattle.pb_syntax.specs.declared.tree.view.MarkText.TheVariants as mark
+use Rattle.pb_syntax.specs.Forms.{FormValue, DeclValue}
+use Rattle.pb_syntax.specs.Exprs.{ExprTree, ExprTrees, Operands, number, name, call, parentheses, cell, width, height, signed, chain, compare, no_exprs, an_expr, no_operands, an_operand, exprs}
+use Rattle.pb_syntax.specs.Stmts.{StmtTree, StmtTrees, let_number, let_matrix, assign, call_stmt, assign_cell, if_stmt, if_else, for_stmt, no_stmts, a_stmt}
+use Rattle.pb_syntax.specs.Trees.{RuleTree, TransformTree}
 
 -- a token as it is written: a name or keyword by its bytes, a number, or a sign by its place in the list of signs
 pub data Written : Type 0 where
@@ -79,7 +79,7 @@ operator_sign operator.And = 22
 operator_sign operator.Or = 23
 
 -- `-` `!`
-abbrev pub unary_sign : Sign → ℕ
+abbrev pub unary_sign : UnarySign → ℕ
 unary_sign sign.Minus = 18
 unary_sign sign.Not = 24
 
@@ -89,21 +89,21 @@ term_sign false = 17
 term_sign true = 18
 
 -- the tokens of several items, with `,` before each
-abbrev pub behind_commas : {A : Type 0} → (A → List Written) → List A → List Written
-behind_commas tokens [] = []
-behind_commas tokens (x ∷ xs) = comma ∷ (tokens x ++ behind_commas tokens xs)
+abbrev pub after_commas : {A : Type 0} → (A → List Written) → List A → List Written
+after_commas tokens [] = []
+after_commas tokens (x ∷ xs) = comma ∷ (tokens x ++ after_commas tokens xs)
 
 -- the tokens of several items, with `,` between them
 abbrev pub with_commas : {A : Type 0} → (A → List Written) → List A → List Written
 with_commas tokens [] = []
-with_commas tokens (x ∷ xs) = tokens x ++ behind_commas tokens xs
+with_commas tokens (x ∷ xs) = tokens x ++ after_commas tokens xs
 
--- the same behind a keyword, where there is an item
-abbrev pub behind_keyword : {A : Type 0} → List ℕ → (A → List Written) → List A → List Written
-behind_keyword keyword tokens [] = []
-behind_keyword keyword tokens (x ∷ xs) = word keyword ∷ with_commas tokens (x ∷ xs)
+-- the same after a keyword, where there is an item
+abbrev pub after_keyword : {A : Type 0} → List ℕ → (A → List Written) → List A → List Written
+after_keyword keyword tokens [] = []
+after_keyword keyword tokens (x ∷ xs) = word keyword ∷ with_commas tokens (x ∷ xs)
 
--- the tokens of several items, one behind the other
+-- the tokens of several items, one after the other
 abbrev pub in_order : {A : Type 0} → (A → List Written) → List A → List Written
 in_order tokens [] = []
 in_order tokens (x ∷ xs) = tokens x ++ in_order tokens xs
@@ -117,7 +117,7 @@ minimum_tokens m = word m.0.bytes ∷ sign_at 16 ∷ numeral m.1 ∷ []
 
 -- [ "where" minimum { "," minimum } ]
 abbrev pub minimums_tokens : List (NameValue × ℕ) → List Written
-minimums_tokens ms = behind_keyword (codes "where") minimum_tokens ms
+minimums_tokens ms = after_keyword (codes "where") minimum_tokens ms
 
 -- a factor other than 1, and `*`
 unfoldable pub factor_tokens : ℕ → List Written
@@ -158,7 +158,7 @@ decl_tokens d = word d.name.bytes ∷ open_bracket ∷ (with_commas form_tokens 
 
 -- [ "through" decls ]
 abbrev pub through_tokens : List DeclValue → List Written
-through_tokens ds = behind_keyword (codes "through") decl_tokens ds
+through_tokens ds = after_keyword (codes "through") decl_tokens ds
 
 -- "." "cell" "(" form [ "," form ] ")" and the like, or nothing
 unfoldable pub view_tokens : ViewText → List Written
@@ -181,7 +181,7 @@ cond_tokens c = form_tokens c.left ++ (sign_at (relation_sign c.relation) ∷ fo
 
 -- [ "where" cond { "," cond } ]
 abbrev pub conds_tokens : List CondText → List Written
-conds_tokens cs = behind_keyword (codes "where") cond_tokens cs
+conds_tokens cs = after_keyword (codes "where") cond_tokens cs
 
 -- "primary" | "secondary" | "priority" "(" NUMBER ")", or nothing
 unfoldable pub mark_tokens : MarkText → List Written
@@ -191,7 +191,7 @@ mark_tokens mark.Secondary = word (codes "secondary") ∷ []
 mark_tokens (mark.Priority n) = word (codes "priority") ∷ opening ∷ numeral n ∷ closing ∷ []
 
 unfoldable mutual
-  pub expr_tokens : Expr → List Written
+  pub expr_tokens : ExprTree → List Written
   expr_tokens (number at n) = numeral n ∷ []
   expr_tokens (name n) = word n.bytes ∷ []
   expr_tokens (call n xs) = word n.bytes ∷ opening ∷ (arguments_tokens xs ++ (closing ∷ []))
@@ -209,17 +209,17 @@ unfoldable mutual
   operands_tokens (an_operand o x xs) = sign_at (operator_sign o) ∷ (expr_tokens x ++ operands_tokens xs)
 
   -- [ expr { "," expr } ]
-  pub arguments_tokens : Exprs → List Written
+  pub arguments_tokens : ExprTrees → List Written
   arguments_tokens no_exprs = []
   arguments_tokens (an_expr x xs) = expr_tokens x ++ more_arguments_tokens xs
 
   -- { "," expr }
-  pub more_arguments_tokens : Exprs → List Written
+  pub more_arguments_tokens : ExprTrees → List Written
   more_arguments_tokens no_exprs = []
   more_arguments_tokens (an_expr x xs) = comma ∷ (expr_tokens x ++ more_arguments_tokens xs)
 
 unfoldable mutual
-  pub stmt_tokens : Stmt → List Written
+  pub stmt_tokens : StmtTree → List Written
   stmt_tokens (let_number at n x) = word (codes "let") ∷ word n.bytes ∷ equals ∷ (expr_tokens x ++ (semicolon ∷ []))
   stmt_tokens (let_matrix at n ds) = word (codes "let") ∷ word n.bytes ∷ open_bracket ∷ (with_commas form_tokens ds ++ (close_bracket ∷ semicolon ∷ []))
   stmt_tokens (assign n x) = word n.bytes ∷ equals ∷ (expr_tokens x ++ (semicolon ∷ []))
@@ -234,22 +234,22 @@ unfoldable mutual
       word (codes "for") ∷ opening ∷ word n.bytes ∷ equals ∷ (expr_tokens a ++ (dots ∷ (expr_tokens b ++ (closing ∷ open_brace ∷ (stmts_tokens ss ++ (close_brace ∷ []))))))
 
   -- { stmt }
-  pub stmts_tokens : Stmts → List Written
+  pub stmts_tokens : StmtTrees → List Written
   stmts_tokens no_stmts = []
   stmts_tokens (a_stmt s ss) = stmt_tokens s ++ stmts_tokens ss
 
 -- [ mark ] "to" "(" uses ")" "from" "(" [ uses ] ")" [ "where" conds ] "{" { stmt } "}"
-unfoldable pub rule_tokens : Rule → List Written
+unfoldable pub rule_tokens : RuleTree → List Written
 rule_tokens r =
     mark_tokens r.mark ++ (word (codes "to") ∷ opening ∷ (with_commas use_tokens r.outs ++ (closing ∷ word (codes "from") ∷ opening ∷ (with_commas use_tokens r.reads
     ++ (closing ∷ (conds_tokens r.conds ++ (open_brace ∷ (in_order stmt_tokens r.body ++ (close_brace ∷ [])))))))))
 
 -- "transform" NAME [ "where" minimums ] "from" decls [ "through" decls ] "to" decls "{" { rule } "}"
-unfoldable pub transform_tokens : Transform → List Written
+unfoldable pub transform_tokens : TransformTree → List Written
 transform_tokens t =
     word (codes "transform") ∷ word t.name.bytes ∷ (minimums_tokens t.minimums ++ (word (codes "from") ∷ (with_commas decl_tokens t.from
     ++ (through_tokens t.through ++ (word (codes "to") ∷ (with_commas decl_tokens t.to ++ (open_brace ∷ (in_order rule_tokens t.rules ++ (close_brace ∷ [])))))))))
 
 -- { transform }
-abbrev pub text_tokens : List Transform → List Written
+abbrev pub text_tokens : List TransformTree → List Written
 text_tokens ts = in_order transform_tokens ts

@@ -1,37 +1,37 @@
 -- What a writer of tokens has done so far.
 use Rattle.std.specs.Prelude.{ℕ, Bool, true, false, map, List, [], ◌∷◌, ◌++◌, Option, Some}
-use Rattle.pb_prog.specs.declared.kind.Kind.{Kind}
-use Rattle.pb_prog.specs.Canonical.{written_kind, written_bytes, space, line_end, depth_behind}
-use Rattle.pb_prog.specs.declared.tree.expression.Operator.{Operator}
-use Rattle.pb_prog.specs.declared.tree.expression.ExprText.{ExprText}
-use Rattle.pb_prog.specs.declared.tree.statement.StmtText.{StmtText}
-use Rattle.pb_prog.specs.declared.tree.form.TermText.{TermText}
-use Rattle.pb_prog.specs.Exprs.{bare, exprs, operands}
-use Rattle.pb_prog.specs.Stmts.{bare_stmt, stmts}
-use Rattle.pb_prog.specs.Rules.{RuleValue}
-use Rattle.pb_prog.specs.Transforms.{TransformValue}
-use Rattle.pb_prog.specs.Trees.{bare_rule, bare_transform}
-use Rattle.pb_prog.specs.Spelling.{Written, sign_at, comma, open_brace, close_brace, operator_sign, term_sign, in_order, behind_commas, with_commas, next_term_tokens, sum_tokens, expr_tokens, arguments_tokens, operands_tokens, stmt_tokens, stmts_tokens, rule_tokens, transform_tokens}
+use Rattle.pb_syntax.specs.declared.kind.TokenKind.{TokenKind}
+use Rattle.pb_prog.specs.Canonical.{written_kind, written_bytes, space, line_end, depth_after}
+use Rattle.pb_syntax.specs.declared.tree.expression.Operator.{Operator}
+use Rattle.pb_syntax.specs.declared.tree.expression.ExprText.{ExprText}
+use Rattle.pb_syntax.specs.declared.tree.statement.StmtText.{StmtText}
+use Rattle.pb_syntax.specs.declared.tree.form.TermText.{TermText}
+use Rattle.pb_syntax.specs.Exprs.{bare, exprs, operands}
+use Rattle.pb_syntax.specs.Stmts.{bare_stmt, stmts}
+use Rattle.pb_syntax.specs.Rules.{RuleValue}
+use Rattle.pb_syntax.specs.Transforms.{TransformValue}
+use Rattle.pb_syntax.specs.Trees.{bare_rule, bare_transform}
+use Rattle.pb_prog.specs.Spelling.{Written, sign_at, comma, open_brace, close_brace, operator_sign, term_sign, in_order, after_commas, with_commas, next_term_tokens, sum_tokens, expr_tokens, arguments_tokens, operands_tokens, stmt_tokens, stmts_tokens, rule_tokens, transform_tokens}
 
 -- the text, how many braces are open, and the last token
 pub record WriterValue : Type 0 where
   pub text : List ℕ
   pub depth : ℕ
-  pub last : Option Kind
+  pub last : Option TokenKind
 
--- a token of this kind with these bytes behind the text
-abbrev pub put_bytes : WriterValue → Kind → List ℕ → WriterValue
+-- a token of this kind with these bytes after the text
+abbrev pub put_bytes : WriterValue → TokenKind → List ℕ → WriterValue
 put_bytes w kind bytes = record {
   text = w.text ++ (space w.depth w.last kind ++ (bytes ++ line_end kind));
-  depth = depth_behind w.depth kind;
+  depth = depth_after w.depth kind;
   last = Some kind;
 }
 
--- a token behind the text
+-- a token after the text
 unfoldable pub put : WriterValue → Written → WriterValue
 put w t = put_bytes w (written_kind t) (written_bytes t)
 
--- tokens behind the text
+-- tokens after the text
 abbrev pub puts : WriterValue → List Written → WriterValue
 puts w [] = w
 puts w (t ∷ ts) = puts (put w t) ts
@@ -41,10 +41,10 @@ abbrev pub comma_unless : Bool → List Written
 comma_unless true = []
 comma_unless false = comma ∷ []
 
--- items behind others, or the first ones, with commas between them
+-- items after others, or the first ones, with commas between them
 abbrev pub commas_from : {A : Type 0} → Bool → (A → List Written) → List A → List Written
 commas_from true tokens xs = with_commas tokens xs
-commas_from false tokens xs = behind_commas tokens xs
+commas_from false tokens xs = after_commas tokens xs
 
 -- the sign of a term that isn't the first
 abbrev pub sign_unless : Bool → Bool → List Written

@@ -1,22 +1,14 @@
-//! The data of a program: its tokens, the items that have limits, and why a text is refused.
+//! A program's data, and its canonical text.
 //!
-//! `specs/` says which tokens a text has, and where a text has none.
+//! In: a program's tree, data of `pb_syntax`, which is named again here. Out: the bytes of its canonical text.
+//! `specs/Spelling.antt` says which tokens a tree has, `specs/Canonical.antt` how tokens are laid out.
 #![tactic(auto)]
 
-mod kind;
-mod laws;
 mod print;
-mod refusal;
-mod token;
-mod tree;
 
-pub use kind::{Kind, kind_of};
-pub use laws::signs_are_those_listed;
-pub use pb_values::Name;
-pub use print::print_text;
-pub use refusal::{Item, Refusal};
-pub use token::{Token, TokenWhat};
-pub use tree::{
-    CondText, DeclText, ExprText, FormText, Level, MarkText, Operator, Relation, RuleText, Sign,
-    StmtText, TermText, Text, TransformText, UseText, ViewText,
+pub use pb_syntax::{
+    CondText, DeclText, ExprText, FormText, Item, Level, MarkText, Name, Operator, Refusal,
+    Relation, RuleText, StmtText, TermText, Text, Token, TokenKind, TokenWhat, TransformText,
+    UnarySign, UseText, ViewText, kind_of, signs_are_those_listed,
 };
+pub use print::print_text;

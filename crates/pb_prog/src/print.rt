@@ -1,6 +1,6 @@
 ghost use Rattle.std.specs.Prelude.{◌≡◌, IfOk};
 ghost use Rattle.pb_prog.specs.Canonical.{canonical};
-ghost use Rattle.pb_prog.specs.Trees.{bare_text};
+ghost use Rattle.pb_syntax.specs.Trees.{bare_text};
 
 mod expression;
 mod form;
@@ -10,7 +10,7 @@ mod transform;
 mod view;
 mod writer;
 
-use crate::tree::Text;
+use pb_syntax::Text;
 use std::alloc::{AllocError, Global};
 use writer::Writer;
 

@@ -54,7 +54,7 @@ fn refused_rows() -> [Row; 6] {
             "",
             "P4 OverLimit: number at byte 19\n",
         ),
-        // The ninth term of a form, behind eight of two bytes each.
+        // The ninth term of a form, after eight of two bytes each.
         check(
             &[("p", "transform T from A[n+n+n+n+n+n+n+n+n]")],
             3,

@@ -10,7 +10,7 @@ use Rattle.pb_top.specs.declared.program.Sign.{Sign}
 use Rattle.pb_top.specs.declared.program.Sign.TheVariants.{Plus, Minus}
 use Rattle.pb_top.proofs.ProgramLemmas.{no_slice}
 
--- the tokens in front of the sum, its first term, and the tokens behind it
+-- the tokens in front of the sum, its first term, and the tokens after it
 pub record Parts (tokens : List (List ℕ)) (names : Names) : Type 0 where
   pub head : take 36 tokens ≡ head_of names
   pub source : get_or tokens 36 [] ≡ names.source
@@ -23,8 +23,8 @@ parts_framed tokens names long parts =
     let rest = take-append-drop (length tokens - 40) (drop 37 tokens) in
     let last = drop-drop (length tokens - 40) 37 tokens in
     let at : 37 + (length tokens - 40) ≡ length tokens - 3 = omega arith in
-    let behind : drop (length tokens - 40) (drop 37 tokens) ≡ tail_tokens = last ∙ ap (λ n. drop n tokens) at ∙ parts.tail in
-    let middle : middle_of tokens ++ tail_tokens ≡ drop 37 tokens = ap (λ t. middle_of tokens ++ t) (sym behind) ∙ rest in
+    let after : drop (length tokens - 40) (drop 37 tokens) ≡ tail_tokens = last ∙ ap (λ n. drop n tokens) at ∙ parts.tail in
+    let middle : middle_of tokens ++ tail_tokens ≡ drop 37 tokens = ap (λ t. middle_of tokens ++ t) (sym after) ∙ rest in
     let sum : drop 36 tokens ≡ names.source ∷ (middle_of tokens ++ tail_tokens) =
     first ∙ ap (λ s. s ∷ drop 37 tokens) parts.source ∙ ap (λ t. names.source ∷ t) (sym middle) in
     sym front ∙ ap (λ h. h ++ drop 36 tokens) parts.head ∙ ap (λ t. head_of names ++ t) sum

@@ -46,12 +46,12 @@ terms_of_more source (s ∷ signs) sign rest = ap (λ tokens. sign_token s ∷ s
 abbrev pub no_slice : Bor (List ℕ)
 no_slice = record { ref_ptr = (0, 0); now = [] }
 
--- what is left behind the first two slices
-abbrev pub behind_two : List (Bor (List ℕ)) → List (Bor (List ℕ))
-behind_two rest = take (length rest - 2) (drop 2 rest)
+-- what is left after the first two slices
+abbrev pub after_two : List (Bor (List ℕ)) → List (Bor (List ℕ))
+after_two rest = take (length rest - 2) (drop 2 rest)
 
 two_texts : (rest : List (Bor (List ℕ))) (d : Bor (List ℕ)) → 2 ≤ length rest
-    → texts_of rest ≡ (get_or rest 0 d).now ∷ (get_or rest 1 d).now ∷ texts_of (behind_two rest)
+    → texts_of rest ≡ (get_or rest 0 d).now ∷ (get_or rest 1 d).now ∷ texts_of (after_two rest)
 two_texts [] d some = absurd (omega arith)
 two_texts (x ∷ []) d some = absurd (omega arith)
 two_texts (x ∷ y ∷ rest) d some =
@@ -60,10 +60,10 @@ two_texts (x ∷ y ∷ rest) d some =
 -- one more term was read
 pub terms_read : (source : List ℕ) (all : List (List ℕ)) (signs more : List Sign) (sign : Sign) (rest : List (Bor (List ℕ))) (d : Bor (List ℕ))
     → 2 ≤ length rest → (get_or rest 0 d).now ≡ sign_token sign → (get_or rest 1 d).now ≡ source → more ≡ signs ++ sign ∷ []
-    → all ≡ terms_of source signs ++ texts_of rest → all ≡ terms_of source more ++ texts_of (behind_two rest)
+    → all ≡ terms_of source signs ++ texts_of rest → all ≡ terms_of source more ++ texts_of (after_two rest)
 terms_read source all signs more sign rest d some first second pushed read =
     let two = two_texts rest d some in
-    let step = terms_of_more source signs sign (texts_of (behind_two rest)) in
+    let step = terms_of_more source signs sign (texts_of (after_two rest)) in
     cc
 
 -- what terms begin with
@@ -78,9 +78,9 @@ terms_begin source first second rest ([], is) = cc
 terms_begin source first second rest (sign ∷ signs, is) = record { sign = sign; first_is = cc; second_is = cc; rest_are = (signs, cc) }
 
 pub terms_step : (source : List ℕ) (rest : List (Bor (List ℕ))) (d : Bor (List ℕ)) → 2 ≤ length rest → AreTerms source (texts_of rest)
-    → Steps source (get_or rest 0 d).now (get_or rest 1 d).now (texts_of (behind_two rest))
+    → Steps source (get_or rest 0 d).now (get_or rest 1 d).now (texts_of (after_two rest))
 terms_step source rest d some terms =
-    terms_begin source (get_or rest 0 d).now (get_or rest 1 d).now (texts_of (behind_two rest))
+    terms_begin source (get_or rest 0 d).now (get_or rest 1 d).now (texts_of (after_two rest))
     (subst (AreTerms source) (two_texts rest d some) terms)
 
 -- an odd token is left over

@@ -9,7 +9,7 @@ use Rattle.pb_top.specs.Command.{RunLine, Command, checks, runs, command_of, com
 use Rattle.pb_top.specs.Check.{CheckAnswers}
 use Rattle.pb_top.specs.OneRule.{RunsOneRule}
 
--- what the files of a command give, put behind what came before them
+-- what the files of a command give, put after what came before them
 abbrev pub and_more : List (List ℕ) → Result (List (List ℕ)) Reply → Result (List (List ℕ)) Reply
 and_more front (Ok rest) = Ok (front ++ rest)
 and_more front (Err reply) = Err reply

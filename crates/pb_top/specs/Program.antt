@@ -56,7 +56,7 @@ abbrev pub sign_token : Sign → List ℕ
 sign_token Plus = codes "+"
 sign_token Minus = codes "-"
 
--- the terms behind the first
+-- the terms after the first
 abbrev pub terms_of : List ℕ → List Sign → List (List ℕ)
 terms_of source signs = flat_map (λ sign. sign_token sign ∷ source ∷ []) signs
 

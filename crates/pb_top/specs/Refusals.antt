@@ -1,9 +1,9 @@
 -- The line on `err` for a program that is refused.
 use Rattle.std.specs.Prelude.{ℕ, List, [], ◌∷◌, ◌++◌, codes, decimal}
-use Rattle.pb_prog.specs.declared.refusal.Item.{Item}
-use Rattle.pb_prog.specs.declared.refusal.Item.TheVariants.{Transforms, Rules, Matrices, Sizes, Outputs, Reads, Conditions, Minimums, Targets, Arguments, Terms, Number, Statements, Nesting}
-use Rattle.pb_prog.specs.declared.refusal.Refusal.{Refusal}
-use Rattle.pb_prog.specs.declared.refusal.Refusal.TheVariants.{TooLong, BadToken, BadSyntax, OverLimit}
+use Rattle.pb_syntax.specs.declared.refusal.Item.{Item}
+use Rattle.pb_syntax.specs.declared.refusal.Item.TheVariants.{Transforms, Rules, Matrices, Sizes, Outputs, Reads, Conditions, Minimums, Targets, Arguments, Terms, Number, Statements, Nesting}
+use Rattle.pb_syntax.specs.declared.refusal.Refusal.{Refusal}
+use Rattle.pb_syntax.specs.declared.refusal.Refusal.TheVariants.{TooLong, BadToken, BadSyntax, OverLimit}
 
 -- the word for what is too many
 abbrev pub item_word : Item → List ℕ

@@ -23,7 +23,7 @@ pub enum Sign {
     Minus,
 }
 
-/// A program of one rule: the transform's name, and the signs of the terms behind the first.
+/// A program of one rule: the transform's name, and the signs of the terms after the first.
 #[derive(Drop)]
 pub struct OneRule<'a> {
     pub transform: &'a [u8],
@@ -235,7 +235,7 @@ fn sign_of(token: &[u8]) -> Option<Sign>
     }
 }
 
-// The signs of the terms behind the first, where the tokens are such terms.
+// The signs of the terms after the first, where the tokens are such terms.
 #[tactic(auto, using(crate::proofs::ProgramLemmas::terms_step))]
 fn read_signs(
     alloc: Global,
@@ -262,7 +262,7 @@ fn read_signs(
     Ok(None)
 }
 
-// Whether the tokens are those of a program with these names, but for what stands behind the sum's first term.
+// Whether the tokens are those of a program with these names, but for what stands after the sum's first term.
 fn is_framed(tokens: &[&[u8]], names: &Names<'_>) -> bool
     requires { FRAME_LEN ≤ length tokens.now }
     ensures { IsTrue result ↔ IsFramed (texts_of tokens.now) names.now }

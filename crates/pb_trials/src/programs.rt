@@ -84,8 +84,8 @@ fn says(alloc: Global, text: &str, expected: &str) -> Result<bool, AllocError> {
     Ok(found.as_str() == expected)
 }
 
-// Whether the tokens stop being the beginning of a program just behind this text, which is no program itself.
-fn stops_behind(alloc: Global, text: &str, further: &str) -> Result<bool, AllocError> {
+// Whether the tokens stop being the beginning of a program just after this text, which is no program itself.
+fn stops_after(alloc: Global, text: &str, further: &str) -> Result<bool, AllocError> {
     let at = text.len();
     let expected = format!(in alloc; "bad syntax at {at}")?;
     let longer = format!(in alloc; "{text}{further}")?;
@@ -96,7 +96,7 @@ fn stops_behind(alloc: Global, text: &str, further: &str) -> Result<bool, AllocE
 fn each_token_counts(alloc: Global, text: &str) -> Result<bool, AllocError> {
     let mut before = String::new(alloc);
     for token in text.split(' ') {
-        if !before.is_empty() && !stops_behind(alloc, before.as_str(), "transform")? {
+        if !before.is_empty() && !stops_after(alloc, before.as_str(), "transform")? {
             return Ok(false);
         }
         before.push_str(token)?;
@@ -107,21 +107,21 @@ fn each_token_counts(alloc: Global, text: &str) -> Result<bool, AllocError> {
 
 // Whether a text stops at its mark.
 fn stops_at_mark(alloc: Global, frame: &str, row: &str) -> Result<bool, AllocError> {
-    let Some((before, behind)) = row.split_once('^') else {
+    let Some((before, after)) = row.split_once('^') else {
         return Ok(false);
     };
     let text = format!(in alloc; "{frame}{before}")?;
-    stops_behind(alloc, text.as_str(), behind)
+    stops_after(alloc, text.as_str(), after)
 }
 
 // Whether a text that may have a mark has this fault there, or is accepted without one.
 fn has_at_mark(alloc: Global, text: &str, fault: &str) -> Result<bool, AllocError> {
-    let Some((before, behind)) = text.split_once('^') else {
+    let Some((before, after)) = text.split_once('^') else {
         return says(alloc, text, "accepted");
     };
     let at = before.len();
     let expected = format!(in alloc; "{fault} at {at}")?;
-    let unmarked = format!(in alloc; "{before}{behind}")?;
+    let unmarked = format!(in alloc; "{before}{after}")?;
     says(alloc, unmarked.as_str(), expected.as_str())
 }
 

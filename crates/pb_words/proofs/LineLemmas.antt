@@ -9,20 +9,20 @@ use Rattle.pb_words.specs.Line.{Asks, check, choices, run, tune, demo, Line, lea
 use Rattle.pb_words.proofs.OptionLemmas.{options_found, options_are_read}
 use Rattle.pb_words.proofs.AskLemmas.{asks_found, asks_are_read}
 
-pub fewer_others : (s : Settings) (behind : List (List ℕ)) (t : Settings) (others : List (List ℕ)) → options_read s None behind ≡ Some (t, others)
-    → length others ≤ length behind
-fewer_others s behind t others e =
-    let found = options_found s None behind t others e in
+pub fewer_others : (s : Settings) (after : List (List ℕ)) (t : Settings) (others : List (List ℕ)) → options_read s None after ≡ Some (t, others)
+    → length others ≤ length after
+fewer_others s after t others e =
+    let found = options_found s None after t others e in
     omega (arith, ap length found.parts, length-append found.option_words others)
 
 place_is : (n m k p : ℕ) → n ≡ suc m → m ≡ p + k → n - k ≡ suc p
 place_is n m k p e f = omega arith
 
-pub line_found : (words : List (List ℕ)) (n : ℕ) (command : List ℕ) (behind : List (List ℕ)) (s : Settings) (others : List (List ℕ)) (ask : Ask)
-    → words ≡ command ∷ behind → n ≡ length words → options_read no_settings None behind ≡ Some (s, others) → asked command s others ≡ Some ask
+pub line_found : (words : List (List ℕ)) (n : ℕ) (command : List ℕ) (after : List (List ℕ)) (s : Settings) (others : List (List ℕ)) (ask : Ask)
+    → words ≡ command ∷ after → n ≡ length words → options_read no_settings None after ≡ Some (s, others) → asked command s others ≡ Some ask
     → Line words ask (n - length others)
-line_found words n command behind s others ask split counted e asks =
-    let found = options_found no_settings None behind s others e in record {
+line_found words n command after s others ask split counted e asks =
+    let found = options_found no_settings None after s others e in record {
       command = command;
       option_words = found.option_words;
       options = found.options;
@@ -33,7 +33,7 @@ line_found words n command behind s others ask split counted e asks =
       given = found.given;
       ended = found.ended;
       asks = asks_found s ask command others asks;
-      placed = place_is n (length behind) (length others) (length found.option_words) (counted ∙ ap length split)
+      placed = place_is n (length after) (length others) (length found.option_words) (counted ∙ ap length split)
           (ap length found.parts ∙ length-append found.option_words others);
     }
 
@@ -49,27 +49,27 @@ line_enough line =
     omega (arith, others_enough line.asks, ap length line.parts, length-append line.option_words line.others, line.placed)
 
 -- what a line asks for and where its other words begin, once its options are read
-abbrev pub read_behind : List ℕ → ℕ → Option (Settings × List (List ℕ)) → Option (Ask × ℕ)
-read_behind command n read = option_and_then (λ u. option_map (λ a. (a, n - length u.1)) (asked command u.0 u.1)) read
+abbrev pub read_after : List ℕ → ℕ → Option (Settings × List (List ℕ)) → Option (Ask × ℕ)
+read_after command n read = option_and_then (λ u. option_map (λ a. (a, n - length u.1)) (asked command u.0 u.1)) read
 
 abbrev line_read : List (List ℕ) → Option (Ask × ℕ)
 line_read [] = None
-line_read (command ∷ behind) = read_behind command (suc (length behind)) (options_read no_settings None behind)
+line_read (command ∷ after) = read_after command (suc (length after)) (options_read no_settings None after)
 
 line_is_read : {words : List (List ℕ)} {ask : Ask} {place : ℕ} → Line words ask place → line_read words ≡ Some (ask, place)
 line_is_read {ask = ask} line =
     let n = suc (length (line.option_words ++ line.others)) in
     ap line_read line.parts
-    ∙ ap (read_behind line.command n) (options_are_read line.spelled no_settings line.settings line.others line.given line.ended)
+    ∙ ap (read_after line.command n) (options_are_read line.spelled no_settings line.settings line.others line.given line.ended)
     ∙ ap (option_map (λ a. (a, n - length line.others))) (asks_are_read line.asks)
     ∙ ap (λ (k : ℕ). Some (ask, k))
     (place_is n _ (length line.others) (length line.option_words) refl (length-append line.option_words line.others) ∙ sym line.placed)
 
-pub no_line : (words : List (List ℕ)) (command : List ℕ) (behind : List (List ℕ)) (read : Option (Settings × List (List ℕ)))
-    → words ≡ command ∷ behind → options_read no_settings None behind ≡ read → read_behind command (suc (length behind)) read ≡ None
+pub no_line : (words : List (List ℕ)) (command : List ℕ) (after : List (List ℕ)) (read : Option (Settings × List (List ℕ)))
+    → words ≡ command ∷ after → options_read no_settings None after ≡ read → read_after command (suc (length after)) read ≡ None
     → (ask : Ask) (place : ℕ) → Line words ask place → ⊥
-no_line words command behind read split is none ask place line =
-    none-some (ask, place) (sym (ap line_read split ∙ ap (read_behind command (suc (length behind))) is ∙ none) ∙ line_is_read line)
+no_line words command after read split is none ask place line =
+    none-some (ask, place) (sym (ap line_read split ∙ ap (read_after command (suc (length after))) is ∙ none) ∙ line_is_read line)
 
 pub one_reading : (words : List (List ℕ)) (first second : Ask) (place other : ℕ) → Line words first place → Line words second other
     → (first ≡ second) × (place ≡ other)

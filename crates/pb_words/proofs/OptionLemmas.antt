@@ -69,9 +69,9 @@ none_found s t words others ended e =
       ended = subst Ends parts.1 ended;
     }
 
-one_found : (s u t : Settings) (words behind others : List (List ℕ)) (option : Setting) → SpellOption words option → added s option ≡ Some u
-    → Found u behind t others → Found s (words ++ behind) t others
-one_found s u t words behind others option one fresh rest = record {
+one_found : (s u t : Settings) (words after others : List (List ℕ)) (option : Setting) → SpellOption words option → added s option ≡ Some u
+    → Found u after t others → Found s (words ++ after) t others
+one_found s u t words after others option one fresh rest = record {
   option_words = words ++ rest.option_words;
   options = option ∷ rest.options;
   parts = ap (λ (ws : List (List ℕ)). words ++ ws) rest.parts ∙ sym (append_assoc words rest.option_words others);
@@ -83,20 +83,20 @@ one_found s u t words behind others option one fresh rest = record {
 pub options_found : (s : Settings) (waits : Option (List ℕ)) (words : List (List ℕ)) (t : Settings) (others : List (List ℕ))
     → options_read s waits words ≡ Some (t, others) → Found s (before waits words) t others
 options_found s None [] t others e = none_found s t [] others tt e
-options_found s None (name ∷ behind) t others e =
+options_found s None (name ∷ after) t others e =
     elim (if_parts (is_option name) _ _ _ e) [
-      | inl p ↦ chosen (λ (n : List ℕ). Found s (n ∷ behind) t others) name (codes "--trace") _ _ _
-          (λ q. option_and_then_some (λ u. options_read u None behind) (added s Trace) (t, others) q
-          (λ u fresh more. one_found s u t _ behind others Trace trace_option fresh (options_found u None behind t others more)))
-          (options_found s (Some name) behind t others) p.1
-      | inr p ↦ none_found s t (name ∷ behind) others p.0 p.1
+      | inl p ↦ chosen (λ (n : List ℕ). Found s (n ∷ after) t others) name (codes "--trace") _ _ _
+          (λ q. option_and_then_some (λ u. options_read u None after) (added s Trace) (t, others) q
+          (λ u fresh more. one_found s u t _ after others Trace trace_option fresh (options_found u None after t others more)))
+          (options_found s (Some name) after t others) p.1
+      | inr p ↦ none_found s t (name ∷ after) others p.0 p.1
     ]
 options_found s (Some name) [] t others e = absurd (none-some (t, others) e)
-options_found s (Some name) (value ∷ behind) t others e =
-    option_and_then_some (λ u. options_read u None behind) (option_and_then (added s) (valued_option name value)) (t, others) e
+options_found s (Some name) (value ∷ after) t others e =
+    option_and_then_some (λ u. options_read u None after) (option_and_then (added s) (valued_option name value)) (t, others) e
     (λ u one more. option_and_then_some (added s) (valued_option name value) u one
-    (λ option spelt fresh. one_found s u t (name ∷ value ∷ []) behind others option (value_spelled name value option spelt) fresh
-    (options_found u None behind t others more)))
+    (λ option spelt fresh. one_found s u t (name ∷ value ∷ []) after others option (value_spelled name value option spelt) fresh
+    (options_found u None after t others more)))
 
 ends_read : (s : Settings) (others : List (List ℕ)) → Ends others → options_read s None others ≡ Some (s, others)
 ends_read s [] ended = refl

@@ -15,7 +15,7 @@ pub data SpellOption : List (List ℕ) → Setting → Type 0 where
   trace_option : SpellOption (codes "--trace" ∷ []) Trace
   up_to_option : {value : List ℕ} {n : ℕ} → number_within 1 1048576 value ≡ Some n → SpellOption (codes "--up-to" ∷ value ∷ []) (UpTo n)
 
--- just the words of these options, one behind the other
+-- just the words of these options, one after the other
 pub data SpellOptions : List (List ℕ) → List Setting → Type 0 where
   none : SpellOptions [] []
   one_more : {words rest : List (List ℕ)} {option : Setting} {options : List Setting}

@@ -18,17 +18,17 @@ valued_option name value =
     else (if bytes_eq name (codes "--pool") then option_map OnPool (pool_named value)
     else (if bytes_eq name (codes "--up-to") then option_map UpTo (number_within 1 1048576 value) else None))))
 
--- the options at the front, put to those that are given, and the words behind them; a name may wait for its value
+-- the options at the front, put to those that are given, and the words after them; a name may wait for its value
 abbrev pub options_read : Settings → Option (List ℕ) → List (List ℕ) → Option (Settings × List (List ℕ))
 options_read s None [] = Some (s, [])
-options_read s None (name ∷ behind) =
+options_read s None (name ∷ after) =
     if is_option name then
-    (if bytes_eq name (codes "--trace") then option_and_then (λ t. options_read t None behind) (added s Trace)
-    else options_read s (Some name) behind)
-    else Some (s, name ∷ behind)
+    (if bytes_eq name (codes "--trace") then option_and_then (λ t. options_read t None after) (added s Trace)
+    else options_read s (Some name) after)
+    else Some (s, name ∷ after)
 options_read s (Some name) [] = None
-options_read s (Some name) (value ∷ behind) =
-    option_and_then (λ t. options_read t None behind) (option_and_then (added s) (valued_option name value))
+options_read s (Some name) (value ∷ after) =
+    option_and_then (λ t. options_read t None after) (option_and_then (added s) (valued_option name value))
 
 abbrev pub program_asked : Ask → Settings → List (List ℕ) → Option Ask
 program_asked ask s (program ∷ []) = if is_empty s then Some ask else None

@@ -101,8 +101,8 @@ pub fn read_words(words: &[String]) -> Option<(Ask, usize)>
     ensures range { IfSome result (λ r. IsInRange r.0) }
     ensures none { IfNone result ((ask : Asked) (place : ℕ) → Line (map string_bytes words.now) ask place → ⊥) }
 {
-    let (command, behind) = words.split_first()?;
-    let (settings, others) = read_options(behind)?;
+    let (command, after) = words.split_first()?;
+    let (settings, others) = read_options(after)?;
     let ask = read_ask(command.as_str(), settings, others)?;
     Some((ask, words.len() - others.len()))
 }

@@ -107,7 +107,7 @@ fn read_valued(name: &str, value: &str) -> Option<Setting>
     }
 }
 
-/// The options that stand first among some words, and the words behind them.
+/// The options that stand first among some words, and the words after them.
 pub(crate) fn read_options(words: &[String]) -> Option<(Settings, &[String])>
     ensures ranges { IfSome result (λ found. HaveRanges found.0) }
     ensures read { MatchOption result (options_read no_settings None (map string_bytes words.now) ≡ None)
@@ -115,19 +115,19 @@ pub(crate) fn read_options(words: &[String]) -> Option<(Settings, &[String])>
 {
     let mut settings = Settings::none();
     let mut rest = words;
-    while let [name, behind @ ..] = rest {
+    while let [name, after @ ..] = rest {
         if !is_option(name.as_str()) {
             break;
         }
         if name.as_str() == "--trace" {
             settings = settings.with(Setting::Trace)?;
-            rest = behind;
+            rest = after;
         } else {
-            let [value, behind @ ..] = behind else {
+            let [value, after @ ..] = after else {
                 return None;
             };
             settings = settings.with(read_valued(name.as_str(), value.as_str())?)?;
-            rest = behind;
+            rest = after;
         }
     }
     Some((settings, rest))

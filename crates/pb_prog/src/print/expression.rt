@@ -4,7 +4,7 @@ ghost use Rattle.pb_prog.specs.Writing.{puts, expr_in, args_in, operands_in};
 
 use crate::print::sign;
 use crate::print::writer::Writer;
-use crate::tree::{ExprText, Operator, Relation, Sign};
+use pb_syntax::{ExprText, Operator, Relation, UnarySign};
 use pb_values::Name;
 use std::alloc::AllocError;
 
@@ -22,12 +22,12 @@ fn operator_sign(operator: Operator) -> u8
     }
 }
 
-fn unary_sign(sign: Sign) -> u8
+fn unary_sign(sign: UnarySign) -> u8
     ensures { result ≡ unary_sign sign }
 {
     match sign {
-        Sign::Minus => sign::MINUS,
-        Sign::Not => sign::NOT,
+        UnarySign::Minus => sign::MINUS,
+        UnarySign::Not => sign::NOT,
     }
 }
 

@@ -4,7 +4,7 @@ ghost use Rattle.pb_prog.specs.Writing.{puts, comma_unless, sign_unless};
 
 use crate::print::sign;
 use crate::print::writer::Writer;
-use crate::tree::{DeclText, FormText, TermText};
+use pb_syntax::{DeclText, FormText, TermText};
 use std::alloc::AllocError;
 
 impl Writer {

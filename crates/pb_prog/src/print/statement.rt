@@ -1,13 +1,13 @@
 ghost use Rattle.std.specs.Prelude.{◌≡◌, ◌∷◌, map, codes, OnOk};
-ghost use Rattle.pb_prog.specs.Exprs.{bare};
-ghost use Rattle.pb_prog.specs.Stmts.{let_number, let_matrix, assign, call_stmt, assign_cell};
+ghost use Rattle.pb_syntax.specs.Exprs.{bare};
+ghost use Rattle.pb_syntax.specs.Stmts.{let_number, let_matrix, assign, call_stmt, assign_cell};
 ghost use Rattle.pb_prog.specs.Spelling.{word, opening, closing, open_brace, close_brace, equals, dots, name_tokens, with_commas, stmt_tokens};
 ghost use Rattle.pb_prog.specs.Writing.{puts, expr_in, stmt_in, body_in, block_in};
 
-use crate::kind::Kind;
+use pb_syntax::TokenKind;
 use crate::print::sign;
 use crate::print::writer::Writer;
-use crate::tree::{ExprText, FormText, StmtText};
+use pb_syntax::{ExprText, FormText, StmtText};
 use pb_values::Name;
 use std::alloc::AllocError;
 
@@ -29,7 +29,7 @@ impl Writer {
     fn let_number(&mut self, name: &Name, value: &ExprText) -> Result<(), AllocError>
         ensures { OnOk result (self.new ≡ puts self.old (stmt_tokens (let_number 0 name.now (bare value.now)))) }
     {
-        self.keyword(Kind::Let, b"let")?;
+        self.keyword(TokenKind::Let, b"let")?;
         self.name(name)?;
         self.sign(sign::ASSIGN)?;
         self.expression(value)?;
@@ -40,7 +40,7 @@ impl Writer {
     fn let_matrix(&mut self, name: &Name, dims: &[FormText]) -> Result<(), AllocError>
         ensures { OnOk result (self.new ≡ puts self.old (stmt_tokens (let_matrix 0 name.now dims.now))) }
     {
-        self.keyword(Kind::Let, b"let")?;
+        self.keyword(TokenKind::Let, b"let")?;
         self.name(name)?;
         self.sign(sign::OPEN_BRACKET)?;
         self.forms(dims)?;
@@ -97,7 +97,7 @@ impl Writer {
     fn if_head(&mut self, test: &ExprText) -> Result<(), AllocError>
         ensures { OnOk result (self.new ≡ puts self.old (word (codes "if") ∷ opening ∷ expr_in test.now)) }
     {
-        self.keyword(Kind::If, b"if")?;
+        self.keyword(TokenKind::If, b"if")?;
         self.sign(sign::OPEN)?;
         self.expression(test)
     }
@@ -105,7 +105,7 @@ impl Writer {
     fn for_head(&mut self, name: &Name, start: &ExprText) -> Result<(), AllocError>
         ensures { OnOk result (self.new ≡ puts self.old (word (codes "for") ∷ opening ∷ word name.now.bytes ∷ equals ∷ expr_in start.now)) }
     {
-        self.keyword(Kind::For, b"for")?;
+        self.keyword(TokenKind::For, b"for")?;
         self.sign(sign::OPEN)?;
         self.name(name)?;
         self.sign(sign::ASSIGN)?;
@@ -121,7 +121,7 @@ impl Writer {
 
     /// Puts `)` and a block.
     #[cycle(statement)]
-    fn behind_head(&mut self, statements: &[StmtText]) -> Result<(), AllocError>
+    fn after_head(&mut self, statements: &[StmtText]) -> Result<(), AllocError>
         ensures { OnOk result (self.new ≡ puts self.old (closing ∷ block_in statements.now)) }
     {
         self.sign(sign::CLOSE)?;
@@ -144,7 +144,7 @@ impl Writer {
         ensures { OnOk result (self.new ≡ puts self.old (close_brace ∷ word (codes "else") ∷ block_in statements.now)) }
     {
         self.sign(sign::CLOSE_BRACE)?;
-        self.keyword(Kind::Else, b"else")?;
+        self.keyword(TokenKind::Else, b"else")?;
         self.block(statements)
     }
 
@@ -175,7 +175,7 @@ impl Writer {
             } => match otherwise {
                 None => {
                     self.if_head(test)?;
-                    self.behind_head(then)
+                    self.after_head(then)
                 }
                 Some(otherwise) => {
                     self.if_head(test)?;
@@ -192,7 +192,7 @@ impl Writer {
             } => {
                 self.for_head(name, start)?;
                 self.for_end(end)?;
-                self.behind_head(body)
+                self.after_head(body)
             }
         }
     }

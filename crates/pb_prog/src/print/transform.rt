@@ -2,10 +2,10 @@ ghost use Rattle.std.specs.Prelude.{◌≡◌, OnOk};
 ghost use Rattle.pb_prog.specs.Spelling.{minimum_tokens, minimums_tokens, through_tokens, with_commas, in_order};
 ghost use Rattle.pb_prog.specs.Writing.{puts, rule_in, transform_in};
 
-use crate::kind::Kind;
+use pb_syntax::TokenKind;
 use crate::print::sign;
 use crate::print::writer::Writer;
-use crate::tree::{DeclText, RuleText, TransformText};
+use pb_syntax::{DeclText, RuleText, TransformText};
 use pb_values::Name;
 use std::alloc::AllocError;
 
@@ -39,7 +39,7 @@ impl Writer {
         if minimums.is_empty() {
             return Ok(());
         }
-        self.keyword(Kind::Where, b"where")?;
+        self.keyword(TokenKind::Where, b"where")?;
         self.some_minimums(minimums)
     }
 
@@ -50,7 +50,7 @@ impl Writer {
         if decls.is_empty() {
             return Ok(());
         }
-        self.keyword(Kind::Through, b"through")?;
+        self.keyword(TokenKind::Through, b"through")?;
         self.decls(decls)
     }
 
@@ -59,11 +59,11 @@ impl Writer {
         ensures { OnOk result (self.new ≡ puts self.old (rule_in rule.now)) }
     {
         self.mark(rule.mark)?;
-        self.keyword(Kind::To, b"to")?;
+        self.keyword(TokenKind::To, b"to")?;
         self.sign(sign::OPEN)?;
         self.uses(&rule.outs)?;
         self.sign(sign::CLOSE)?;
-        self.keyword(Kind::From, b"from")?;
+        self.keyword(TokenKind::From, b"from")?;
         self.sign(sign::OPEN)?;
         self.uses(&rule.reads)?;
         self.sign(sign::CLOSE)?;
@@ -85,20 +85,20 @@ impl Writer {
     fn transform(&mut self, transform: &TransformText) -> Result<(), AllocError>
         ensures { OnOk result (self.new ≡ puts self.old (transform_in transform.now)) }
     {
-        self.keyword(Kind::Transform, b"transform")?;
+        self.keyword(TokenKind::Transform, b"transform")?;
         self.name(&transform.name)?;
         self.minimums(&transform.minimums)?;
-        self.keyword(Kind::From, b"from")?;
+        self.keyword(TokenKind::From, b"from")?;
         self.decls(&transform.from)?;
         self.through(&transform.through)?;
-        self.keyword(Kind::To, b"to")?;
+        self.keyword(TokenKind::To, b"to")?;
         self.decls(&transform.to)?;
         self.sign(sign::OPEN_BRACE)?;
         self.rules(&transform.rules)?;
         self.sign(sign::CLOSE_BRACE)
     }
 
-    /// Puts transforms one behind the other.
+    /// Puts transforms one after the other.
     #[tactic(auto, using(crate::proofs::WriterLemmas::order_more))]
     pub(crate) fn transforms(&mut self, transforms: &[TransformText]) -> Result<(), AllocError>
         ensures { OnOk result (self.new ≡ puts self.old (in_order transform_in transforms.now)) }

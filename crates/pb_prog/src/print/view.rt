@@ -1,13 +1,13 @@
 ghost use Rattle.std.specs.Prelude.{◌≡◌, [], ◌∷◌, ◌++◌, OnOk};
-ghost use Rattle.pb_prog.specs.declared.kind.Kind.TheVariants as k;
-ghost use Rattle.pb_prog.specs.Kinds.{word_kind};
+ghost use Rattle.pb_syntax.specs.declared.kind.TokenKind.TheVariants as k;
+ghost use Rattle.pb_syntax.specs.Kinds.{word_kind};
 ghost use Rattle.pb_prog.specs.Spelling.{word, sign_at, opening, comma, dot, with_commas, form_tokens, relation_sign, view_tokens, use_tokens, cond_tokens, conds_tokens, mark_tokens};
 ghost use Rattle.pb_prog.specs.Writing.{puts};
 
-use crate::kind::Kind;
+use pb_syntax::TokenKind;
 use crate::print::sign;
 use crate::print::writer::Writer;
-use crate::tree::{CondText, FormText, MarkText, Relation, UseText, ViewText};
+use pb_syntax::{CondText, FormText, MarkText, Relation, UseText, ViewText};
 use std::alloc::AllocError;
 
 fn relation_sign(relation: Relation) -> u8
@@ -39,10 +39,10 @@ impl Writer {
     {
         match mark {
             MarkText::Unmarked => Ok(()),
-            MarkText::Primary => self.keyword(Kind::Primary, b"primary"),
-            MarkText::Secondary => self.keyword(Kind::Secondary, b"secondary"),
+            MarkText::Primary => self.keyword(TokenKind::Primary, b"primary"),
+            MarkText::Secondary => self.keyword(TokenKind::Secondary, b"secondary"),
             MarkText::Priority(number) => {
-                self.keyword(Kind::Priority, b"priority")?;
+                self.keyword(TokenKind::Priority, b"priority")?;
                 self.sign(sign::OPEN)?;
                 self.number(number)?;
                 self.sign(sign::CLOSE)
@@ -56,7 +56,7 @@ impl Writer {
         ensures { OnOk result (self.new ≡ puts self.old (dot ∷ word name.now ∷ opening ∷ [])) }
     {
         self.sign(sign::DOT)?;
-        self.keyword(Kind::Name, name)?;
+        self.keyword(TokenKind::Name, name)?;
         self.sign(sign::OPEN)
     }
 
@@ -163,7 +163,7 @@ impl Writer {
         if conds.is_empty() {
             return Ok(());
         }
-        self.keyword(Kind::Where, b"where")?;
+        self.keyword(TokenKind::Where, b"where")?;
         self.some_conds(conds)
     }
 }

@@ -1,22 +1,22 @@
 ghost use Rattle.std.specs.Prelude.{◌≡◌, ◌+◌, ◌≤◌, ◌<◌, ◌^◌, ◌++◌, [], None, OnOk, length, slice_index_or};
-ghost use Rattle.pb_prog.specs.Canonical.{ends_line, joins_before, joins_behind, joins_both, joined, outside, indentation, space, depth_behind};
-ghost use Rattle.pb_prog.specs.Kinds.{word_kind};
-ghost use Rattle.pb_prog.specs.Signs.{signs};
+ghost use Rattle.pb_prog.specs.Canonical.{ends_line, joins_before, joins_after, joins_both, joined, outside, indentation, space, depth_after};
+ghost use Rattle.pb_syntax.specs.Kinds.{word_kind};
+ghost use Rattle.pb_syntax.specs.Signs.{signs};
 ghost use Rattle.pb_prog.specs.Spelling.{word, numeral, sign_at};
 ghost use Rattle.pb_prog.specs.Writing.{put, put_bytes};
 
-use crate::kind::{Kind, sign_kind, word_kind};
+use pb_syntax::{TokenKind, sign_kind, word_kind};
 use itoa::Buffer;
 use pb_values::Name;
 use std::alloc::{AllocError, Global};
 use std::marker::Model;
 
-/// Puts tokens one behind the other: the bytes so far, how many braces are open, and the last token.
+/// Puts tokens one after the other: the bytes so far, how many braces are open, and the last token.
 #[derive(Drop)]
 pub(crate) struct Writer {
     text: Vec<u8>,
     depth: usize,
-    last: Option<Kind>,
+    last: Option<TokenKind>,
 }
 
 impl Model for Writer {
@@ -30,53 +30,53 @@ impl Model for Writer {
     ghost invariant = { λ w. w.depth ≤ length w.text.items };
 }
 
-fn ends_line(kind: Kind) -> bool
+fn ends_line(kind: TokenKind) -> bool
     ensures { result ≡ ends_line kind }
 {
     match kind {
-        Kind::Semicolon | Kind::OpenBrace | Kind::CloseBrace => true,
+        TokenKind::Semicolon | TokenKind::OpenBrace | TokenKind::CloseBrace => true,
         _ => false,
     }
 }
 
-fn joins_before(kind: Kind) -> bool
+fn joins_before(kind: TokenKind) -> bool
     ensures { result ≡ joins_before kind }
 {
     match kind {
-        Kind::Comma
-        | Kind::Semicolon
-        | Kind::Close
-        | Kind::CloseBracket
-        | Kind::Dot
-        | Kind::OpenBracket => true,
+        TokenKind::Comma
+        | TokenKind::Semicolon
+        | TokenKind::Close
+        | TokenKind::CloseBracket
+        | TokenKind::Dot
+        | TokenKind::OpenBracket => true,
         _ => false,
     }
 }
 
-fn joins_behind(kind: Kind) -> bool
-    ensures { result ≡ joins_behind kind }
+fn joins_after(kind: TokenKind) -> bool
+    ensures { result ≡ joins_after kind }
 {
     match kind {
-        Kind::Open | Kind::OpenBracket | Kind::Dot => true,
+        TokenKind::Open | TokenKind::OpenBracket | TokenKind::Dot => true,
         _ => false,
     }
 }
 
-fn joins_both(kind: Kind, next: Kind) -> bool
+fn joins_both(kind: TokenKind, next: TokenKind) -> bool
     ensures { result ≡ joins_both kind next }
 {
     match (kind, next) {
-        (Kind::Name, Kind::Open) => true,
-        (Kind::Priority, Kind::Open) => true,
+        (TokenKind::Name, TokenKind::Open) => true,
+        (TokenKind::Priority, TokenKind::Open) => true,
         _ => false,
     }
 }
 
 /// Whether no blank stands between two tokens of a line.
-fn joined(kind: Kind, next: Kind) -> bool
+fn joined(kind: TokenKind, next: TokenKind) -> bool
     ensures { result ≡ joined kind next }
 {
-    if joins_behind(kind) {
+    if joins_after(kind) {
         return true;
     }
     if joins_before(next) {
@@ -85,22 +85,22 @@ fn joined(kind: Kind, next: Kind) -> bool
     joins_both(kind, next)
 }
 
-fn outside(depth: usize, next: Kind) -> usize
+fn outside(depth: usize, next: TokenKind) -> usize
     ensures { result ≡ outside depth next }
 {
     match next {
-        Kind::CloseBrace => depth.saturating_sub(1),
+        TokenKind::CloseBrace => depth.saturating_sub(1),
         _ => depth,
     }
 }
 
-fn depth_behind(depth: usize, kind: Kind) -> usize
+fn depth_after(depth: usize, kind: TokenKind) -> usize
     requires { depth + 1 < 2 ^ 64 }
-    ensures { result ≡ depth_behind depth kind }
+    ensures { result ≡ depth_after depth kind }
 {
     match kind {
-        Kind::OpenBrace => depth + 1,
-        Kind::CloseBrace => depth.saturating_sub(1),
+        TokenKind::OpenBrace => depth + 1,
+        TokenKind::CloseBrace => depth.saturating_sub(1),
         _ => depth,
     }
 }
@@ -121,8 +121,8 @@ fn write_indentation(text: &mut Vec<u8>, depth: usize) -> Result<(), AllocError>
 fn write_space(
     text: &mut Vec<u8>,
     depth: usize,
-    last: Option<Kind>,
-    next: Kind,
+    last: Option<TokenKind>,
+    next: TokenKind,
 ) -> Result<(), AllocError>
     ensures written { OnOk result (text.new.items ≡ text.old.items ++ space depth last next) }
     ensures kept { length text.old.items ≤ length text.new.items }
@@ -194,7 +194,7 @@ impl Writer {
     }
 
     /// Puts a token of this kind with these bytes.
-    fn put(&mut self, kind: Kind, bytes: &[u8]) -> Result<(), AllocError>
+    fn put(&mut self, kind: TokenKind, bytes: &[u8]) -> Result<(), AllocError>
         ensures { OnOk result (self.new ≡ put_bytes self.old kind bytes.now) }
     {
         write_space(&mut self.text, self.depth, self.last, kind)?;
@@ -202,14 +202,14 @@ impl Writer {
         if ends_line(kind) {
             self.text.push(b'\n')?;
         }
-        self.depth = depth_behind(self.depth, kind);
+        self.depth = depth_after(self.depth, kind);
         self.last = Some(kind);
         Ok(())
     }
 
     /// Puts a keyword.
     #[tactic(auto, unfolding(crate::specs::Writing::put))]
-    pub(crate) fn keyword(&mut self, kind: Kind, bytes: &[u8]) -> Result<(), AllocError>
+    pub(crate) fn keyword(&mut self, kind: TokenKind, bytes: &[u8]) -> Result<(), AllocError>
         requires { word_kind bytes.now ≡ kind }
         ensures { OnOk result (self.new ≡ put self.old (word bytes.now)) }
     {
@@ -230,7 +230,7 @@ impl Writer {
         ensures { OnOk result (self.new ≡ put self.old (numeral value)) }
     {
         let mut buffer = Buffer::new();
-        self.put(Kind::Number, buffer.format(value).as_bytes())
+        self.put(TokenKind::Number, buffer.format(value).as_bytes())
     }
 
     /// Puts the sign at this place in the list of signs.

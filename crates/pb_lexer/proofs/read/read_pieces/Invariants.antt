@@ -1,5 +1,5 @@
 use Rattle.std.proofs.Common.{◌≤◌, ◌-◌, length, take, drop}
-use Rattle.pb_prog.specs.Tokens.{Pieces}
+use Rattle.pb_syntax.specs.Tokens.{Pieces}
 use Rattle.pb_lexer.proofs.read.read_pieces.Given as goal
 
 abbrev pub invariant-loop-at : goal.invariant-loop-at

@@ -5,7 +5,7 @@ use Rattle.pb_matrix.specs.Reading.{body_read}
 use Rattle.pb_matrix.proofs.BodyLemmas.{read_on}
 use Rattle.pb_matrix.proofs.read.read_body.Given as goal
 
--- what the rest says, put behind what was read, is what the whole body says
+-- what the rest says, put after what was read, is what the whole body says
 abbrev pub invariant-loop-word : goal.invariant-loop-word
 invariant-loop-word l =
     (l.wanted ≡ cell_count l.shape) × (length l.cells.items ≤ l.wanted)

@@ -1,9 +1,9 @@
 use Rattle.std.proofs.Common.{◌≡◌, ◌+◌, ◌<◌, ◌≤◌, List, length}
-use Rattle.pb_prog.specs.Forms.{DeclValue}
-use Rattle.pb_parser.specs.Want.{Want, decls, more_decls}
-use Rattle.pb_prog.specs.Limits.{counted}
-use Rattle.pb_parser.specs.Dims.{sizes_known}
-use Rattle.pb_parser.specs.Reading.{read}
+use Rattle.pb_syntax.specs.Forms.{DeclValue}
+use Rattle.pb_grammar.specs.Want.{Want, decls, more_decls}
+use Rattle.pb_syntax.specs.Limits.{counted}
+use Rattle.pb_body_parser.specs.Dims.{sizes_known}
+use Rattle.pb_grammar.specs.Reading.{read}
 use Rattle.pb_parser.proofs.decl.decls.Given as goal
 
 abbrev pub invariant-loop-found : goal.invariant-loop-found

@@ -1,7 +1,7 @@
 use Rattle.std.proofs.Common.{◌≡◌, ◌<◌, ℕ, List, [], ◌∷◌, length}
 use Rattle.pb_values.specs.Name.{NameValue}
-use Rattle.pb_parser.specs.Want.{Want, minimum, more_minimums}
-use Rattle.pb_parser.specs.Reading.{read}
+use Rattle.pb_grammar.specs.Want.{Want, minimum, more_minimums}
+use Rattle.pb_grammar.specs.Reading.{read}
 use Rattle.pb_parser.proofs.decl.some_minimums.Given as goal
 
 abbrev pub invariant-loop-cursor : goal.invariant-loop-cursor

@@ -1,7 +1,7 @@
 use Rattle.std.proofs.Common.{◌≡◌, ◌<◌, List, [], ◌∷◌, length}
-use Rattle.pb_prog.specs.declared.tree.view.CondText.{CondText}
-use Rattle.pb_parser.specs.Want.{Want, condition, more_conditions}
-use Rattle.pb_parser.specs.Reading.{read}
+use Rattle.pb_syntax.specs.declared.tree.view.CondText.{CondText}
+use Rattle.pb_grammar.specs.Want.{Want, condition, more_conditions}
+use Rattle.pb_grammar.specs.Reading.{read}
 use Rattle.pb_parser.proofs.rule.some_conditions.Given as goal
 
 abbrev pub invariant-loop-cursor : goal.invariant-loop-cursor

@@ -1,7 +1,7 @@
 use Rattle.std.proofs.Common.{◌≡◌, ◌<◌, List, length}
-use Rattle.pb_prog.specs.declared.tree.view.UseText.{UseText}
-use Rattle.pb_parser.specs.Want.{Want, uses, more_uses}
-use Rattle.pb_parser.specs.Reading.{read}
+use Rattle.pb_syntax.specs.declared.tree.view.UseText.{UseText}
+use Rattle.pb_grammar.specs.Want.{Want, uses, more_uses}
+use Rattle.pb_grammar.specs.Reading.{read}
 use Rattle.pb_parser.proofs.rule.uses.Given as goal
 
 abbrev pub invariant-loop-cursor : goal.invariant-loop-cursor

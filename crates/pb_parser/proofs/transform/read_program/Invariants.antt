@@ -1,7 +1,7 @@
 use Rattle.std.proofs.Common.{◌≡◌, length, map}
-use Rattle.pb_prog.specs.Trees.{bare_transform}
-use Rattle.pb_parser.specs.Want.{program, more_transforms}
-use Rattle.pb_parser.specs.Reading.{read}
+use Rattle.pb_syntax.specs.Trees.{bare_transform}
+use Rattle.pb_grammar.specs.Want.{program, more_transforms}
+use Rattle.pb_grammar.specs.Reading.{read}
 use Rattle.pb_parser.proofs.transform.read_program.Given as goal
 
 abbrev pub invariant-loop-cursor : goal.invariant-loop-cursor

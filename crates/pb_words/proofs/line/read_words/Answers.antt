@@ -18,7 +18,7 @@ returns-in_err-ask-clause-none c =
 
 pub overflow_sub-result : goal.overflow_sub-result
 overflow_sub-result c =
-    let fewer : length (map string_bytes c.in_ok-settings.others.now) ≤ length (map string_bytes c.in_ok-command.behind.now) =
+    let fewer : length (map string_bytes c.in_ok-settings.others.now) ≤ length (map string_bytes c.in_ok-command.after.now) =
     fewer_others _ _ _ _ c.in_ok-settings.ensures.read in
     omega (arith, c.in_ok-command.ensures.cases.1, simp length-map at fewer)
 

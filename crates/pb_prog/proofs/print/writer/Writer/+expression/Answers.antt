@@ -1,6 +1,6 @@
 use Rattle.std.proofs.Common.{◌≡◌, ◌∷◌, ◌++◌, map, ap, ◌∙◌, rules}
-use Rattle.pb_prog.specs.declared.tree.expression.ExprText.{Chain, Compare, the_lemmas}
-use Rattle.pb_prog.specs.Exprs.{bare, chain, compare, operands}
+use Rattle.pb_syntax.specs.declared.tree.expression.ExprText.{Chain, Compare, the_lemmas}
+use Rattle.pb_syntax.specs.Exprs.{bare, chain, compare, operands}
 use Rattle.pb_prog.specs.Spelling.{sign_at, relation_sign, expr_tokens}
 use Rattle.pb_prog.specs.Writing.{expr_in, operands_in}
 use Rattle.pb_prog.proofs.WriterLemmas.{two_steps}

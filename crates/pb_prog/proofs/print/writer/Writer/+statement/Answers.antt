@@ -1,7 +1,7 @@
 use Rattle.std.proofs.Common.{◌≡◌, ◌∷◌, ◌++◌, Some, None, codes, map, ap, ◌∙◌, rules}
-use Rattle.pb_prog.specs.declared.tree.statement.StmtText.{If, For, the_lemmas}
-use Rattle.pb_prog.specs.Exprs.{bare}
-use Rattle.pb_prog.specs.Stmts.{bare_stmt, if_stmt, if_else, for_stmt, stmts}
+use Rattle.pb_syntax.specs.declared.tree.statement.StmtText.{If, For, the_lemmas}
+use Rattle.pb_syntax.specs.Exprs.{bare}
+use Rattle.pb_syntax.specs.Stmts.{bare_stmt, if_stmt, if_else, for_stmt, stmts}
 use Rattle.pb_prog.specs.Spelling.{word, opening, closing, open_brace, close_brace, equals, dots, stmt_tokens}
 use Rattle.pb_prog.specs.Writing.{expr_in, stmt_in, body_in, block_in}
 use Rattle.pb_prog.proofs.WriterLemmas.{two_steps, three_steps}
@@ -16,7 +16,7 @@ statement-returns-in_ok-if_head-in-None t c =
     let first = word (codes "if") ∷ opening ∷ expr_in a.test in
     let second = closing ∷ block_in a.then.items in
     let parts : stmt_in c.args.statement.now ≡ first ++ second = ap stmt_in whole ∙ ap stmt_tokens seen in
-    two_steps c.behind_head.result c.args.self.now c.if_head.new.self c.behind_head.new.self first second (stmt_in c.args.statement.now) parts (search rules) (search rules)
+    two_steps c.after_head.result c.args.self.now c.if_head.new.self c.after_head.new.self first second (stmt_in c.args.statement.now) parts (search rules) (search rules)
 
 pub statement-returns-in_ok-then-in-Some : goal.statement-returns-in_ok-then-in-Some
 unfolding stmt_tokens stmt_in expr_in body_in
@@ -41,5 +41,5 @@ statement-returns-in_ok-for_end-in-For t c =
     let second = dots ∷ expr_in a.end in
     let third = closing ∷ block_in a.body.items in
     let parts : stmt_in c.args.statement.now ≡ first ++ (second ++ third) = ap stmt_in a.is ∙ ap stmt_tokens seen in
-    three_steps c.behind_head-in-For.result c.args.self.now c.for_head.new.self c.for_end.new.self c.behind_head-in-For.new.self first second third (stmt_in c.args.statement.now)
+    three_steps c.after_head-in-For.result c.args.self.now c.for_head.new.self c.for_end.new.self c.after_head-in-For.new.self first second third (stmt_in c.args.statement.now)
     parts (search rules) (search rules) (search rules)

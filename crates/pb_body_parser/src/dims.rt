@@ -1,0 +1,131 @@
+ghost use Rattle.std.specs.Prelude.{◌≡◌, ◌<◌, ◌≤◌, length, None, OnOk, IfOk, IfErr};
+ghost use Rattle.pb_body_parser.specs.declared.fault.Fault.TheVariants.{Memory};
+ghost use Rattle.pb_grammar.specs.Want.{form, dims_known, after_dim, last_dim};
+ghost use Rattle.pb_syntax.specs.Limits.{after_form, alone, is_known};
+ghost use Rattle.pb_body_parser.specs.Dims.{name_seen, names_of, sizes_known, after_dims, Counts};
+ghost use Rattle.pb_body_parser.specs.Leads.{Leads, LeadsOn};
+
+use crate::cursor::Cursor;
+use crate::fault::Fault;
+use crate::form::form;
+use pb_syntax::{FormText, Item, TokenKind, Name};
+use std::alloc::Global;
+
+const MOST_SIZES: usize = 8;
+
+/// The name that a form is, if it is a name alone.
+fn alone(form: &FormText) -> Option<&Name>
+    ensures { name_seen result ≡ alone form.now }
+{
+    if form.minus {
+        return None;
+    }
+    match form.terms.as_slice() {
+        [only] => {
+            if only.factor != 1 {
+                return None;
+            }
+            if only.quotient != 0 {
+                return None;
+            }
+            only.name.as_ref()
+        }
+        _ => None,
+    }
+}
+
+fn is_known(name: &Name, known: &Vec<Name>) -> bool
+    ensures { result ≡ is_known name.now.bytes (names_of known.now.items) }
+{
+    for other in known {
+        if name.bytes() == other.bytes() {
+            return true;
+        }
+    }
+    false
+}
+
+/// Counts a dimension that is a name alone, where names are counted.
+fn count(alloc: Global, known: &mut Option<Vec<Name>>, form: &FormText) -> Result<(), Fault>
+    ensures { Counts result (sizes_known known.old) form.now (sizes_known known.new) }
+{
+    let Some(names) = known else {
+        return Ok(());
+    };
+    let Some(name) = alone(form) else {
+        return Ok(());
+    };
+    if is_known(name, names) {
+        return Ok(());
+    }
+    if names.len() >= MOST_SIZES {
+        return Err(Fault::OverLimit {
+            what: Item::Sizes,
+            at: name.at(),
+        });
+    }
+    names.push(Name::new(name.bytes().to_vec(alloc)?, name.at()))?;
+    Ok(())
+}
+
+#[tactic(auto, using(crate::proofs::DimLemmas::close_over))]
+fn last_dim(
+    alloc: Global,
+    cursor: &mut Cursor<'_>,
+    known: &mut Option<Vec<Name>>,
+    form: &FormText,
+) -> Result<(), Fault>
+    ensures leads { LeadsOn result (last_dim (sizes_known known.old) form.now) cursor.old cursor.new }
+    ensures counted { OnOk result (sizes_known known.new ≡ after_form (sizes_known known.old) form.now) }
+    ensures shorter { OnOk result (length cursor.new.rest.now < length cursor.old.rest.now) }
+{
+    match cursor.peek() {
+        TokenKind::CloseBracket => {
+            count(alloc, known, form)?;
+            cursor.take();
+            Ok(())
+        }
+        _ => Err(cursor.bad()),
+    }
+}
+
+/// The dimensions of a matrix after `[`, and the `]`. Where names are counted, those that stand alone are added to
+/// `known`, which may hold 8.
+#[tactic(auto, using(crate::proofs::DimLemmas::dim_last, crate::proofs::DimLemmas::comma_over))]
+pub(crate) fn counted_dims(
+    alloc: Global,
+    cursor: &mut Cursor<'_>,
+    known: &mut Option<Vec<Name>>,
+) -> Result<Vec<FormText>, Fault>
+    ensures leads { Leads (λ v. v.items) result (dims_known (sizes_known known.old)) cursor.old cursor.new }
+    ensures counted { IfOk result (λ v. sizes_known known.new ≡ after_dims (sizes_known known.old) v.items) }
+    ensures shorter { OnOk result (length cursor.new.rest.now < length cursor.old.rest.now) }
+{
+    let mut dims = Vec::new(alloc);
+    let first = form(alloc, cursor)?;
+    match cursor.peek() {
+        TokenKind::Comma => {
+            count(alloc, known, &first)?;
+            cursor.take();
+            let second = form(alloc, cursor)?;
+            last_dim(alloc, cursor, known, &second)?;
+            dims.push(first)?;
+            dims.push(second)?;
+            Ok(dims)
+        }
+        _ => {
+            last_dim(alloc, cursor, known, &first)?;
+            dims.push(first)?;
+            Ok(dims)
+        }
+    }
+}
+
+/// The dimensions of a matrix after `[`, and the `]`.
+pub(crate) fn dims(alloc: Global, cursor: &mut Cursor<'_>) -> Result<Vec<FormText>, Fault>
+    ensures leads { Leads (λ v. v.items) result (λ f. form (λ e. after_dim None e f)) cursor.old cursor.new }
+    ensures shorter { OnOk result (length cursor.new.rest.now < length cursor.old.rest.now) }
+{
+    let mut known = None;
+    counted_dims(alloc, cursor, &mut known)
+}

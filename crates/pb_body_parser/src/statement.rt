@@ -1,0 +1,392 @@
+ghost use Rattle.std.specs.Prelude.{◌≡◌, ◌≤◌, ◌<◌, ◌+◌, [], ◌∷◌, ℕ, length, Err, Some, OnOk, IfOk, IfErr};
+ghost use Rattle.pb_syntax.specs.declared.kind.TokenKind.TheVariants as k;
+ghost use Rattle.pb_syntax.specs.declared.refusal.Item.TheVariants.{Statements, Targets};
+ghost use Rattle.pb_body_parser.specs.declared.fault.Fault.TheVariants.{Memory};
+ghost use Rattle.pb_syntax.specs.Exprs.{bare};
+ghost use Rattle.pb_syntax.specs.Stmts.{StmtTree, bare_stmt};
+ghost use Rattle.pb_grammar.specs.Numbers.{begins_statement};
+ghost use Rattle.pb_body_parser.specs.Bare.{bares, bare_stmts};
+ghost use Rattle.pb_grammar.specs.Want.{Want, begin, name_token, statements, statement, block, after_let, after_target, more_targets, called, after_dot, after_if, after_for, otherwise, dimensions};
+ghost use Rattle.pb_syntax.specs.Limits.{limited};
+ghost use Rattle.pb_body_parser.specs.Leads.{Leads, LeadsCounted, Fails, told, from};
+
+use crate::bracket::{name, open, sign, word};
+use crate::cursor::{Cursor, name_in};
+use crate::dims::dims;
+use crate::expression::{coordinates, expression, some_arguments};
+use crate::fault::Fault;
+use crate::make::{
+    assign, assign_cell, call_statement, for_each, if_holds, if_or_else, let_matrix, let_number,
+};
+use pb_syntax::{ExprText, FormText, Item, TokenKind, Name, StmtText};
+use std::alloc::Global;
+
+const MOST_TARGETS: usize = 16;
+
+const MOST_STATEMENTS: u32 = 256;
+
+fn begins_statement(kind: TokenKind) -> bool
+    ensures { result ≡ begins_statement kind }
+{
+    match kind {
+        TokenKind::Let | TokenKind::Name | TokenKind::If | TokenKind::For => true,
+        _ => false,
+    }
+}
+
+/// The dimensions of a matrix of a body.
+#[tactic(auto, unfolding(pb_grammar::specs::Want::dimensions))]
+fn dimensions(alloc: Global, cursor: &mut Cursor<'_>) -> Result<Vec<FormText>, Fault>
+    ensures leads { Leads (λ v. v.items) result dimensions cursor.old cursor.new }
+    ensures shorter { OnOk result (length cursor.new.rest.now < length cursor.old.rest.now) }
+{
+    dims(alloc, cursor)
+}
+
+/// A number or a matrix under a name, after `let`, which is at `at`.
+#[tactic(auto, using(crate::proofs::ReadLemmas::fails_then))]
+fn after_let(
+    alloc: Global,
+    cursor: &mut Cursor<'_>,
+    depth: u32,
+    at: u32,
+    name: Name,
+) -> Result<StmtText, Fault>
+    requires nested { depth ≤ 32 }
+    ensures leads { Leads bare_stmt result (after_let depth at name) cursor.old cursor.new }
+    ensures shorter { OnOk result (length cursor.new.rest.now < length cursor.old.rest.now) }
+{
+    match cursor.peek() {
+        TokenKind::Assign => {
+            cursor.take();
+            let value = expression(alloc, cursor, depth)?;
+            sign(cursor, TokenKind::Semicolon)?;
+            Ok(let_number(at, name, value))
+        }
+        TokenKind::OpenBracket => {
+            cursor.take();
+            let found = dimensions(alloc, cursor)?;
+            sign(cursor, TokenKind::Semicolon)?;
+            Ok(let_matrix(at, name, found))
+        }
+        _ => Err(cursor.bad()),
+    }
+}
+
+/// A value, a cell's value or a call, after the first name.
+#[tactic(auto, using(crate::proofs::ReadLemmas::fails_then))]
+fn after_target(
+    alloc: Global,
+    cursor: &mut Cursor<'_>,
+    depth: u32,
+    target: Name,
+) -> Result<StmtText, Fault>
+    requires nested { depth ≤ 32 }
+    ensures leads { Leads bare_stmt result (after_target depth target) cursor.old cursor.new }
+    ensures shorter { OnOk result (length cursor.new.rest.now < length cursor.old.rest.now) }
+{
+    match cursor.peek() {
+        TokenKind::Assign => {
+            cursor.take();
+            let value = expression(alloc, cursor, depth)?;
+            sign(cursor, TokenKind::Semicolon)?;
+            Ok(assign(target, value))
+        }
+        TokenKind::Comma => {
+            cursor.take();
+            let second = name(alloc, cursor)?;
+            let found = two_names(alloc, target, second)?;
+            more_targets(alloc, cursor, depth, found)
+        }
+        TokenKind::Dot => {
+            cursor.take();
+            after_dot(alloc, cursor, depth, target)
+        }
+        _ => Err(cursor.bad()),
+    }
+}
+
+fn two_names(alloc: Global, first: Name, second: Name) -> Result<Vec<Name>, Fault>
+    ensures made { IfOk result (λ v. v.items ≡ first ∷ second ∷ []) }
+    ensures memory { IfErr result (λ e. e ≡ Memory) }
+{
+    let mut found = Vec::new(alloc);
+    found.push(first)?;
+    found.push(second)?;
+    Ok(found)
+}
+
+/// A cell's value, after the `.`.
+#[tactic(auto, using(crate::proofs::ReadLemmas::fails_then), unfolding(pb_grammar::specs::Want::after_dot))]
+fn after_dot(
+    alloc: Global,
+    cursor: &mut Cursor<'_>,
+    depth: u32,
+    target: Name,
+) -> Result<StmtText, Fault>
+    requires nested { depth ≤ 32 }
+    ensures leads { Leads bare_stmt result (after_dot depth target) cursor.old cursor.new }
+    ensures shorter { OnOk result (length cursor.new.rest.now < length cursor.old.rest.now) }
+{
+    word(cursor, b"cell".as_slice())?;
+    let place = coordinates(alloc, cursor, depth)?;
+    sign(cursor, TokenKind::Assign)?;
+    let value = expression(alloc, cursor, depth)?;
+    sign(cursor, TokenKind::Semicolon)?;
+    Ok(assign_cell(target, place, value))
+}
+
+/// A target after `,` where there are so many before.
+#[tactic(auto, using(crate::proofs::ReadLemmas::unlimited, crate::proofs::ReadLemmas::over_token, crate::proofs::ReadLemmas::bad_token, crate::proofs::ReadLemmas::leads_on), unfolding(pb_grammar::specs::Want::name_token))]
+fn next_target(alloc: Global, cursor: &mut Cursor<'_>, before: usize) -> Result<Name, Fault>
+    ensures leads { Leads (λ n. n) result (λ f. begin (limited 16 before Targets) (name_token f)) cursor.old cursor.new }
+    ensures shorter { OnOk result (length cursor.new.rest.now < length cursor.old.rest.now) }
+{
+    if before < MOST_TARGETS {
+        return name(alloc, cursor);
+    }
+    if cursor.sees(TokenKind::Name) {
+        return Err(cursor.over(Item::Targets));
+    }
+    Err(cursor.bad())
+}
+
+/// All targets, and the call whose results they get.
+#[tactic(auto, using(crate::proofs::ReadLemmas::fails_then, crate::proofs::GrammarLemmas::more_targets_else))]
+fn more_targets(
+    alloc: Global,
+    cursor: &mut Cursor<'_>,
+    depth: u32,
+    first: Vec<Name>,
+) -> Result<StmtText, Fault>
+    requires nested { depth ≤ 32 }
+    ensures leads { Leads bare_stmt result (more_targets depth first.items) cursor.old cursor.new }
+    ensures shorter { OnOk result (length cursor.new.rest.now < length cursor.old.rest.now) }
+{
+    let mut found = first;
+    while let TokenKind::Comma = cursor.peek() {
+        cursor.take();
+        let next = next_target(alloc, cursor, found.len())?;
+        found.push(next)?;
+    }
+    sign(cursor, TokenKind::Assign)?;
+    called(alloc, cursor, depth, found)
+}
+
+/// The call whose results the targets get.
+#[tactic(auto, using(crate::proofs::ReadLemmas::fails_then), unfolding(pb_grammar::specs::Want::called))]
+fn called(
+    alloc: Global,
+    cursor: &mut Cursor<'_>,
+    depth: u32,
+    targets: Vec<Name>,
+) -> Result<StmtText, Fault>
+    requires nested { depth ≤ 32 }
+    ensures leads { Leads bare_stmt result (called depth targets.items) cursor.old cursor.new }
+    ensures shorter { OnOk result (length cursor.new.rest.now < length cursor.old.rest.now) }
+{
+    let called = name(alloc, cursor)?;
+    let inside = open(cursor, TokenKind::Open, depth)?;
+    let found = some_arguments(alloc, cursor, inside)?;
+    sign(cursor, TokenKind::Semicolon)?;
+    Ok(call_statement(targets, called, found))
+}
+
+/// Statements in braces.
+#[cycle(statements)]
+#[tactic(auto, using(crate::proofs::ReadLemmas::fails_then), unfolding(pb_grammar::specs::Want::block))]
+fn block(
+    alloc: Global,
+    cursor: &mut Cursor<'_>,
+    depth: u32,
+    count: &mut u32,
+) -> Result<Vec<StmtText>, Fault>
+    requires nested { depth ≤ 32 }
+    requires few { count.now ≤ 256 }
+    ensures leads { LeadsCounted (λ v. bare_stmts v.items) result (block depth count.old) cursor.old cursor.new count.new }
+    ensures counted { OnOk result (count.new ≤ 256) }
+    ensures shorter { OnOk result (length cursor.new.rest.now < length cursor.old.rest.now) }
+{
+    let inside = open(cursor, TokenKind::OpenBrace, depth)?;
+    statements(alloc, cursor, inside, count)
+}
+
+/// A test and what hangs on it, after `if`, which is at `at`.
+#[cycle(statements)]
+#[tactic(auto, using(crate::proofs::ReadLemmas::fails_then), unfolding(pb_grammar::specs::Want::after_if))]
+fn after_if(
+    alloc: Global,
+    cursor: &mut Cursor<'_>,
+    depth: u32,
+    count: &mut u32,
+    at: u32,
+) -> Result<StmtText, Fault>
+    requires nested { depth ≤ 32 }
+    requires few { count.now ≤ 256 }
+    ensures leads { LeadsCounted bare_stmt result (after_if depth count.old at) cursor.old cursor.new count.new }
+    ensures counted { OnOk result (count.new ≤ 256) }
+    ensures shorter { OnOk result (length cursor.new.rest.now < length cursor.old.rest.now) }
+{
+    let inside = open(cursor, TokenKind::Open, depth)?;
+    let test = expression(alloc, cursor, inside)?;
+    sign(cursor, TokenKind::Close)?;
+    let then = block(alloc, cursor, depth, count)?;
+    otherwise(alloc, cursor, depth, count, at, test, then)
+}
+
+/// What is done where the test doesn't hold, if anything.
+#[cycle(statements)]
+#[tactic(auto, using(crate::proofs::ReadLemmas::fails_then))]
+fn otherwise(
+    alloc: Global,
+    cursor: &mut Cursor<'_>,
+    depth: u32,
+    count: &mut u32,
+    at: u32,
+    test: ExprText,
+    then: Vec<StmtText>,
+) -> Result<StmtText, Fault>
+    requires nested { depth ≤ 32 }
+    requires few { count.now ≤ 256 }
+    ensures leads { LeadsCounted bare_stmt result (otherwise depth count.old at (bare test) (bare_stmts then.items)) cursor.old cursor.new count.new }
+    ensures counted { OnOk result (count.new ≤ 256) }
+    ensures shorter { OnOk result (length cursor.new.rest.now ≤ length cursor.old.rest.now) }
+{
+    match cursor.peek() {
+        TokenKind::Else => {
+            cursor.take();
+            let other = block(alloc, cursor, depth, count)?;
+            Ok(if_or_else(at, test, then, other))
+        }
+        _ => Ok(if_holds(at, test, then)),
+    }
+}
+
+/// A range of numbers and what is done for each, after `for`, which is at `at`.
+#[cycle(statements)]
+#[tactic(auto, using(crate::proofs::ReadLemmas::fails_then), unfolding(pb_grammar::specs::Want::after_for))]
+fn after_for(
+    alloc: Global,
+    cursor: &mut Cursor<'_>,
+    depth: u32,
+    count: &mut u32,
+    at: u32,
+) -> Result<StmtText, Fault>
+    requires nested { depth ≤ 32 }
+    requires few { count.now ≤ 256 }
+    ensures leads { LeadsCounted bare_stmt result (after_for depth count.old at) cursor.old cursor.new count.new }
+    ensures counted { OnOk result (count.new ≤ 256) }
+    ensures shorter { OnOk result (length cursor.new.rest.now < length cursor.old.rest.now) }
+{
+    let inside = open(cursor, TokenKind::Open, depth)?;
+    let index = name(alloc, cursor)?;
+    sign(cursor, TokenKind::Assign)?;
+    let start = expression(alloc, cursor, inside)?;
+    sign(cursor, TokenKind::Dots)?;
+    let end = expression(alloc, cursor, inside)?;
+    sign(cursor, TokenKind::Close)?;
+    let body = block(alloc, cursor, depth, count)?;
+    Ok(for_each(at, index, start, end, body))
+}
+
+/// One statement.
+#[cycle(statements)]
+#[tactic(auto, using(crate::proofs::ReadLemmas::fails_then))]
+fn statement(
+    alloc: Global,
+    cursor: &mut Cursor<'_>,
+    depth: u32,
+    count: &mut u32,
+) -> Result<StmtText, Fault>
+    requires nested { depth ≤ 32 }
+    requires few { count.now < 256 }
+    ensures leads { LeadsCounted bare_stmt result (statement depth count.old) cursor.old cursor.new count.new }
+    ensures counted { OnOk result (count.new ≤ 256) }
+    ensures shorter { OnOk result (length cursor.new.rest.now < length cursor.old.rest.now) }
+{
+    let kind = cursor.peek();
+    let at = cursor.place();
+    match kind {
+        TokenKind::Let => {
+            cursor.take();
+            *count += 1;
+            let of = name(alloc, cursor)?;
+            after_let(alloc, cursor, depth, at, of)
+        }
+        TokenKind::Name => {
+            let target = name_in(alloc, cursor.take())?;
+            *count += 1;
+            after_target(alloc, cursor, depth, target)
+        }
+        TokenKind::If => {
+            cursor.take();
+            *count += 1;
+            after_if(alloc, cursor, depth, count, at)
+        }
+        TokenKind::For => {
+            cursor.take();
+            *count += 1;
+            after_for(alloc, cursor, depth, count, at)
+        }
+        _ => Err(cursor.bad()),
+    }
+}
+
+/// The refusal where no more statements may follow.
+#[tactic(auto, using(crate::proofs::ReadLemmas::fails_then))]
+fn too_many(cursor: &Cursor<'_>) -> Fault
+    ensures refused { Fails result ((d n : ℕ) (f : StmtTree → ℕ → Want) →
+        told (from cursor.now (begin (Some Statements) (statement d n f))) ≡ Err result) }
+{
+    if begins_statement(cursor.peek()) {
+        return cursor.over(Item::Statements);
+    }
+    cursor.bad()
+}
+
+/// One statement where so many of the body began before.
+#[cycle(statements)]
+#[tactic(auto, using(crate::proofs::ReadLemmas::fails_then, crate::proofs::ReadLemmas::unlimited, crate::proofs::ReadLemmas::is_some))]
+fn next_statement(
+    alloc: Global,
+    cursor: &mut Cursor<'_>,
+    depth: u32,
+    count: &mut u32,
+) -> Result<StmtText, Fault>
+    requires nested { depth ≤ 32 }
+    requires few { count.now ≤ 256 }
+    ensures leads { LeadsCounted bare_stmt result (λ f. begin (limited 256 count.old Statements) (statement depth count.old f)) cursor.old cursor.new count.new }
+    ensures counted { OnOk result (count.new ≤ 256) }
+    ensures shorter { OnOk result (length cursor.new.rest.now < length cursor.old.rest.now) }
+{
+    if *count < MOST_STATEMENTS {
+        return statement(alloc, cursor, depth, count);
+    }
+    Err(too_many(cursor))
+}
+
+/// Statements up to the `}`, where so many `(` and `{` are open and so many statements of the body began before.
+#[cycle(statements)]
+#[tactic(auto, using(crate::proofs::ReadLemmas::fails_then, crate::proofs::GrammarLemmas::statements_else))]
+pub(crate) fn statements(
+    alloc: Global,
+    cursor: &mut Cursor<'_>,
+    depth: u32,
+    count: &mut u32,
+) -> Result<Vec<StmtText>, Fault>
+    requires nested { depth ≤ 32 }
+    requires few { count.now ≤ 256 }
+    ensures leads { LeadsCounted (λ v. bare_stmts v.items) result (statements depth count.old []) cursor.old cursor.new count.new }
+    ensures counted { OnOk result (count.new ≤ 256) }
+    ensures shorter { OnOk result (length cursor.new.rest.now < length cursor.old.rest.now) }
+{
+    let mut found = Vec::new(alloc);
+    loop {
+        if let TokenKind::CloseBrace = cursor.peek() {
+            cursor.take();
+            return Ok(found);
+        }
+        let next = next_statement(alloc, cursor, depth, count)?;
+        found.push(next)?;
+    }
+}

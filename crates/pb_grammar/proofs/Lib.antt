@@ -1,0 +1,12 @@
+mod Endings
+pub mod Exact
+mod ExprLaws
+mod FormLaws
+mod HeaderLaws
+mod Keeps
+mod ProgramLaws
+mod Spelled
+mod Steps
+mod StmtLaws
+mod Taken
+mod ViewLaws

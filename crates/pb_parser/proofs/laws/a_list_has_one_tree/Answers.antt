@@ -1,5 +1,0 @@
-use Rattle.pb_parser.proofs.Exact.{one_tree}
-use Rattle.pb_parser.proofs.laws.a_list_has_one_tree.Goals as goal
-
-pub returns : goal.returns
-returns c = one_tree

@@ -1,0 +1,17 @@
+ghost use Rattle.std.specs.Prelude.{◌≡◌};
+ghost use Rattle.pb_parser.specs.Gives.{refused_with};
+
+use pb_body_parser::Fault;
+use pb_syntax::{Refusal, Text};
+
+/// The tree, or the refusal that a fault is.
+pub(crate) fn refused_with(read: Result<Text, Fault>) -> Result<Text, Refusal>
+    ensures { result ≡ refused_with read }
+{
+    match read {
+        Ok(text) => Ok(text),
+        Err(Fault::BadSyntax { at }) => Err(Refusal::BadSyntax { at }),
+        Err(Fault::OverLimit { what, at }) => Err(Refusal::OverLimit { what, at }),
+        Err(Fault::Memory) => Err(Refusal::Memory),
+    }
+}

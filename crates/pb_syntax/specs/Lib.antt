@@ -1,0 +1,16 @@
+pub mod Bytes
+pub mod Exprs
+pub mod Faults
+pub mod Forms
+pub mod Grammar
+pub mod Kinds
+pub mod Limits
+pub mod Operators
+pub mod Places
+pub mod Rules
+pub mod Signs
+pub mod Stmts
+pub mod Tokens
+pub mod TooMany
+pub mod Transforms
+pub mod Trees
