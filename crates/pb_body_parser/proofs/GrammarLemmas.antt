@@ -13,7 +13,7 @@ use Rattle.pb_syntax.specs.Stmts.{StmtTree}
 use Rattle.pb_syntax.specs.Exprs.{ExprTree, call, cell, width, height, parentheses, exprs}
 use Rattle.pb_grammar.specs.Next.{next_kind, next_place, next_is, word_is}
 use Rattle.pb_grammar.specs.Want.{Want, statements, statement, more_targets, called, begin, product, total, compared, conjunction, expression, line, operand, more_operands, coordinates, after_coordinate, some_arguments, arguments, more_arguments, factor, primary, after_name, member, bracket, a_sign}
-use Rattle.pb_syntax.specs.Limits.{limited}
+use Rattle.pb_syntax.specs.Limits.{limited, over}
 use Rattle.pb_grammar.specs.Reading.{take, refuse, read, step}
 use Rattle.pb_body_parser.specs.Leads.{told, from}
 use Rattle.pb_body_parser.specs.declared.cursor.Cursor.{Cursor}
@@ -109,12 +109,12 @@ member_else end [] d n f c w h = refl
 member_else end (t ∷ ts) d n f c w h = ap told (same_step end t ts {y = refuse} (member_kind d n f (kind_of t) t ∙ rw (c, w, h) refl))
 
 statements_step : (d n : ℕ) (found : List StmtTree) (f : List StmtTree → ℕ → Want) (kind : TokenKind) (t : Token) → kind ≢ k.CloseBrace →
-    step (statements d n found f) kind t ≡ step (begin (limited 256 n item.Statements) (statement d n (λ s m. statements d m (found ++ s ∷ []) f))) kind t
+    step (statements d n found f) kind t ≡ step (begin (over item.Statements n) (statement d n (λ s m. statements d m (found ++ s ∷ []) f))) kind t
 statements_step d n found f k.CloseBrace t h = absurd (h refl)
 statements_step d n found f _ t h = refl
 
 pub statements_else : (end : ℕ) (ts : List Token) (d n : ℕ) (found : List StmtTree) (f : List StmtTree → ℕ → Want) → next_kind ts ≢ k.CloseBrace →
-    read end ts (statements d n found f) ≡ read end ts (begin (limited 256 n item.Statements) (statement d n (λ s m. statements d m (found ++ s ∷ []) f)))
+    read end ts (statements d n found f) ≡ read end ts (begin (over item.Statements n) (statement d n (λ s m. statements d m (found ++ s ∷ []) f)))
 statements_else end [] d n found f h = refl
 statements_else end (t ∷ ts) d n found f h = same_step end t ts (statements_step d n found f (kind_of t) t h)
 
@@ -130,6 +130,6 @@ more_targets_else end (t ∷ ts) d ns f h = same_step end t ts (more_targets_ste
 
 -- a statement was read, and the others follow
 pub statement_read : (before after : Cursor) (d n m : ℕ) (found : List StmtTree) (s : StmtTree) (f : List StmtTree → ℕ → Want) → next_kind before.rest.now ≢ k.CloseBrace →
-    ((g : StmtTree → ℕ → Want) → from before (begin (limited 256 n item.Statements) (statement d n g)) ≡ from after (g s m)) →
+    ((g : StmtTree → ℕ → Want) → from before (begin (over item.Statements n) (statement d n g)) ≡ from after (g s m)) →
     from before (statements d n found f) ≡ from after (statements d m (found ++ s ∷ []) f)
 statement_read before after d n m found s f h p = statements_else before.end before.rest.now d n found f h ∙ p (λ s m. statements d m (found ++ s ∷ []) f)

@@ -1,6 +1,6 @@
 -- What the functions of the parser promise: whatever is wanted afterwards, reading from where they began is reading
 -- from where they ended.
-use Rattle.std.specs.Prelude.{◌≡◌, ℕ, List, [], ◌∷◌, ◌++◌, Option, Some, None, Result, Ok, Err}
+use Rattle.std.specs.Prelude.{◌≡◌, ℕ, ◌≤◌, ◌<◌, List, [], ◌∷◌, ◌++◌, length, OnOk, Option, Some, None, Result, Ok, Err}
 use Rattle.pb_body_parser.specs.declared.fault.Fault.{Fault}
 use Rattle.pb_body_parser.specs.declared.fault.Fault.TheVariants.{BadSyntax, OverLimit, Memory}
 use Rattle.pb_syntax.specs.declared.tree.expression.Level.{Level}
@@ -68,3 +68,11 @@ Members None before after = (d : ℕ) (n : NameValue) (f : ExprTree → Want) �
 abbrev pub LeadsOn : {A : Type 0} → Result A Fault → (Want → Want) → Cursor → Cursor → Type 0
 LeadsOn {A} (Ok x) want before after = (w : Want) → from before (want w) ≡ from after w
 LeadsOn {A} (Err e) want before after = Fails e ((w : Want) → told (from before (want w)) ≡ Err e)
+
+-- tokens were consumed, if nothing failed
+abbrev pub Shortens : {A : Type 0} → Result A Fault → Cursor → Cursor → Type 0
+Shortens result before after = OnOk result (length after.rest.now < length before.rest.now)
+
+-- there may be fewer tokens left, and never more
+abbrev pub NeverGrows : {A : Type 0} → Result A Fault → Cursor → Cursor → Type 0
+NeverGrows result before after = OnOk result (length after.rest.now ≤ length before.rest.now)

@@ -3,17 +3,15 @@ ghost use Rattle.pb_body_parser.specs.declared.fault.Fault.TheVariants.{Memory};
 ghost use Rattle.pb_grammar.specs.Want.{form, dims_known, after_dim, last_dim};
 ghost use Rattle.pb_syntax.specs.Limits.{after_form, alone, is_known};
 ghost use Rattle.pb_body_parser.specs.Dims.{name_seen, names_of, sizes_known, after_dims, Counts};
-ghost use Rattle.pb_body_parser.specs.Leads.{Leads, LeadsOn};
+ghost use Rattle.pb_body_parser.specs.Leads.{Leads, LeadsOn, Shortens};
 
 use crate::cursor::Cursor;
 use crate::fault::Fault;
-use crate::form::form;
-use pb_syntax::{FormText, Item, TokenKind, Name};
+use crate::forms::form;
+use pb_syntax::{FormText, Item, MOST_SIZES, Name, TokenKind};
 use std::alloc::Global;
 
-const MOST_SIZES: usize = 8;
-
-/// The name that a form is, if it is a name alone.
+/// The name, if the form is a lone name.
 fn alone(form: &FormText) -> Option<&Name>
     ensures { name_seen result ≡ alone form.now }
 {
@@ -45,7 +43,7 @@ fn is_known(name: &Name, known: &Vec<Name>) -> bool
     false
 }
 
-/// Counts a dimension that is a name alone, where names are counted.
+/// Counts a dimension that is a lone name, if names are counted; `OverLimit` if it is a size too many.
 fn count(alloc: Global, known: &mut Option<Vec<Name>>, form: &FormText) -> Result<(), Fault>
     ensures { Counts result (sizes_known known.old) form.now (sizes_known known.new) }
 {
@@ -77,7 +75,7 @@ fn last_dim(
 ) -> Result<(), Fault>
     ensures leads { LeadsOn result (last_dim (sizes_known known.old) form.now) cursor.old cursor.new }
     ensures counted { OnOk result (sizes_known known.new ≡ after_form (sizes_known known.old) form.now) }
-    ensures shorter { OnOk result (length cursor.new.rest.now < length cursor.old.rest.now) }
+    ensures shorter { Shortens result cursor.old cursor.new }
 {
     match cursor.peek() {
         TokenKind::CloseBracket => {
@@ -89,17 +87,17 @@ fn last_dim(
     }
 }
 
-/// The dimensions of a matrix after `[`, and the `]`. Where names are counted, those that stand alone are added to
-/// `known`, which may hold 8.
+/// The dimensions of a matrix after its `[`, up to and with the `]`. If names are counted, those that stand alone are added
+/// to `known`.
 #[tactic(auto, using(crate::proofs::DimLemmas::dim_last, crate::proofs::DimLemmas::comma_over))]
-pub(crate) fn counted_dims(
+pub fn counted_dims(
     alloc: Global,
     cursor: &mut Cursor<'_>,
     known: &mut Option<Vec<Name>>,
 ) -> Result<Vec<FormText>, Fault>
     ensures leads { Leads (λ v. v.items) result (dims_known (sizes_known known.old)) cursor.old cursor.new }
     ensures counted { IfOk result (λ v. sizes_known known.new ≡ after_dims (sizes_known known.old) v.items) }
-    ensures shorter { OnOk result (length cursor.new.rest.now < length cursor.old.rest.now) }
+    ensures shorter { Shortens result cursor.old cursor.new }
 {
     let mut dims = Vec::new(alloc);
     let first = form(alloc, cursor)?;
@@ -121,10 +119,10 @@ pub(crate) fn counted_dims(
     }
 }
 
-/// The dimensions of a matrix after `[`, and the `]`.
-pub(crate) fn dims(alloc: Global, cursor: &mut Cursor<'_>) -> Result<Vec<FormText>, Fault>
+/// The dimensions of a matrix after its `[`, up to and with the `]`; names aren't counted.
+pub fn dims(alloc: Global, cursor: &mut Cursor<'_>) -> Result<Vec<FormText>, Fault>
     ensures leads { Leads (λ v. v.items) result (λ f. form (λ e. after_dim None e f)) cursor.old cursor.new }
-    ensures shorter { OnOk result (length cursor.new.rest.now < length cursor.old.rest.now) }
+    ensures shorter { Shortens result cursor.old cursor.new }
 {
     let mut known = None;
     counted_dims(alloc, cursor, &mut known)

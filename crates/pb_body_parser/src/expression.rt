@@ -3,13 +3,13 @@ ghost use Rattle.pb_syntax.specs.declared.kind.TokenKind.TheVariants as k;
 ghost use Rattle.pb_syntax.specs.declared.refusal.Item.TheVariants.{Arguments};
 ghost use Rattle.pb_syntax.specs.Exprs.{ExprTree, bare};
 ghost use Rattle.pb_syntax.specs.Kinds.{name_in, number_in};
-ghost use Rattle.pb_grammar.specs.Numbers.{begins_expression};
+ghost use Rattle.pb_grammar.specs.Starts.{begins_expression};
 ghost use Rattle.pb_syntax.specs.Operators.{operator_of, relation_of};
 ghost use Rattle.pb_grammar.specs.Next.{next_kind, next_place};
 ghost use Rattle.pb_body_parser.specs.Bare.{bares, bare_operands};
 ghost use Rattle.pb_grammar.specs.Want.{Want, begin, primary, after_name, member, arguments, more_arguments, coordinates, after_coordinate, factor, operand, compared, expression, line, some_arguments, bracket, a_sign};
-ghost use Rattle.pb_syntax.specs.Limits.{limited};
-ghost use Rattle.pb_body_parser.specs.Leads.{Leads, LeadsOn, Fails, told, from, Operators, Relations, Members};
+ghost use Rattle.pb_syntax.specs.Limits.{over};
+ghost use Rattle.pb_body_parser.specs.Leads.{Leads, LeadsOn, Fails, told, from, Operators, Relations, Members, Shortens, NeverGrows};
 
 use crate::bracket::{name, open, sign};
 use crate::cursor::{Cursor, name_in, number_in};
@@ -17,10 +17,8 @@ use crate::fault::Fault;
 use crate::make::{
     call, cell, chained, compared, height, named, number, one, parentheses, signed, two, width,
 };
-use pb_syntax::{ExprText, Item, TokenKind, Level, Name, Operator, Relation, UnarySign};
+use pb_syntax::{ExprText, Item, Level, MOST_ARGUMENTS, MOST_NESTING, Name, Operator, Relation, TokenKind, UnarySign};
 use std::alloc::Global;
-
-const MOST_ARGUMENTS: usize = 16;
 
 /// What may stand after a view's `.`.
 #[derive(Clone, Copy)]
@@ -68,7 +66,7 @@ fn begins_expression(kind: TokenKind) -> bool
     }
 }
 
-/// Takes the next token if it is an operator of this line.
+/// Consumes the next token if it is an operator of this precedence level.
 fn take_operator(cursor: &mut Cursor<'_>, level: Level) -> Option<Operator>
     ensures leads { Operators result level cursor.old cursor.new }
     ensures not_longer { length cursor.new.rest.now ≤ length cursor.old.rest.now }
@@ -81,7 +79,7 @@ fn take_operator(cursor: &mut Cursor<'_>, level: Level) -> Option<Operator>
     found
 }
 
-/// Takes the next token if it is a relation.
+/// Consumes the next token if it is a relation.
 fn take_relation(cursor: &mut Cursor<'_>) -> Option<Relation>
     ensures leads { Relations result cursor.old cursor.new }
     ensures not_longer { length cursor.new.rest.now ≤ length cursor.old.rest.now }
@@ -94,7 +92,7 @@ fn take_relation(cursor: &mut Cursor<'_>) -> Option<Relation>
     found
 }
 
-/// Takes the next token if it is one of the names that may stand after a view's `.`.
+/// Consumes the next token if it is one of the names that may stand after a view's `.`.
 #[tactic(auto, using(crate::proofs::ReadLemmas::fails_then, crate::proofs::GrammarLemmas::member_cell, crate::proofs::GrammarLemmas::member_width, crate::proofs::GrammarLemmas::member_height, crate::proofs::GrammarLemmas::member_else, crate::proofs::ReadLemmas::next_is_not_end))]
 fn take_member(cursor: &mut Cursor<'_>) -> Option<Part>
     ensures leads { Members result cursor.old cursor.new }
@@ -120,9 +118,9 @@ fn take_member(cursor: &mut Cursor<'_>) -> Option<Part>
 #[cycle(expression)]
 #[tactic(auto, using(crate::proofs::ReadLemmas::fails_then, crate::proofs::GrammarLemmas::primary_open))]
 fn primary(alloc: Global, cursor: &mut Cursor<'_>, depth: u32) -> Result<ExprText, Fault>
-    requires nested { depth ≤ 32 }
+    requires nested { depth ≤ MOST_NESTING }
     ensures leads { Leads bare result (primary depth) cursor.old cursor.new }
-    ensures shorter { OnOk result (length cursor.new.rest.now < length cursor.old.rest.now) }
+    ensures shorter { Shortens result cursor.old cursor.new }
 {
     match cursor.peek() {
         TokenKind::Number => {
@@ -153,9 +151,9 @@ fn after_name(
     depth: u32,
     name: Name,
 ) -> Result<ExprText, Fault>
-    requires nested { depth ≤ 32 }
+    requires nested { depth ≤ MOST_NESTING }
     ensures leads { Leads bare result (after_name depth name) cursor.old cursor.new }
-    ensures shorter { OnOk result (length cursor.new.rest.now ≤ length cursor.old.rest.now) }
+    ensures no_longer { NeverGrows result cursor.old cursor.new }
 {
     match cursor.peek() {
         TokenKind::Open => {
@@ -175,9 +173,9 @@ fn after_name(
 #[cycle(expression)]
 #[tactic(auto, using(crate::proofs::ReadLemmas::fails_then))]
 fn member(alloc: Global, cursor: &mut Cursor<'_>, depth: u32, view: Name) -> Result<ExprText, Fault>
-    requires nested { depth ≤ 32 }
+    requires nested { depth ≤ MOST_NESTING }
     ensures leads { Leads bare result (member depth view) cursor.old cursor.new }
-    ensures shorter { OnOk result (length cursor.new.rest.now < length cursor.old.rest.now) }
+    ensures shorter { Shortens result cursor.old cursor.new }
 {
     match take_member(cursor) {
         Some(Part::Cell) => {
@@ -199,9 +197,9 @@ fn member(alloc: Global, cursor: &mut Cursor<'_>, depth: u32, view: Name) -> Res
 /// `(` and `)`.
 #[tactic(auto, using(crate::proofs::ReadLemmas::fails_then))]
 fn nothing(cursor: &mut Cursor<'_>, depth: u32) -> Result<(), Fault>
-    requires nested { depth ≤ 32 }
+    requires nested { depth ≤ MOST_NESTING }
     ensures leads { LeadsOn result (λ w. bracket depth k.Open (a_sign k.Close w)) cursor.old cursor.new }
-    ensures shorter { OnOk result (length cursor.new.rest.now < length cursor.old.rest.now) }
+    ensures shorter { Shortens result cursor.old cursor.new }
 {
     open(cursor, TokenKind::Open, depth)?;
     sign(cursor, TokenKind::Close)
@@ -210,14 +208,14 @@ fn nothing(cursor: &mut Cursor<'_>, depth: u32) -> Result<(), Fault>
 /// One or two coordinates in parentheses.
 #[cycle(expression)]
 #[tactic(auto, using(crate::proofs::ReadLemmas::fails_then, crate::proofs::GrammarLemmas::coordinate_else), unfolding(pb_grammar::specs::Want::coordinates))]
-pub(crate) fn coordinates(
+pub fn coordinates(
     alloc: Global,
     cursor: &mut Cursor<'_>,
     depth: u32,
 ) -> Result<Vec<ExprText>, Fault>
-    requires nested { depth ≤ 32 }
+    requires nested { depth ≤ MOST_NESTING }
     ensures leads { Leads (λ v. bares v.items) result (coordinates depth) cursor.old cursor.new }
-    ensures shorter { OnOk result (length cursor.new.rest.now < length cursor.old.rest.now) }
+    ensures shorter { Shortens result cursor.old cursor.new }
 {
     let depth = open(cursor, TokenKind::Open, depth)?;
     let x = expression(alloc, cursor, depth)?;
@@ -231,13 +229,13 @@ pub(crate) fn coordinates(
     one(alloc, x)
 }
 
-/// The arguments of a call in an expression, after `(`.
+/// The arguments of a call in an expression, after its `(`.
 #[cycle(expression)]
 #[tactic(auto, using(crate::proofs::ReadLemmas::fails_then, crate::proofs::GrammarLemmas::arguments_else, crate::proofs::ReadLemmas::leads_on))]
 fn arguments(alloc: Global, cursor: &mut Cursor<'_>, depth: u32) -> Result<Vec<ExprText>, Fault>
-    requires nested { depth ≤ 32 }
+    requires nested { depth ≤ MOST_NESTING }
     ensures leads { Leads (λ v. bares v.items) result (arguments depth) cursor.old cursor.new }
-    ensures shorter { OnOk result (length cursor.new.rest.now < length cursor.old.rest.now) }
+    ensures shorter { Shortens result cursor.old cursor.new }
 {
     if let TokenKind::Close = cursor.peek() {
         cursor.take();
@@ -246,7 +244,7 @@ fn arguments(alloc: Global, cursor: &mut Cursor<'_>, depth: u32) -> Result<Vec<E
     some_arguments(alloc, cursor, depth)
 }
 
-/// The refusal where no more arguments may follow, after `,`.
+/// The fault after a `,` if no more arguments may follow.
 #[tactic(auto, using(crate::proofs::ReadLemmas::fails_then), unfolding(pb_grammar::specs::Want::expression, pb_grammar::specs::Want::conjunction, pb_grammar::specs::Want::compared, pb_grammar::specs::Want::total, pb_grammar::specs::Want::product))]
 fn too_many(cursor: &Cursor<'_>) -> Fault
     ensures refused { Fails result ((d : ℕ) (f : ExprTree → Want) →
@@ -258,7 +256,7 @@ fn too_many(cursor: &Cursor<'_>) -> Fault
     cursor.bad()
 }
 
-/// An argument after `,` where there are so many before.
+/// The next argument, after its `,`; `OverLimit` if there are as many as may be.
 #[cycle(expression)]
 #[tactic(auto, using(crate::proofs::ReadLemmas::fails_then, crate::proofs::ReadLemmas::unlimited, crate::proofs::ReadLemmas::is_some))]
 fn next_argument(
@@ -267,9 +265,9 @@ fn next_argument(
     depth: u32,
     before: usize,
 ) -> Result<ExprText, Fault>
-    requires nested { depth ≤ 32 }
-    ensures leads { Leads bare result (λ f. begin (limited 16 before Arguments) (expression depth f)) cursor.old cursor.new }
-    ensures shorter { OnOk result (length cursor.new.rest.now < length cursor.old.rest.now) }
+    requires nested { depth ≤ MOST_NESTING }
+    ensures leads { Leads bare result (λ f. begin (over Arguments before) (expression depth f)) cursor.old cursor.new }
+    ensures shorter { Shortens result cursor.old cursor.new }
 {
     if before < MOST_ARGUMENTS {
         return expression(alloc, cursor, depth);
@@ -280,14 +278,14 @@ fn next_argument(
 /// One argument and all that follow, to the `)`.
 #[cycle(expression)]
 #[tactic(auto, using(crate::proofs::ReadLemmas::fails_then, crate::proofs::GrammarLemmas::more_arguments_else), unfolding(pb_grammar::specs::Want::some_arguments))]
-pub(crate) fn some_arguments(
+pub fn some_arguments(
     alloc: Global,
     cursor: &mut Cursor<'_>,
     depth: u32,
 ) -> Result<Vec<ExprText>, Fault>
-    requires nested { depth ≤ 32 }
+    requires nested { depth ≤ MOST_NESTING }
     ensures leads { Leads (λ v. bares v.items) result (some_arguments depth) cursor.old cursor.new }
-    ensures shorter { OnOk result (length cursor.new.rest.now < length cursor.old.rest.now) }
+    ensures shorter { Shortens result cursor.old cursor.new }
 {
     let first = expression(alloc, cursor, depth)?;
     let mut found = one(alloc, first)?;
@@ -300,13 +298,13 @@ pub(crate) fn some_arguments(
     Ok(found)
 }
 
-/// A primary with a sign or none.
+/// A primary expression, with a unary operator before it or without.
 #[cycle(expression)]
 #[tactic(auto, using(crate::proofs::ReadLemmas::fails_then, crate::proofs::GrammarLemmas::factor_else, crate::proofs::ReadLemmas::leads_on))]
 fn factor(alloc: Global, cursor: &mut Cursor<'_>, depth: u32) -> Result<ExprText, Fault>
-    requires nested { depth ≤ 32 }
+    requires nested { depth ≤ MOST_NESTING }
     ensures leads { Leads bare result (factor depth) cursor.old cursor.new }
-    ensures shorter { OnOk result (length cursor.new.rest.now < length cursor.old.rest.now) }
+    ensures shorter { Shortens result cursor.old cursor.new }
 {
     match cursor.peek() {
         TokenKind::Minus => {
@@ -323,7 +321,7 @@ fn factor(alloc: Global, cursor: &mut Cursor<'_>, depth: u32) -> Result<ExprText
     }
 }
 
-/// An operand of a line of the grammar.
+/// An operand at this precedence level.
 #[cycle(expression)]
 fn operand(
     alloc: Global,
@@ -331,9 +329,9 @@ fn operand(
     depth: u32,
     level: Level,
 ) -> Result<ExprText, Fault>
-    requires nested { depth ≤ 32 }
+    requires nested { depth ≤ MOST_NESTING }
     ensures leads { Leads bare result (operand level depth) cursor.old cursor.new }
-    ensures shorter { OnOk result (length cursor.new.rest.now < length cursor.old.rest.now) }
+    ensures shorter { Shortens result cursor.old cursor.new }
 {
     match level {
         Level::Product => factor(alloc, cursor, depth),
@@ -343,13 +341,13 @@ fn operand(
     }
 }
 
-/// A line of the grammar that repeats.
+/// A chain of binary operators of one precedence level, or its one operand.
 #[cycle(expression)]
 #[tactic(auto, using(crate::proofs::ReadLemmas::fails_then, crate::proofs::GrammarLemmas::line_is))]
 fn line(alloc: Global, cursor: &mut Cursor<'_>, depth: u32, level: Level) -> Result<ExprText, Fault>
-    requires nested { depth ≤ 32 }
+    requires nested { depth ≤ MOST_NESTING }
     ensures leads { Leads bare result (line level depth) cursor.old cursor.new }
-    ensures shorter { OnOk result (length cursor.new.rest.now < length cursor.old.rest.now) }
+    ensures shorter { Shortens result cursor.old cursor.new }
 {
     let first = operand(alloc, cursor, depth, level)?;
     let mut rest = Vec::new(alloc);
@@ -364,9 +362,9 @@ fn line(alloc: Global, cursor: &mut Cursor<'_>, depth: u32, level: Level) -> Res
 #[cycle(expression)]
 #[tactic(auto, using(crate::proofs::ReadLemmas::fails_then), unfolding(pb_grammar::specs::Want::compared))]
 fn comparison(alloc: Global, cursor: &mut Cursor<'_>, depth: u32) -> Result<ExprText, Fault>
-    requires nested { depth ≤ 32 }
+    requires nested { depth ≤ MOST_NESTING }
     ensures leads { Leads bare result (compared depth) cursor.old cursor.new }
-    ensures shorter { OnOk result (length cursor.new.rest.now < length cursor.old.rest.now) }
+    ensures shorter { Shortens result cursor.old cursor.new }
 {
     let left = line(alloc, cursor, depth, Level::Sum)?;
     match take_relation(cursor) {
@@ -378,16 +376,16 @@ fn comparison(alloc: Global, cursor: &mut Cursor<'_>, depth: u32) -> Result<Expr
     }
 }
 
-/// An expression of a body, where so many `(` and `{` are open.
+/// An expression of a body; `depth` brackets are open.
 #[cycle(expression)]
-pub(crate) fn expression(
+pub fn expression(
     alloc: Global,
     cursor: &mut Cursor<'_>,
     depth: u32,
 ) -> Result<ExprText, Fault>
-    requires nested { depth ≤ 32 }
+    requires nested { depth ≤ MOST_NESTING }
     ensures leads { Leads bare result (expression depth) cursor.old cursor.new }
-    ensures shorter { OnOk result (length cursor.new.rest.now < length cursor.old.rest.now) }
+    ensures shorter { Shortens result cursor.old cursor.new }
 {
     line(alloc, cursor, depth, Level::Disjunction)
 }

@@ -10,7 +10,7 @@ mod cursor;
 mod dims;
 mod expression;
 mod fault;
-mod form;
+mod forms;
 mod make;
 mod statement;
 
@@ -18,5 +18,5 @@ pub use begin::begin_name;
 pub use cursor::{Cursor, name_in};
 pub use dims::counted_dims;
 pub use fault::Fault;
-pub use form::{form, small};
+pub use forms::{form, small};
 pub use statement::statements;

@@ -10,49 +10,49 @@ use pb_syntax::{ExprText, FormText, Level, Name, Operator, Relation, UnarySign, 
 use std::alloc::Global;
 
 /// A number at its place.
-pub(crate) fn number(at: u32, value: u64) -> ExprText
+pub fn number(at: u32, value: u64) -> ExprText
     ensures made { bare result ≡ number at value }
 {
     ExprText::Number { at, value }
 }
 
 /// A name that stands alone.
-pub(crate) fn named(of: Name) -> ExprText
+pub fn named(of: Name) -> ExprText
     ensures made { bare result ≡ name of }
 {
     ExprText::Name(of)
 }
 
 /// A call.
-pub(crate) fn call(called: Name, arguments: Vec<ExprText>) -> ExprText
+pub fn call(called: Name, arguments: Vec<ExprText>) -> ExprText
     ensures made { bare result ≡ call called (exprs (bares arguments.items)) }
 {
     ExprText::Call { called, arguments }
 }
 
 /// A cell of a view.
-pub(crate) fn cell(view: Name, coordinates: Vec<ExprText>) -> ExprText
+pub fn cell(view: Name, coordinates: Vec<ExprText>) -> ExprText
     ensures made { bare result ≡ cell view (exprs (bares coordinates.items)) }
 {
     ExprText::Cell { view, coordinates }
 }
 
 /// The width of a view.
-pub(crate) fn width(view: Name) -> ExprText
+pub fn width(view: Name) -> ExprText
     ensures made { bare result ≡ width view }
 {
     ExprText::Width(view)
 }
 
 /// The height of a view.
-pub(crate) fn height(view: Name) -> ExprText
+pub fn height(view: Name) -> ExprText
     ensures made { bare result ≡ height view }
 {
     ExprText::Height(view)
 }
 
-/// An expression in parentheses, the first of which is at `at`.
-pub(crate) fn parentheses(alloc: Global, at: u32, inner: ExprText) -> Result<ExprText, Fault>
+/// An expression in parentheses that open at `at`.
+pub fn parentheses(alloc: Global, at: u32, inner: ExprText) -> Result<ExprText, Fault>
     ensures made { IfOk result (λ e. bare e ≡ parentheses at (bare inner)) }
     ensures memory { IfErr result (λ e. e ≡ Memory) }
 {
@@ -62,8 +62,8 @@ pub(crate) fn parentheses(alloc: Global, at: u32, inner: ExprText) -> Result<Exp
     })
 }
 
-/// An operand after its sign, which is at `at`.
-pub(crate) fn signed(alloc: Global, at: u32, sign: UnarySign, inner: ExprText) -> Result<ExprText, Fault>
+/// An operand with the unary operator at `at` before it.
+pub fn signed(alloc: Global, at: u32, sign: UnarySign, inner: ExprText) -> Result<ExprText, Fault>
     ensures made { IfOk result (λ e. bare e ≡ signed at sign (bare inner)) }
     ensures memory { IfErr result (λ e. e ≡ Memory) }
 {
@@ -74,8 +74,8 @@ pub(crate) fn signed(alloc: Global, at: u32, sign: UnarySign, inner: ExprText) -
     })
 }
 
-/// The operands of a line of the grammar; the first where it stands alone.
-pub(crate) fn chained(
+/// A chain of operands, or the first if it is the only one.
+pub fn chained(
     alloc: Global,
     level: Level,
     first: ExprText,
@@ -95,7 +95,7 @@ pub(crate) fn chained(
 }
 
 /// Two sides of a relation.
-pub(crate) fn compared(
+pub fn compared(
     alloc: Global,
     left: ExprText,
     relation: Relation,
@@ -112,7 +112,7 @@ pub(crate) fn compared(
 }
 
 /// An expression as a list.
-pub(crate) fn one(alloc: Global, x: ExprText) -> Result<Vec<ExprText>, Fault>
+pub fn one(alloc: Global, x: ExprText) -> Result<Vec<ExprText>, Fault>
     ensures made { IfOk result (λ v. bares v.items ≡ bare x ∷ []) }
     ensures memory { IfErr result (λ e. e ≡ Memory) }
 {
@@ -122,7 +122,7 @@ pub(crate) fn one(alloc: Global, x: ExprText) -> Result<Vec<ExprText>, Fault>
 }
 
 /// Two expressions as a list.
-pub(crate) fn two(alloc: Global, x: ExprText, y: ExprText) -> Result<Vec<ExprText>, Fault>
+pub fn two(alloc: Global, x: ExprText, y: ExprText) -> Result<Vec<ExprText>, Fault>
     ensures made { IfOk result (λ v. bares v.items ≡ bare x ∷ bare y ∷ []) }
     ensures memory { IfErr result (λ e. e ≡ Memory) }
 {
@@ -131,29 +131,29 @@ pub(crate) fn two(alloc: Global, x: ExprText, y: ExprText) -> Result<Vec<ExprTex
     Ok(found)
 }
 
-/// A number under a name.
-pub(crate) fn let_number(at: u32, name: Name, value: ExprText) -> StmtText
+/// A number local.
+pub fn let_number(at: u32, name: Name, value: ExprText) -> StmtText
     ensures made { bare_stmt result ≡ let_number at name (bare value) }
 {
     StmtText::Let { at, name, value }
 }
 
-/// A matrix of its own of a body.
-pub(crate) fn let_matrix(at: u32, name: Name, dims: Vec<FormText>) -> StmtText
+/// A matrix local.
+pub fn let_matrix(at: u32, name: Name, dims: Vec<FormText>) -> StmtText
     ensures made { bare_stmt result ≡ let_matrix at name dims.items }
 {
     StmtText::LetMatrix { at, name, dims }
 }
 
-/// A value for a name.
-pub(crate) fn assign(target: Name, value: ExprText) -> StmtText
+/// An assignment to a name.
+pub fn assign(target: Name, value: ExprText) -> StmtText
     ensures made { bare_stmt result ≡ assign target (bare value) }
 {
     StmtText::Assign { target, value }
 }
 
-/// A value for a cell.
-pub(crate) fn assign_cell(target: Name, coordinates: Vec<ExprText>, value: ExprText) -> StmtText
+/// An assignment to a cell.
+pub fn assign_cell(target: Name, coordinates: Vec<ExprText>, value: ExprText) -> StmtText
     ensures made { bare_stmt result ≡ assign_cell target (bares coordinates.items) (bare value) }
 {
     StmtText::AssignCell {
@@ -163,8 +163,8 @@ pub(crate) fn assign_cell(target: Name, coordinates: Vec<ExprText>, value: ExprT
     }
 }
 
-/// A call whose results go to several names.
-pub(crate) fn call_statement(targets: Vec<Name>, called: Name, arguments: Vec<ExprText>) -> StmtText
+/// A call with several targets.
+pub fn call_statement(targets: Vec<Name>, called: Name, arguments: Vec<ExprText>) -> StmtText
     ensures made { bare_stmt result ≡ call_stmt targets.items called (bares arguments.items) }
 {
     StmtText::Call {
@@ -174,8 +174,8 @@ pub(crate) fn call_statement(targets: Vec<Name>, called: Name, arguments: Vec<Ex
     }
 }
 
-/// A test with what is done where it holds.
-pub(crate) fn if_holds(at: u32, test: ExprText, then: Vec<StmtText>) -> StmtText
+/// An `if` without `else`.
+pub fn if_holds(at: u32, test: ExprText, then: Vec<StmtText>) -> StmtText
     ensures made { bare_stmt result ≡ if_stmt at (bare test) (stmts (bare_stmts then.items)) }
 {
     StmtText::If {
@@ -186,8 +186,8 @@ pub(crate) fn if_holds(at: u32, test: ExprText, then: Vec<StmtText>) -> StmtText
     }
 }
 
-/// A test with what is done where it holds and where it doesn't.
-pub(crate) fn if_or_else(
+/// An `if` with `else`.
+pub fn if_or_else(
     at: u32,
     test: ExprText,
     then: Vec<StmtText>,
@@ -203,8 +203,8 @@ pub(crate) fn if_or_else(
     }
 }
 
-/// What is done for each number from a start to an end.
-pub(crate) fn for_each(
+/// A loop over the numbers from a start up to an end.
+pub fn for_each(
     at: u32,
     name: Name,
     start: ExprText,

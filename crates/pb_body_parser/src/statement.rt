@@ -4,11 +4,11 @@ ghost use Rattle.pb_syntax.specs.declared.refusal.Item.TheVariants.{Statements, 
 ghost use Rattle.pb_body_parser.specs.declared.fault.Fault.TheVariants.{Memory};
 ghost use Rattle.pb_syntax.specs.Exprs.{bare};
 ghost use Rattle.pb_syntax.specs.Stmts.{StmtTree, bare_stmt};
-ghost use Rattle.pb_grammar.specs.Numbers.{begins_statement};
+ghost use Rattle.pb_grammar.specs.Starts.{begins_statement};
 ghost use Rattle.pb_body_parser.specs.Bare.{bares, bare_stmts};
 ghost use Rattle.pb_grammar.specs.Want.{Want, begin, name_token, statements, statement, block, after_let, after_target, more_targets, called, after_dot, after_if, after_for, otherwise, dimensions};
-ghost use Rattle.pb_syntax.specs.Limits.{limited};
-ghost use Rattle.pb_body_parser.specs.Leads.{Leads, LeadsCounted, Fails, told, from};
+ghost use Rattle.pb_syntax.specs.Limits.{over};
+ghost use Rattle.pb_body_parser.specs.Leads.{Leads, LeadsCounted, Fails, told, from, Shortens, NeverGrows};
 
 use crate::bracket::{name, open, sign, word};
 use crate::cursor::{Cursor, name_in};
@@ -18,12 +18,8 @@ use crate::fault::Fault;
 use crate::make::{
     assign, assign_cell, call_statement, for_each, if_holds, if_or_else, let_matrix, let_number,
 };
-use pb_syntax::{ExprText, FormText, Item, TokenKind, Name, StmtText};
+use pb_syntax::{ExprText, FormText, Item, MOST_NESTING, MOST_STATEMENTS, MOST_TARGETS, Name, StmtText, TokenKind};
 use std::alloc::Global;
-
-const MOST_TARGETS: usize = 16;
-
-const MOST_STATEMENTS: u32 = 256;
 
 fn begins_statement(kind: TokenKind) -> bool
     ensures { result ≡ begins_statement kind }
@@ -34,16 +30,16 @@ fn begins_statement(kind: TokenKind) -> bool
     }
 }
 
-/// The dimensions of a matrix of a body.
+/// The dimensions of a matrix local.
 #[tactic(auto, unfolding(pb_grammar::specs::Want::dimensions))]
 fn dimensions(alloc: Global, cursor: &mut Cursor<'_>) -> Result<Vec<FormText>, Fault>
     ensures leads { Leads (λ v. v.items) result dimensions cursor.old cursor.new }
-    ensures shorter { OnOk result (length cursor.new.rest.now < length cursor.old.rest.now) }
+    ensures shorter { Shortens result cursor.old cursor.new }
 {
     dims(alloc, cursor)
 }
 
-/// A number or a matrix under a name, after `let`, which is at `at`.
+/// The local after the `let` at `at`: a number or a matrix.
 #[tactic(auto, using(crate::proofs::ReadLemmas::fails_then))]
 fn after_let(
     alloc: Global,
@@ -52,9 +48,9 @@ fn after_let(
     at: u32,
     name: Name,
 ) -> Result<StmtText, Fault>
-    requires nested { depth ≤ 32 }
+    requires nested { depth ≤ MOST_NESTING }
     ensures leads { Leads bare_stmt result (after_let depth at name) cursor.old cursor.new }
-    ensures shorter { OnOk result (length cursor.new.rest.now < length cursor.old.rest.now) }
+    ensures shorter { Shortens result cursor.old cursor.new }
 {
     match cursor.peek() {
         TokenKind::Assign => {
@@ -73,7 +69,7 @@ fn after_let(
     }
 }
 
-/// A value, a cell's value or a call, after the first name.
+/// What stands after a statement's first name: an assignment, an assignment to a cell, or a call.
 #[tactic(auto, using(crate::proofs::ReadLemmas::fails_then))]
 fn after_target(
     alloc: Global,
@@ -81,9 +77,9 @@ fn after_target(
     depth: u32,
     target: Name,
 ) -> Result<StmtText, Fault>
-    requires nested { depth ≤ 32 }
+    requires nested { depth ≤ MOST_NESTING }
     ensures leads { Leads bare_stmt result (after_target depth target) cursor.old cursor.new }
-    ensures shorter { OnOk result (length cursor.new.rest.now < length cursor.old.rest.now) }
+    ensures shorter { Shortens result cursor.old cursor.new }
 {
     match cursor.peek() {
         TokenKind::Assign => {
@@ -116,7 +112,7 @@ fn two_names(alloc: Global, first: Name, second: Name) -> Result<Vec<Name>, Faul
     Ok(found)
 }
 
-/// A cell's value, after the `.`.
+/// An assignment to a cell, after its `.`.
 #[tactic(auto, using(crate::proofs::ReadLemmas::fails_then), unfolding(pb_grammar::specs::Want::after_dot))]
 fn after_dot(
     alloc: Global,
@@ -124,9 +120,9 @@ fn after_dot(
     depth: u32,
     target: Name,
 ) -> Result<StmtText, Fault>
-    requires nested { depth ≤ 32 }
+    requires nested { depth ≤ MOST_NESTING }
     ensures leads { Leads bare_stmt result (after_dot depth target) cursor.old cursor.new }
-    ensures shorter { OnOk result (length cursor.new.rest.now < length cursor.old.rest.now) }
+    ensures shorter { Shortens result cursor.old cursor.new }
 {
     word(cursor, b"cell".as_slice())?;
     let place = coordinates(alloc, cursor, depth)?;
@@ -136,11 +132,11 @@ fn after_dot(
     Ok(assign_cell(target, place, value))
 }
 
-/// A target after `,` where there are so many before.
+/// The next target, after its `,`; `OverLimit` if there are as many as may be.
 #[tactic(auto, using(crate::proofs::ReadLemmas::unlimited, crate::proofs::ReadLemmas::over_token, crate::proofs::ReadLemmas::bad_token, crate::proofs::ReadLemmas::leads_on), unfolding(pb_grammar::specs::Want::name_token))]
 fn next_target(alloc: Global, cursor: &mut Cursor<'_>, before: usize) -> Result<Name, Fault>
-    ensures leads { Leads (λ n. n) result (λ f. begin (limited 16 before Targets) (name_token f)) cursor.old cursor.new }
-    ensures shorter { OnOk result (length cursor.new.rest.now < length cursor.old.rest.now) }
+    ensures leads { Leads (λ n. n) result (λ f. begin (over Targets before) (name_token f)) cursor.old cursor.new }
+    ensures shorter { Shortens result cursor.old cursor.new }
 {
     if before < MOST_TARGETS {
         return name(alloc, cursor);
@@ -151,7 +147,7 @@ fn next_target(alloc: Global, cursor: &mut Cursor<'_>, before: usize) -> Result<
     Err(cursor.bad())
 }
 
-/// All targets, and the call whose results they get.
+/// The rest of the targets, and the call whose results they get.
 #[tactic(auto, using(crate::proofs::ReadLemmas::fails_then, crate::proofs::GrammarLemmas::more_targets_else))]
 fn more_targets(
     alloc: Global,
@@ -159,9 +155,9 @@ fn more_targets(
     depth: u32,
     first: Vec<Name>,
 ) -> Result<StmtText, Fault>
-    requires nested { depth ≤ 32 }
+    requires nested { depth ≤ MOST_NESTING }
     ensures leads { Leads bare_stmt result (more_targets depth first.items) cursor.old cursor.new }
-    ensures shorter { OnOk result (length cursor.new.rest.now < length cursor.old.rest.now) }
+    ensures shorter { Shortens result cursor.old cursor.new }
 {
     let mut found = first;
     while let TokenKind::Comma = cursor.peek() {
@@ -181,9 +177,9 @@ fn called(
     depth: u32,
     targets: Vec<Name>,
 ) -> Result<StmtText, Fault>
-    requires nested { depth ≤ 32 }
+    requires nested { depth ≤ MOST_NESTING }
     ensures leads { Leads bare_stmt result (called depth targets.items) cursor.old cursor.new }
-    ensures shorter { OnOk result (length cursor.new.rest.now < length cursor.old.rest.now) }
+    ensures shorter { Shortens result cursor.old cursor.new }
 {
     let called = name(alloc, cursor)?;
     let inside = open(cursor, TokenKind::Open, depth)?;
@@ -192,7 +188,7 @@ fn called(
     Ok(call_statement(targets, called, found))
 }
 
-/// Statements in braces.
+/// A block: statements in braces.
 #[cycle(statements)]
 #[tactic(auto, using(crate::proofs::ReadLemmas::fails_then), unfolding(pb_grammar::specs::Want::block))]
 fn block(
@@ -201,17 +197,17 @@ fn block(
     depth: u32,
     count: &mut u32,
 ) -> Result<Vec<StmtText>, Fault>
-    requires nested { depth ≤ 32 }
-    requires few { count.now ≤ 256 }
+    requires nested { depth ≤ MOST_NESTING }
+    requires few { count.now ≤ MOST_STATEMENTS }
     ensures leads { LeadsCounted (λ v. bare_stmts v.items) result (block depth count.old) cursor.old cursor.new count.new }
-    ensures counted { OnOk result (count.new ≤ 256) }
-    ensures shorter { OnOk result (length cursor.new.rest.now < length cursor.old.rest.now) }
+    ensures counted { OnOk result (count.new ≤ MOST_STATEMENTS) }
+    ensures shorter { Shortens result cursor.old cursor.new }
 {
     let inside = open(cursor, TokenKind::OpenBrace, depth)?;
     statements(alloc, cursor, inside, count)
 }
 
-/// A test and what hangs on it, after `if`, which is at `at`.
+/// The test and the blocks after the `if` at `at`.
 #[cycle(statements)]
 #[tactic(auto, using(crate::proofs::ReadLemmas::fails_then), unfolding(pb_grammar::specs::Want::after_if))]
 fn after_if(
@@ -221,11 +217,11 @@ fn after_if(
     count: &mut u32,
     at: u32,
 ) -> Result<StmtText, Fault>
-    requires nested { depth ≤ 32 }
-    requires few { count.now ≤ 256 }
+    requires nested { depth ≤ MOST_NESTING }
+    requires few { count.now ≤ MOST_STATEMENTS }
     ensures leads { LeadsCounted bare_stmt result (after_if depth count.old at) cursor.old cursor.new count.new }
-    ensures counted { OnOk result (count.new ≤ 256) }
-    ensures shorter { OnOk result (length cursor.new.rest.now < length cursor.old.rest.now) }
+    ensures counted { OnOk result (count.new ≤ MOST_STATEMENTS) }
+    ensures shorter { Shortens result cursor.old cursor.new }
 {
     let inside = open(cursor, TokenKind::Open, depth)?;
     let test = expression(alloc, cursor, inside)?;
@@ -234,7 +230,7 @@ fn after_if(
     otherwise(alloc, cursor, depth, count, at, test, then)
 }
 
-/// What is done where the test doesn't hold, if anything.
+/// The `else` block, if there is one.
 #[cycle(statements)]
 #[tactic(auto, using(crate::proofs::ReadLemmas::fails_then))]
 fn otherwise(
@@ -246,11 +242,11 @@ fn otherwise(
     test: ExprText,
     then: Vec<StmtText>,
 ) -> Result<StmtText, Fault>
-    requires nested { depth ≤ 32 }
-    requires few { count.now ≤ 256 }
+    requires nested { depth ≤ MOST_NESTING }
+    requires few { count.now ≤ MOST_STATEMENTS }
     ensures leads { LeadsCounted bare_stmt result (otherwise depth count.old at (bare test) (bare_stmts then.items)) cursor.old cursor.new count.new }
-    ensures counted { OnOk result (count.new ≤ 256) }
-    ensures shorter { OnOk result (length cursor.new.rest.now ≤ length cursor.old.rest.now) }
+    ensures counted { OnOk result (count.new ≤ MOST_STATEMENTS) }
+    ensures no_longer { NeverGrows result cursor.old cursor.new }
 {
     match cursor.peek() {
         TokenKind::Else => {
@@ -262,7 +258,7 @@ fn otherwise(
     }
 }
 
-/// A range of numbers and what is done for each, after `for`, which is at `at`.
+/// The range and the block after the `for` at `at`.
 #[cycle(statements)]
 #[tactic(auto, using(crate::proofs::ReadLemmas::fails_then), unfolding(pb_grammar::specs::Want::after_for))]
 fn after_for(
@@ -272,11 +268,11 @@ fn after_for(
     count: &mut u32,
     at: u32,
 ) -> Result<StmtText, Fault>
-    requires nested { depth ≤ 32 }
-    requires few { count.now ≤ 256 }
+    requires nested { depth ≤ MOST_NESTING }
+    requires few { count.now ≤ MOST_STATEMENTS }
     ensures leads { LeadsCounted bare_stmt result (after_for depth count.old at) cursor.old cursor.new count.new }
-    ensures counted { OnOk result (count.new ≤ 256) }
-    ensures shorter { OnOk result (length cursor.new.rest.now < length cursor.old.rest.now) }
+    ensures counted { OnOk result (count.new ≤ MOST_STATEMENTS) }
+    ensures shorter { Shortens result cursor.old cursor.new }
 {
     let inside = open(cursor, TokenKind::Open, depth)?;
     let index = name(alloc, cursor)?;
@@ -298,11 +294,11 @@ fn statement(
     depth: u32,
     count: &mut u32,
 ) -> Result<StmtText, Fault>
-    requires nested { depth ≤ 32 }
-    requires few { count.now < 256 }
+    requires nested { depth ≤ MOST_NESTING }
+    requires few { count.now < MOST_STATEMENTS }
     ensures leads { LeadsCounted bare_stmt result (statement depth count.old) cursor.old cursor.new count.new }
-    ensures counted { OnOk result (count.new ≤ 256) }
-    ensures shorter { OnOk result (length cursor.new.rest.now < length cursor.old.rest.now) }
+    ensures counted { OnOk result (count.new ≤ MOST_STATEMENTS) }
+    ensures shorter { Shortens result cursor.old cursor.new }
 {
     let kind = cursor.peek();
     let at = cursor.place();
@@ -332,7 +328,7 @@ fn statement(
     }
 }
 
-/// The refusal where no more statements may follow.
+/// The fault if no more statements may follow.
 #[tactic(auto, using(crate::proofs::ReadLemmas::fails_then))]
 fn too_many(cursor: &Cursor<'_>) -> Fault
     ensures refused { Fails result ((d n : ℕ) (f : StmtTree → ℕ → Want) →
@@ -344,7 +340,7 @@ fn too_many(cursor: &Cursor<'_>) -> Fault
     cursor.bad()
 }
 
-/// One statement where so many of the body began before.
+/// The next statement; `OverLimit` if as many of the body began as may.
 #[cycle(statements)]
 #[tactic(auto, using(crate::proofs::ReadLemmas::fails_then, crate::proofs::ReadLemmas::unlimited, crate::proofs::ReadLemmas::is_some))]
 fn next_statement(
@@ -353,11 +349,11 @@ fn next_statement(
     depth: u32,
     count: &mut u32,
 ) -> Result<StmtText, Fault>
-    requires nested { depth ≤ 32 }
-    requires few { count.now ≤ 256 }
-    ensures leads { LeadsCounted bare_stmt result (λ f. begin (limited 256 count.old Statements) (statement depth count.old f)) cursor.old cursor.new count.new }
-    ensures counted { OnOk result (count.new ≤ 256) }
-    ensures shorter { OnOk result (length cursor.new.rest.now < length cursor.old.rest.now) }
+    requires nested { depth ≤ MOST_NESTING }
+    requires few { count.now ≤ MOST_STATEMENTS }
+    ensures leads { LeadsCounted bare_stmt result (λ f. begin (over Statements count.old) (statement depth count.old f)) cursor.old cursor.new count.new }
+    ensures counted { OnOk result (count.new ≤ MOST_STATEMENTS) }
+    ensures shorter { Shortens result cursor.old cursor.new }
 {
     if *count < MOST_STATEMENTS {
         return statement(alloc, cursor, depth, count);
@@ -365,20 +361,20 @@ fn next_statement(
     Err(too_many(cursor))
 }
 
-/// Statements up to the `}`, where so many `(` and `{` are open and so many statements of the body began before.
+/// Statements up to and with the `}`; `depth` brackets are open, `count` statements of the body have begun.
 #[cycle(statements)]
 #[tactic(auto, using(crate::proofs::ReadLemmas::fails_then, crate::proofs::GrammarLemmas::statements_else))]
-pub(crate) fn statements(
+pub fn statements(
     alloc: Global,
     cursor: &mut Cursor<'_>,
     depth: u32,
     count: &mut u32,
 ) -> Result<Vec<StmtText>, Fault>
-    requires nested { depth ≤ 32 }
-    requires few { count.now ≤ 256 }
+    requires nested { depth ≤ MOST_NESTING }
+    requires few { count.now ≤ MOST_STATEMENTS }
     ensures leads { LeadsCounted (λ v. bare_stmts v.items) result (statements depth count.old []) cursor.old cursor.new count.new }
-    ensures counted { OnOk result (count.new ≤ 256) }
-    ensures shorter { OnOk result (length cursor.new.rest.now < length cursor.old.rest.now) }
+    ensures counted { OnOk result (count.new ≤ MOST_STATEMENTS) }
+    ensures shorter { Shortens result cursor.old cursor.new }
 {
     let mut found = Vec::new(alloc);
     loop {

@@ -4,18 +4,19 @@ use Rattle.pb_syntax.specs.Trees.{TransformTree}
 use Rattle.pb_prog.specs.Spelling.{text_tokens}
 use Rattle.pb_prog.specs.Canonical.{layout, canonical}
 use Rattle.pb_syntax.specs.Places.{unplaced}
-use Rattle.pb_lexer.specs.Refusing.{most_bytes}
+use Rattle.pb_syntax.specs.declared.limits.TheConstants.{MOST_BYTES}
 use Rattle.pb_front.specs.Reading.{IsRead}
 use Rattle.pb_front.proofs.ReadLemmas.{one_tree}
 use Rattle.pb_front.proofs.Unplaced.{same_tokens}
 use Rattle.pb_front.proofs.LayoutLemmas.{laid}
+use Rattle.pb_lexer.proofs.LexemeLemmas.{lexemes}
 use Rattle.pb_front.proofs.Plains.{goods, plain_program}
 use Rattle.pb_front.proofs.AgainPrograms.{again_program}
 
-pub read_again : (text : List ℕ) (tree : List TransformTree) → IsRead text tree → length (canonical tree) ≤ most_bytes
+pub read_again : (text : List ℕ) (tree : List TransformTree) → IsRead text tree → length (canonical tree) ≤ MOST_BYTES
     → (again : List TransformTree) × IsRead (canonical tree) again × (unplaced again ≡ unplaced tree)
 read_again text tree r short =
-    let l = laid (text_tokens tree) (plain_program tree r.tokens r.accepted.0 (goods r.spelled)) in
+    let l = laid (text_tokens tree) (plain_program tree r.tokens r.accepted.0 (goods r.tokens (lexemes text r.tokens r.spelled))) in
     let a = again_program tree r.tokens l.tokens r.accepted l.written in
     (a.again, record { short = short; tokens = l.tokens; spelled = l.spelled; accepted = a.accepted }, a.same)
 

@@ -7,7 +7,7 @@ use Rattle.std.proofs.lemmas.Bool.{cases_lt, not-true, or_cases, or_parts}
 use Rattle.std.proofs.lemmas.Bool.Decides.{nat_tests}
 use Rattle.std.proofs.lemmas.Fmt.{decimal_is_IsNumeral}
 use Rattle.std.proofs.lemmas.Str.Parse.{digit_from_value}
-use Rattle.pb_syntax.proofs.TestLemmas.{is_byte, and_parts}
+use Rattle.pb_syntax.proofs.TestLemmas.{below, each, is_byte, and_parts}
 use Rattle.pb_syntax.specs.declared.token.Token.{Token}
 use Rattle.pb_syntax.specs.declared.token.TokenWhat.{TokenWhat}
 use Rattle.pb_syntax.specs.declared.kind.TokenKind.{TokenKind}
@@ -19,7 +19,9 @@ use Rattle.pb_prog.specs.Spelling.{Written, word, numeral, sign_at}
 use Rattle.pb_syntax.specs.Tokens as piece
 use Rattle.pb_syntax.specs.Tokens.{Piece, Pieces, none, one_more, Spells}
 use Rattle.pb_prog.specs.Canonical.{written_kind, written_bytes, ends_line, joins_before, joins_after, joins_both, joined, outside, indentation, space, line_end, depth_after, layout}
-use Rattle.pb_front.proofs.Written.{written_as, Takes, nothing, one, IsWordText, CanBe, is_dot, Plain, plain, member}
+use Rattle.pb_syntax.specs.Lexemes.{IsWordText}
+use Rattle.pb_front.proofs.Written.{written_as, Takes, nothing, one, CanBe, is_dot, Plain, plain, member}
+use Rattle.pb_syntax.specs.Lexemes.{IsWordText}
 use Rattle.pb_front.proofs.Written as plainly
 
 pub record Laid (text : List ℕ) (ws : List Written) : Type 0 where
@@ -59,17 +61,6 @@ module _ (text : List ℕ) (ws : List Written) (l : Lays text ws) where
 
   ended : (a : TokenKind) → Before (line_end a)
   ended a = pick Before (ends_line a) _ _ (λ e. blank_first 10 refl l) (λ e. l)
-
--- a table of the signs
-abbrev pub below : (ℕ → Bool) → ℕ → Bool
-below test zero = true
-below test (suc n) = test n && below test n
-
-pub each : (test : ℕ → Bool) (n p : ℕ) → below test n ≡ true → p < n → test p ≡ true
-each test zero p h less = absurd (omega arith)
-each test (suc n) p h less =
-    let both = and_parts (test n) (below test n) h in
-    elim (cases_lt p n) [ inl before ↦ each test n p both.1 before | inr past ↦ subst (λ i. test i ≡ true) (omega arith) both.0 ]
 
 abbrev sign_bytes : ℕ → List ℕ
 sign_bytes p = slice_index_or signs p []

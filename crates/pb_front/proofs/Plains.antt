@@ -4,8 +4,7 @@ use Rattle.std.specs.List.{list_all}
 use Rattle.std.proofs.lemmas.Bool.{cases_lt, ltb-true, not-true}
 use Rattle.std.proofs.lemmas.List.{get_or_past}
 use Rattle.pb_values.specs.Name.{NameValue}
-use Rattle.pb_syntax.proofs.TestLemmas.{and_parts}
-use Rattle.pb_syntax.proofs.SignLemmas.{long_listed, short_listed}
+use Rattle.pb_syntax.proofs.TestLemmas.{and_parts, each}
 use Rattle.pb_syntax.specs.declared.token.Token.{Token}
 use Rattle.pb_syntax.specs.declared.token.TokenWhat.{TokenWhat}
 use Rattle.pb_syntax.specs.declared.token.TokenWhat.TheVariants as what
@@ -24,8 +23,7 @@ use Rattle.pb_syntax.specs.declared.tree.view.MarkText.{MarkText}
 use Rattle.pb_syntax.specs.Bytes.{begins_name, is_in_name}
 use Rattle.pb_syntax.specs.Signs.{signs}
 use Rattle.pb_syntax.specs.Kinds.{sign_kind, Is, name_in, name_in_what, number_in, number_in_what, kind_of_what}
-use Rattle.pb_syntax.specs.Tokens as piece
-use Rattle.pb_syntax.specs.Tokens.{Piece, Pieces}
+use Rattle.pb_syntax.specs.Lexemes.{IsLexemeAt, AreLexemes, IsWordText}
 use Rattle.pb_syntax.specs.Grammar as g
 use Rattle.pb_syntax.specs.Grammar.{Commas, no_comma, a_comma, IsTerm, IsTerms, IsForm, IsDims, IsDecl, IsDecls, IsView, IsUse, IsCond, IsMark, IsLine, IsOperands, IsOperand, IsComp, IsUnary, IsPrim, IsArguments, IsCoordinates, IsStmt, IsBlock, IsStmts, IsRule, IsRules, IsTransform, IsTransforms, IsProgram}
 use Rattle.pb_syntax.specs.Forms.{FormValue, DeclValue}
@@ -33,8 +31,7 @@ use Rattle.pb_syntax.specs.Exprs.{ExprTree, exprs, operands, chained}
 use Rattle.pb_syntax.specs.Stmts.{StmtTree, stmts}
 use Rattle.pb_syntax.specs.Trees.{RuleTree, TransformTree}
 use Rattle.pb_prog.specs.Spelling.{Written, word, numeral, sign_at, relation_sign, operator_sign, term_sign, after_commas, with_commas, in_order, name_tokens, minimum_tokens, minimums_tokens, factor_tokens, quotient_tokens, term_tokens, next_term_tokens, sum_tokens, form_tokens, decl_tokens, through_tokens, view_tokens, use_tokens, cond_tokens, conds_tokens, mark_tokens, expr_tokens, operands_tokens, arguments_tokens, more_arguments_tokens, stmt_tokens, stmts_tokens, rule_tokens, transform_tokens, text_tokens}
-use Rattle.pb_front.proofs.Written.{written_as, IsWordText, CanBe, Plain, none, plain, member}
-use Rattle.pb_front.proofs.LayoutLemmas.{each}
+use Rattle.pb_front.proofs.Written.{written_as, CanBe, Plain, none, plain, member}
 
 -- a token that a text can have
 abbrev pub Good : Token → Type 0
@@ -44,26 +41,15 @@ abbrev pub AllGood : List Token → Type 0
 AllGood [] = Unit
 AllGood (t ∷ ts) = Good t × AllGood ts
 
-all_good : (a b : List Token) → AllGood a → AllGood b → AllGood (a ++ b)
-all_good [] b g h = h
-all_good (t ∷ a) b g h = (g.0, all_good a b g.1 h)
-
-listed : (p b : ℕ) (s : List ℕ) → get_or signs p [] ≡ b ∷ s → p < 25
-listed p b s e = elim (cases_lt p 25) [ inl less ↦ less | inr past ↦ let none_there = get_or_past signs p [] past in absurd (cc) ]
-
-good : {at : ℕ} {bytes after : List ℕ} {ts : List Token} → Piece at bytes after ts → AllGood ts
-good (piece.blank e) = tt
-good (piece.line_comment h e) = tt
-good (piece.block_comment inside h) = tt
-good (piece.word b h e) = ((b, h), tt)
-good (piece.number d h e most) = (most, tt)
-good (piece.two_byte_sign {a = a} {b = b} {place = p} e) = (listed p _ _ (long_listed a b p e), tt)
-good (piece.one_byte_sign {a = a} {place = p} e ends) = (listed p _ _ (short_listed a p e), tt)
+good : (at : ℕ) (w : TokenWhat) → IsLexemeAt at w → CanBe (written_as w)
+good at (what.Word n) h = h.0
+good at (what.Number n) h = h
+good at (what.Sign p) h = h
 
 -- the tokens of a text
-pub goods : {at : ℕ} {text after : List ℕ} {ts : List Token} → Pieces at text after ts → AllGood ts
-goods piece.none = tt
-goods (piece.one_more {here = here} {later = later} p ps) = all_good here later (good p) (goods ps)
+pub goods : (ts : List Token) → AreLexemes ts → AllGood ts
+goods [] h = tt
+goods (t ∷ ts) h = (good t.at t.what h.0, goods ts h.1)
 
 -- names and numbers among them
 abbrev is_name : TokenKind → Bool

@@ -4,7 +4,9 @@ use Rattle.std.specs.List.{list_all}
 use Rattle.pb_syntax.specs.declared.token.Token.{Token}
 use Rattle.pb_syntax.specs.declared.token.TokenWhat.{TokenWhat}
 use Rattle.pb_syntax.specs.declared.token.TokenWhat.TheVariants as what
-use Rattle.pb_syntax.specs.Bytes.{begins_name, is_in_name}
+use Rattle.pb_syntax.specs.declared.limits.TheConstants.{MOST_VALUE}
+use Rattle.pb_syntax.specs.declared.sign.TheConstants.{SIGNS}
+use Rattle.pb_syntax.specs.Lexemes.{IsWordText}
 use Rattle.pb_prog.specs.Spelling.{Written, word, numeral, sign_at}
 
 abbrev pub written_as : TokenWhat → Written
@@ -18,16 +20,11 @@ pub data Takes : List Written → List Token → List Token → Type 0 where
   one : {w : Written} {ws : List Written} {t : Token} {all rest : List Token}
       → written_as t.what ≡ w → Takes ws all rest → Takes (w ∷ ws) (t ∷ all) rest
 
--- a name or a keyword
-abbrev pub IsWordText : List ℕ → Type 0
-IsWordText [] = ⊥
-IsWordText (b ∷ more) = IsTrue (begins_name b) × IsTrue (list_all is_in_name more)
-
 -- a token that a text can have
 abbrev pub CanBe : Written → Type 0
 CanBe (word w) = IsWordText w
-CanBe (numeral n) = n ≤ 9223372036854775807
-CanBe (sign_at p) = p < 25
+CanBe (numeral n) = n ≤ MOST_VALUE
+CanBe (sign_at p) = p < SIGNS
 
 abbrev pub is_dot : Written → Bool
 is_dot (word w) = false

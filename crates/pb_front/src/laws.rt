@@ -3,8 +3,9 @@ ghost use Rattle.pb_syntax.specs.declared.refusal.Refusal.{Refusal};
 ghost use Rattle.pb_syntax.specs.Trees.{TransformTree};
 ghost use Rattle.pb_prog.specs.Canonical.{canonical};
 ghost use Rattle.pb_syntax.specs.Places.{unplaced};
-ghost use Rattle.pb_lexer.specs.Refusing.{most_bytes};
 ghost use Rattle.pb_front.specs.Reading.{IsRead, IsRefused};
+
+use pb_syntax::MOST_BYTES;
 
 /// A law: a text is read as one tree or is refused with one refusal, and never both.
 pub fn a_text_has_one_reading()
@@ -17,7 +18,7 @@ pub fn a_text_has_one_reading()
 /// A law: the canonical text of a tree that was read, where it isn't too long, is read as the same tree, places aside;
 /// so it is its own canonical text.
 pub fn a_canonical_text_is_read()
-    ensures read { (text : List ℕ) (tree : List TransformTree) → IsRead text tree → length (canonical tree) ≤ most_bytes
+    ensures read { (text : List ℕ) (tree : List TransformTree) → IsRead text tree → length (canonical tree) ≤ MOST_BYTES
         → (again : List TransformTree) × IsRead (canonical tree) again × (unplaced again ≡ unplaced tree) }
     ensures its_own { (text : List ℕ) (tree again : List TransformTree) → IsRead text tree → IsRead (canonical tree) again → canonical again ≡ canonical tree }
 {}

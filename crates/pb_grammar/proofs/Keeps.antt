@@ -10,28 +10,21 @@ use Rattle.pb_syntax.specs.declared.tree.expression.Level.TheVariants as level
 use Rattle.pb_syntax.specs.declared.tree.view.UseText.{UseText}
 use Rattle.pb_syntax.specs.declared.tree.view.CondText.{CondText}
 use Rattle.pb_syntax.specs.declared.tree.view.MarkText.{MarkText}
-use Rattle.pb_syntax.specs.Kinds.{Is, name_in, number_in}
+use Rattle.pb_syntax.specs.Kinds.{Is, name_in, number_in, same_kind}
 use Rattle.pb_syntax.specs.Limits.{SizeNames, counted}
 use Rattle.pb_syntax.specs.Forms.{FormValue, DeclValue}
 use Rattle.pb_syntax.specs.Exprs.{ExprTree, chained}
 use Rattle.pb_syntax.specs.Stmts.{StmtTree}
 use Rattle.pb_syntax.specs.Trees.{RuleTree, TransformTree}
 use Rattle.pb_syntax.specs.Grammar.{Commas, IsMinimum, a_minimum, IsMinimums, IsForm, IsDims, IsDecl, a_decl, IsDecls, some_decls, IsThrough, IsView, IsUse, a_use, IsReads, IsCond, a_cond, IsConds, IsMark, IsLine, a_line, IsOperand, a_conj, a_comp, a_prod, a_unary, IsComp, IsExpr, IsArguments, IsCoordinates, IsBlock, a_block, IsRule, a_rule, IsRules, IsTransform, a_transform, IsProgram, a_program}
-use Rattle.pb_grammar.specs.Numbers.{kind_number, same}
+use denote.Enum.Bare.{same_true}
+use Rattle.pb_syntax.specs.contracts.kind.TokenKind.{the_type}
 use Rattle.pb_grammar.specs.Want as w
 use Rattle.pb_grammar.specs.Want.{Want, a_sign, bracket, token, block, after_mark, expression, conjunction, compared, total, product}
 use Rattle.pb_grammar.proofs.Spelled.{put, Fits, Then, Past, ThenPast, Spelled}
 
--- the kind of a number
-abbrev kind_at : ℕ → TokenKind
-kind_at n = (if n == 0 then k.Transform else (if n == 1 then k.From else (if n == 2 then k.Through else (if n == 3 then k.To else (if n == 4 then k.Where else (if n == 5 then k.Primary else (if n == 6 then k.Secondary else (if n == 7 then k.Priority else (if n == 8 then k.Let else (if n == 9 then k.If else (if n == 10 then k.Else else (if n == 11 then k.For else (if n == 12 then k.Name else (if n == 13 then k.Number else (if n == 14 then k.Open else (if n == 15 then k.Close else (if n == 16 then k.OpenBrace else (if n == 17 then k.CloseBrace else (if n == 18 then k.OpenBracket else (if n == 19 then k.CloseBracket else (if n == 20 then k.Comma else (if n == 21 then k.Semicolon else (if n == 22 then k.Dot else (if n == 23 then k.Dots else (if n == 24 then k.Assign else (if n == 25 then k.Equal else (if n == 26 then k.Unequal else (if n == 27 then k.Less else (if n == 28 then k.LessOrEqual else (if n == 29 then k.Greater else (if n == 30 then k.GreaterOrEqual else (if n == 31 then k.Plus else (if n == 32 then k.Minus else (if n == 33 then k.Times else (if n == 34 then k.Over else (if n == 35 then k.Modulo else (if n == 36 then k.And else (if n == 37 then k.Or else (if n == 38 then k.Not else (if n == 39 then k.Unknown else k.End))))))))))))))))))))))))))))))))))))))))
-
-kind_at_number : (a : TokenKind) → kind_at (kind_number a) ≡ a
-kind_at_number k.End = refl
-kind_at_number _ = refl
-
-pub same_kind : (a b : TokenKind) → same a b ≡ true → b ≡ a
-same_kind a b e = sym (kind_at_number b) ∙ ap kind_at (sym (is_byte (kind_number a) (kind_number b) e)) ∙ kind_at_number a
+pub one_kind : (a b : TokenKind) → same_kind a b ≡ true → b ≡ a
+one_kind a b e = sym (same_true the_type tt a b e)
 
 -- something that is spelled, the token of a kind after it, and what comes then
 pub record Closed {A : Type 0} (is : A → List Token → List Token → Type 0) (kind : TokenKind) (further : A → Token → List Token → Type 0) (ts : List Token) : Type 0 where

@@ -20,7 +20,7 @@ use Rattle.pb_grammar.proofs.Steps.{caught, distance, ends_at, Gives, plain, mar
 use Rattle.pb_grammar.proofs.FormLaws.{one_longer, reads_dims}
 use Rattle.pb_grammar.proofs.ExprLaws.{opens, reads_line, reads_arguments, reads_coordinates}
 
-among_is : (ss : List StmtTree) → statements_among (stmts ss) ≡ among ss
+pub among_is : (ss : List StmtTree) → statements_among (stmts ss) ≡ among ss
 among_is [] = refl
 among_is (s ∷ ss) = ap (λ n. statements_in s + n) (among_is ss)
 

@@ -28,12 +28,12 @@ use Rattle.pb_syntax.specs.Exprs.{ExprTree, number, name, call, parentheses, cel
 use Rattle.pb_syntax.specs.Stmts.{StmtTree, let_number, let_matrix, assign, call_stmt, assign_cell, if_stmt, if_else, for_stmt, stmts}
 use Rattle.pb_syntax.specs.Trees.{RuleTree, TransformTree}
 use Rattle.pb_syntax.specs.Grammar.{no_comma, a_comma, IsWord, a_name, no_minimums, some_minimums, IsTerm, number_term, name_term, multiple, fraction, no_terms, plus, minus, IsForm, plain_form, minus_form, IsDims, one_dim, two_dims, IsDecls, no_through, some_through, IsView, whole, cell_x, cell_xy, row, column, region_2, region_4, a_use, no_reads, some_reads, no_conds, some_conds, unmarked, primary, secondary, priority, no_operand, an_operand, a_sum, two_sums, unsigned, minus_prim, not_prim, IsPrim, a_number, the_name, call_of_none, call_of, in_parentheses, cell_of, width_of, height_of, IsExpr, IsArguments, last_argument, an_argument, IsCoordinates, one_coordinate, two_coordinates, IsStmt, let_a_number, let_a_matrix, an_assignment, a_call, a_cell_assignment, an_if, an_if_else, a_for, no_stmt, one_stmt, no_rules, one_rule, one_transform}
-use Rattle.pb_grammar.specs.Numbers.{same}
+use Rattle.pb_syntax.specs.Kinds.{same_kind}
 use Rattle.pb_grammar.specs.Want as w
 use Rattle.pb_grammar.specs.Want.{Want, a_sign, bracket, token, name_token, block, after_if, after_for, after_dot, called, dimensions, some_arguments, coordinates, expression, conjunction, compared, total, product}
 use Rattle.pb_grammar.specs.Reading.{Step, take, refuse, marked, taken_if, step, or_else, related, mark_step, statement_step, term_step, signed_form, primary_step, factor_step, after_factor, term_of}
 use Rattle.pb_grammar.proofs.Spelled.{put, FitsWord, Past, Spelled}
-use Rattle.pb_grammar.proofs.Keeps.{kind_fits, same_kind, shut, closed, spelled_use, spelled_minimum, spelled_dims, spelled_decl, spelled_decls, spelled_condition, spelled_total, spelled_expression, spelled_operand, spelled_coordinates, spelled_arguments, spelled_block, spelled_after_mark, spelled_after_transform}
+use Rattle.pb_grammar.proofs.Keeps.{kind_fits, one_kind, shut, closed, spelled_use, spelled_minimum, spelled_dims, spelled_decl, spelled_decls, spelled_condition, spelled_total, spelled_expression, spelled_operand, spelled_coordinates, spelled_arguments, spelled_block, spelled_after_mark, spelled_after_transform}
 
 module _ (tree : List TransformTree) where
   abbrev pub Kept : Step → Want → Token → Type 0
@@ -461,7 +461,7 @@ module _ (tree : List TransformTree) where
   in_comparison d e f t kind None i further = kept_skip (w.comparison d e f) (f e) t (step (f e) kind t) (λ ts s. (put e (t ∷ ts) (λ all a. a_sum a) s)) further
 
   pub keeps : (v : Want) (kind : TokenKind) (t : Token) → Is kind t → Kept (step v kind t) v t
-  keeps (w.token a f) kind t is = kept_taken (token a f) (f t) t (same a kind) (λ e ts s. (inl (is ∙ same_kind a kind e), s))
+  keeps (w.token a f) kind t is = kept_taken (token a f) (f t) t (same_kind a kind) (λ e ts s. (inl (is ∙ one_kind a kind e), s))
   keeps (w.word n next) k.Name t is = kept_taken (w.word n next) next t (bytes_eq (name_in t).bytes n) (λ e ts s. (inl (is, spells (name_in t).bytes n e), s))
   keeps (w.word n next) _ t is = tt
   keeps (w.begin m v) kind t is = kept_skip (w.begin m v) v t (marked t.at m (step v kind t)) (λ ts s. s) (kept_marked v t t.at m (step v kind t) (keeps v kind t is))

@@ -14,6 +14,7 @@ use Rattle.pb_syntax.specs.Kinds.{Is}
 use Rattle.pb_syntax.specs.Forms.{FormValue}
 use Rattle.pb_syntax.specs.Operators.{condition_relation}
 use Rattle.pb_syntax.specs.Grammar.{Commas, no_comma, a_comma, IsWord, IsForm, IsView, whole, cell_x, cell_xy, row, column, region_2, region_4, IsUse, a_use, IsReads, no_reads, some_reads, IsCond, a_cond, IsConds, no_conds, some_conds}
+use Rattle.pb_syntax.specs.declared.limits.TheConstants.{MOST_VIEWS}
 use Rattle.pb_syntax.specs.Limits.{limited, most, over}
 use Rattle.pb_syntax.specs.TooMany.{TooMany, in_commas, in_form, in_view, in_use, in_reads, in_cond, in_conds}
 use Rattle.pb_grammar.specs.Next.{next_kind}
@@ -71,7 +72,7 @@ module _ (lim : Bool) (end : ℕ) where
 
   -- there may be 16 of both kinds of use
   sized_begin : {next : Want} {ts : List Token} {c : Verdict} (what : Item) → most what ≡ 16 → (n : ℕ)
-      → Gives lim end ts (begin (over what n) next) c → Gives lim end ts (begin (limited 16 n what) next) c
+      → Gives lim end ts (begin (over what n) next) c → Gives lim end ts (begin (limited MOST_VIEWS n what) next) c
   sized_begin {next = next} {ts = ts} {c = c} what e n h = subst (λ (a : ℕ). Gives lim end ts (begin (limited a n what) next) c) e h
 
   pub reads_more_uses : {us : List UseText} {t : Token} {all rest : List Token} (what : Item) (size : most what ≡ 16) (n : ℕ) (us' : Commas IsUse us all (t ∷ rest)) (is : Is k.Close t)

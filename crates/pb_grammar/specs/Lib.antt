@@ -1,5 +1,5 @@
 pub mod Meaning
 pub mod Next
-pub mod Numbers
 pub mod Reading
+pub mod Starts
 pub mod Want

@@ -4,8 +4,7 @@ use Rattle.std.specs.Str.{bytes_eq}
 use Rattle.pb_syntax.specs.declared.token.Token.{Token}
 use Rattle.pb_syntax.specs.declared.kind.TokenKind.{TokenKind}
 use Rattle.pb_syntax.specs.declared.kind.TokenKind.TheVariants as k
-use Rattle.pb_grammar.specs.Numbers.{same}
-use Rattle.pb_syntax.specs.Kinds.{kind_of, name_in}
+use Rattle.pb_syntax.specs.Kinds.{Is, kind_of, name_in}
 
 abbrev pub next_kind : List Token → TokenKind
 next_kind [] = k.End
@@ -25,7 +24,7 @@ abbrev pub next_is : List ℕ → List Token → Bool
 next_is w [] = false
 next_is w (t ∷ _) = word_is w (kind_of t) t
 
--- whether the next token is of this kind
-abbrev pub sees : TokenKind → List Token → Bool
-sees kind [] = false
-sees kind (t ∷ _) = same kind (kind_of t)
+-- the next token is of this kind
+abbrev pub Sees : TokenKind → List Token → Type 0
+Sees kind [] = ⊥
+Sees kind (t ∷ _) = Is kind t

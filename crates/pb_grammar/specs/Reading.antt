@@ -21,7 +21,7 @@ use Rattle.pb_syntax.specs.Stmts.{StmtTree, let_number, let_matrix, assign, if_s
 use Rattle.pb_syntax.specs.Trees.{RuleTree, TransformTree}
 use Rattle.pb_syntax.specs.Operators.{operator_of, relation_of, condition_relation}
 use Rattle.pb_syntax.specs.Limits.{Excess, over, too_great, after_form, counted, excess_of}
-use Rattle.pb_grammar.specs.Numbers.{same}
+use Rattle.pb_syntax.specs.Kinds.{same_kind}
 use Rattle.pb_grammar.specs.Want.{Want, token, word, begin, more_transforms, minimums, more_minimums, more_decls, through, after_dim, last_dim, rule, more_rules, small, more_uses, reads, conditions, more_conditions, view_or_none, view_name, after_x, after_high, form, term, times, quotient, divisor, more_terms, relation, statements, statement, after_let, after_target, more_targets, otherwise, factor, primary, after_name, member, arguments, more_arguments, after_coordinate, more_operands, comparison, bracket, a_sign, a_decl, decls, minimum, a_use, condition, after_mark, after_transform, total, expression, operand, coordinates, name_token, block, after_if, after_for, called, after_dot, dimensions}
 
 pub data Step : Type 0 where
@@ -109,7 +109,7 @@ or_else (Some a) f s = take None (f a)
 or_else None f s = s
 
 abbrev pub step : Want → TokenKind → Token → Step
-step (token kind f) seen t = taken_if (same kind seen) (f t)
+step (token kind f) seen t = taken_if (same_kind kind seen) (f t)
 step (word w further) k.Name t = taken_if (bytes_eq (name_in t).bytes w) further
 step (word w further) seen t = refuse
 step (begin m w) seen t = marked t.at m (step w seen t)

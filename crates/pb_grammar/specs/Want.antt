@@ -21,6 +21,7 @@ use Rattle.pb_syntax.specs.Forms.{FormValue, DeclValue}
 use Rattle.pb_syntax.specs.Exprs.{ExprTree}
 use Rattle.pb_syntax.specs.Stmts.{StmtTree, call_stmt, assign_cell, for_stmt, stmts}
 use Rattle.pb_syntax.specs.Trees.{RuleTree, TransformTree}
+use Rattle.pb_syntax.specs.declared.limits.TheConstants.{MOST_VIEWS}
 use Rattle.pb_syntax.specs.Limits.{SizeNames, limited, over, counted}
 
 pub data Want : Type 0 where
@@ -102,7 +103,7 @@ abbrev pub use_line : (UseText → Want) → Want
 use_line f = token k.Name (λ m. view_or_none (λ v. token k.Name (λ b. f (record { matrix = name_in m; view = v; bound = name_in b }))))
 
 abbrev pub a_use : Item → ℕ → (UseText → Want) → Want
-a_use what before f = begin (limited 16 before what) (use_line f)
+a_use what before f = begin (limited MOST_VIEWS before what) (use_line f)
 
 -- at least one use, after `(`
 abbrev pub uses : Item → (List UseText → Want) → Want

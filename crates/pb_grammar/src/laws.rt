@@ -3,6 +3,8 @@ ghost use Rattle.pb_syntax.specs.declared.token.Token.{Token};
 ghost use Rattle.pb_syntax.specs.declared.refusal.Item.{Item};
 ghost use Rattle.pb_syntax.specs.Trees.{TransformTree};
 ghost use Rattle.pb_syntax.specs.Grammar.{IsProgram};
+ghost use Rattle.pb_syntax.specs.Lexemes.{AreLexemes};
+ghost use Rattle.pb_syntax.specs.WithinLimits.{IsWithinLimits};
 ghost use Rattle.pb_syntax.specs.Faults.{Accepted, BadSyntaxAt, OverLimitAt};
 
 /// A law: a list of tokens has at most one tree.
@@ -21,4 +23,9 @@ pub fn tokens_have_one_answer()
     ensures not_both { (tokens : List Token) (end at : ℕ) (what : Item) (place : ℕ) → BadSyntaxAt tokens end at → OverLimitAt tokens what place → ⊥ }
     ensures no_bad_program { (tokens : List Token) (end at : ℕ) (tree : List TransformTree) → BadSyntaxAt tokens end at → Accepted tree tokens → ⊥ }
     ensures no_large_program { (tokens : List Token) (what : Item) (at : ℕ) (tree : List TransformTree) → OverLimitAt tokens what at → Accepted tree tokens → ⊥ }
+{}
+
+/// A law: an accepted tree, of tokens that a text can have, is within the limits.
+pub fn an_accepted_tree_is_within_limits()
+    ensures { (tokens : List Token) (tree : List TransformTree) → AreLexemes tokens → Accepted tree tokens → IsWithinLimits tree }
 {}

@@ -1,17 +1,13 @@
 -- What the pass over a text keeps, and what follows from its answer.
 use Rattle.std.proofs.Common.{◌≡◌, ℕ, ◌+◌, ◌-◌, ◌<◌, ◌≤◌, ◌⊎◌, inl, inr, List, [], ◌∷◌, ◌++◌, length, take, drop, Some, None, Result, Ok, Err, refl, sym, ◌∙◌, ap, subst, arith, append_assoc, length-append, length-take, length-drop, take_all}
-use Rattle.std.specs.Result.{IfOk, IfErr, MatchResult}
 use Rattle.std.proofs.Math.Seq.{take-append_seam, drop-append_seam}
 use Rattle.std.proofs.lemmas.List.{take-append-drop}
 use Rattle.pb_syntax.specs.declared.token.Token.{Token}
-use Rattle.pb_syntax.specs.declared.refusal.Refusal.{Refusal}
-use Rattle.pb_syntax.specs.declared.refusal.Refusal.TheVariants.{TooLong, BadToken, Memory}
 use Rattle.pb_syntax.specs.Tokens.{Piece, Pieces, none, Spells, BadTokenAt}
 use Rattle.pb_lexer.specs.declared.piece.Front.{Front}
 use Rattle.pb_lexer.specs.Reading.{piece_read, tokens_of}
-use Rattle.pb_lexer.specs.Refusing.{most_bytes, Refused}
 use Rattle.pb_lexer.proofs.PieceLemmas.{found}
-use Rattle.pb_lexer.proofs.EndLemmas.{begins_none, one_after, one_list, no_fault, one_fault}
+use Rattle.pb_lexer.proofs.EndLemmas.{begins_none, one_after}
 
 pub at_start : (text : List ℕ) (tokens : List Token) → tokens ≡ [] → Pieces 0 [] text tokens
 at_start text tokens e = subst (λ (t : List Token). Pieces 0 [] text t) (sym e) none
@@ -66,26 +62,3 @@ at_next text at f tokens new few before read put =
     let size : at + f.size ≡ length (take at text ++ g.spelled) = omega (arith, place, g.size, length-append (take at text) g.spelled) in
     subst (λ (t : List Token). Pieces 0 (take (at + f.size) text) (drop (at + f.size) text) t) (sym says)
     (seam (λ (a b : List ℕ). Pieces 0 a b (tokens ++ tokens_of at g.spelled f.kind)) text (take at text ++ g.spelled) g.after (at + f.size) parts size whole)
-
-module _ {V : Type 0} (items : V → List Token) (text : List ℕ) where
-  pub complete : (r : Result V Refusal) → IfOk r (λ v. Spells text (items v)) → IfErr r (Refused text) → (spelled : List Token)
-      → length text ≤ most_bytes → Spells text spelled → MatchResult r (λ v. items v ≡ spelled) (λ e. e ≡ Memory)
-  complete (Ok v) one why spelled few h = one_list text (items v) spelled one h
-  complete (Err e) one why spelled few h = refused e why
-    where
-      refused : (e : Refusal) → Refused text e → e ≡ Memory
-      refused TooLong long = absurd (omega arith)
-      refused (BadToken at) bad = absurd (no_fault text spelled at h bad.1)
-      refused Memory _ = refl
-      refused other no_cause = absurd no_cause
-
-  pub faulty : (r : Result V Refusal) → IfOk r (λ v. Spells text (items v)) → IfErr r (Refused text) → (at : ℕ)
-      → length text ≤ most_bytes → BadTokenAt text at → MatchResult r (λ _. ⊥) (λ e. (e ≡ BadToken at) ⊎ (e ≡ Memory))
-  faulty (Ok v) one why at few h = no_fault text (items v) at one h
-  faulty (Err e) one why at few h = refused e why
-    where
-      refused : (e : Refusal) → Refused text e → (e ≡ BadToken at) ⊎ (e ≡ Memory)
-      refused TooLong long = absurd (omega arith)
-      refused (BadToken other) bad = inl (ap BadToken (one_fault text other at bad.1 h))
-      refused Memory _ = inr refl
-      refused other no_cause = absurd no_cause

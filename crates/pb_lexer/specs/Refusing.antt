@@ -1,16 +1,18 @@
--- When a text has no tokens.
-use Rattle.std.specs.Prelude.{ℕ, ◌<◌, ◌≤◌, List, length}
+-- Which texts have tokens, and which have none.
+use Rattle.std.specs.Prelude.{ℕ, ◌≤◌, ◌<◌, List, length}
+use Rattle.pb_syntax.specs.declared.limits.TheConstants.{MOST_BYTES}
+use Rattle.pb_syntax.specs.declared.token.Token.{Token}
 use Rattle.pb_syntax.specs.declared.refusal.Refusal.{Refusal}
-use Rattle.pb_syntax.specs.declared.refusal.Refusal.TheVariants.{TooLong, BadToken, Memory}
-use Rattle.pb_syntax.specs.Tokens.{BadTokenAt}
+use Rattle.pb_syntax.specs.declared.refusal.Refusal.TheVariants.{TooLong, BadToken}
+use Rattle.pb_syntax.specs.Tokens.{Spells, BadTokenAt}
 
--- the most bytes of a text
-abbrev pub most_bytes : ℕ
-most_bytes = 1048576
+-- the text isn't too long, and these are its tokens
+pub record IsLexed (text : List ℕ) (tokens : List Token) : Type 0 where
+  pub short : length text ≤ MOST_BYTES
+  pub spelled : Spells text tokens
 
--- when each refusal may come
-abbrev pub Refused : List ℕ → Refusal → Type 0
-Refused text TooLong = most_bytes < length text
-Refused text (BadToken at) = (length text ≤ most_bytes) × BadTokenAt text at
-Refused text Memory = Unit {0}
-Refused text other = ⊥
+-- the text is too long; or it isn't, and this byte begins no token, blank or comment
+abbrev pub IsUnlexed : List ℕ → Refusal → Type 0
+IsUnlexed text TooLong = MOST_BYTES < length text
+IsUnlexed text (BadToken at) = (length text ≤ MOST_BYTES) × BadTokenAt text at
+IsUnlexed text _ = ⊥

@@ -9,5 +9,6 @@ mod laws;
 mod piece;
 mod read;
 
-pub use laws::{a_text_has_one_fault, a_text_has_one_list};
-pub use read::{MOST_BYTES, tokens};
+pub use laws::{a_text_has_one_fault, a_text_has_one_list, tokens_are_lexemes};
+pub use pb_syntax::MOST_BYTES;
+pub use read::tokens;

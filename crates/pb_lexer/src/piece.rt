@@ -1,13 +1,13 @@
 ghost use Rattle.std.specs.Prelude.{◌≡◌, ◌+◌, ◌≤◌, ◌<◌, length, IfSome};
-ghost use Rattle.pb_syntax.specs.Signs.{long_sign, short_sign, begins_comment};
+ghost use Rattle.pb_syntax.specs.Signs.{begins_comment};
 ghost use Rattle.pb_lexer.specs.Reading.{value_within, number_read, word_read, comment_read, sign_read, piece_read};
 
 use crate::bytes::{Run, before_close, begins_name, is_blank, run_length};
+use pb_syntax::MOST_VALUE;
+use pb_syntax::sign::{long_sign, short_sign};
 
 // Another digit after a larger number would pass the greatest.
 const MOST_BEFORE_DIGIT: u64 = 922_337_203_685_477_580;
-
-const MOST: u64 = 9_223_372_036_854_775_807;
 
 /// What some bytes are: a blank or comment, a word, a number with its value, a sign with its place.
 #[derive(Clone, Copy)]
@@ -40,7 +40,7 @@ fn read_value(digits: &[u8]) -> Option<u64>
         }
         value = value * 10 + (*byte - b'0') as u64;
     }
-    if value > MOST { None } else { Some(value) }
+    if value > MOST_VALUE { None } else { Some(value) }
 }
 
 fn read_number(text: &[u8]) -> Option<Front>
@@ -53,47 +53,6 @@ fn read_number(text: &[u8]) -> Option<Front>
         kind: PieceKind::Number(value),
         size,
     })
-}
-
-fn long_sign(first: u8, second: u8) -> Option<u8>
-    ensures { result ≡ long_sign first second }
-{
-    match (first, second) {
-        (b'.', b'.') => Some(9),
-        (b'=', b'=') => Some(11),
-        (b'!', b'=') => Some(12),
-        (b'<', b'=') => Some(14),
-        (b'>', b'=') => Some(16),
-        (b'&', b'&') => Some(22),
-        (b'|', b'|') => Some(23),
-        _ => None,
-    }
-}
-
-fn short_sign(byte: u8) -> Option<u8>
-    ensures { result ≡ short_sign byte }
-{
-    match byte {
-        b'(' => Some(0),
-        b')' => Some(1),
-        b'{' => Some(2),
-        b'}' => Some(3),
-        b'[' => Some(4),
-        b']' => Some(5),
-        b',' => Some(6),
-        b';' => Some(7),
-        b'.' => Some(8),
-        b'=' => Some(10),
-        b'<' => Some(13),
-        b'>' => Some(15),
-        b'+' => Some(17),
-        b'-' => Some(18),
-        b'*' => Some(19),
-        b'/' => Some(20),
-        b'%' => Some(21),
-        b'!' => Some(24),
-        _ => None,
-    }
 }
 
 fn begins_comment(first: u8, second: u8) -> bool

@@ -1,16 +1,12 @@
-ghost use Rattle.std.specs.Prelude.{◌≡◌, ℕ, ◌≤◌, ◌<◌, ◌⊎◌, List, ◌++◌, length, IfOk, IfErr, MatchResult};
-ghost use Rattle.pb_syntax.specs.declared.token.Token.{Token as AToken};
-ghost use Rattle.pb_syntax.specs.declared.refusal.Refusal.TheVariants.{TooLong, BadToken, Memory};
-ghost use Rattle.pb_syntax.specs.Tokens.{Spells, BadTokenAt};
+ghost use Rattle.std.specs.Prelude.{◌≡◌, ◌≤◌, ◌<◌, ◌⊎◌, ◌++◌, length, Err, IfOk, IfErr};
+ghost use Rattle.pb_syntax.specs.declared.refusal.Refusal.TheVariants.{TooLong, Memory};
+ghost use Rattle.pb_syntax.specs.Tokens.{Spells};
 ghost use Rattle.pb_lexer.specs.Reading.{tokens_of};
-ghost use Rattle.pb_lexer.specs.Refusing.{most_bytes, Refused};
+ghost use Rattle.pb_lexer.specs.Refusing.{IsLexed, IsUnlexed};
 
 use crate::piece::{PieceKind, read_front};
-use pb_syntax::{Name, Refusal, Token, TokenWhat};
+use pb_syntax::{MOST_BYTES, Name, Refusal, Token, TokenWhat};
 use std::alloc::Global;
-
-/// The most bytes of a text.
-pub const MOST_BYTES: usize = 1_048_576;
 
 // Puts the token of some bytes after the others, if they are one.
 fn put_token(
@@ -34,9 +30,9 @@ fn put_token(
 }
 
 fn read_pieces(alloc: Global, text: &[u8]) -> Result<Vec<Token>, Refusal>
-    requires { length text.now ≤ most_bytes }
+    requires { length text.now ≤ MOST_BYTES }
     ensures found { IfOk result (λ found. Spells text.now found.items) }
-    ensures refused { IfErr result (Refused text.now) }
+    ensures refused { IfErr result (λ e. (e ≡ Memory) ⊎ IsUnlexed text.now e) }
 {
     let mut found = Vec::new(alloc);
     let mut at: usize = 0;
@@ -57,17 +53,12 @@ fn read_pieces(alloc: Global, text: &[u8]) -> Result<Vec<Token>, Refusal>
     Ok(found)
 }
 
-/// The tokens of a text, each with the place of its first byte. `TooLong` where the text is longer than
-/// `MOST_BYTES`, else `BadToken` with the first byte that begins no token, blank or comment.
+/// The tokens of a text, each with the place of its first byte. `TooLong` if the text is longer than `MOST_BYTES`, before
+/// any memory is taken; else `BadToken` with the first byte that begins no token, blank or comment.
 pub fn tokens(alloc: Global, text: &[u8]) -> Result<Vec<Token>, Refusal>
-    ensures found { IfOk result (λ found. Spells text.now found.items) }
-    ensures refused { IfErr result (Refused text.now) }
-    ensures short { IfOk result (λ _. length text.now ≤ most_bytes) }
-    ensures complete { (spelled : List AToken) → length text.now ≤ most_bytes → Spells text.now spelled
-        → MatchResult result (λ found. found.items ≡ spelled) (λ e. e ≡ Memory) }
-    ensures too_long { most_bytes < length text.now → MatchResult result (λ _. ⊥) (λ e. e ≡ TooLong) }
-    ensures bad_token { (at : ℕ) → length text.now ≤ most_bytes → BadTokenAt text.now at
-        → MatchResult result (λ _. ⊥) (λ e. (e ≡ BadToken at) ⊎ (e ≡ Memory)) }
+    ensures found { IfOk result (λ found. IsLexed text.now found.items) }
+    ensures refused { IfErr result (λ e. (e ≡ Memory) ⊎ IsUnlexed text.now e) }
+    ensures too_long { MOST_BYTES < length text.now → result ≡ Err TooLong }
 {
     if text.len() > MOST_BYTES {
         return Err(Refusal::TooLong);

@@ -2,19 +2,15 @@ ghost use Rattle.std.specs.Prelude.{◌≡◌, ◌+◌, ◌<◌, ◌≤◌, [], 
 ghost use Rattle.pb_grammar.specs.Want.{a_decl, decls, through, minimum, minimums, more_minimums};
 ghost use Rattle.pb_syntax.specs.Limits.{counted};
 ghost use Rattle.pb_body_parser.specs.Dims.{sizes_known, after_dims};
-ghost use Rattle.pb_body_parser.specs.Leads.{Leads};
+ghost use Rattle.pb_body_parser.specs.Leads.{Leads, Shortens};
 
 use pb_body_parser::begin_name;
 use pb_body_parser::{Cursor, name_in};
 use pb_body_parser::counted_dims;
 use pb_body_parser::Fault;
 use pb_body_parser::small;
-use pb_syntax::{DeclText, Item, TokenKind, Name};
+use pb_syntax::{DeclText, Item, MOST_MATRICES, MOST_MINIMUMS, Name, TokenKind};
 use std::alloc::Global;
-
-const MOST_MATRICES: usize = 16;
-
-const MOST_MINIMUMS: usize = 8;
 
 fn no_sizes(alloc: Global, sized: bool) -> Option<Vec<Name>>
     ensures { sizes_known result ≡ counted sized [] }
@@ -34,7 +30,7 @@ fn decl(
     ensures leads { Leads (λ d. d) result (a_decl before (sizes_known known.old)) cursor.old cursor.new }
     ensures counted { IfOk result (λ d. sizes_known known.new ≡ after_dims (sizes_known known.old) d.dims) }
     ensures within { OnOk result (before < 16) }
-    ensures shorter { OnOk result (length cursor.new.rest.now < length cursor.old.rest.now) }
+    ensures shorter { Shortens result cursor.old cursor.new }
 {
     let name = name_in(
         alloc,
@@ -45,10 +41,9 @@ fn decl(
     Ok(DeclText { name, dims })
 }
 
-/// Matrices, of which so many of the transform stand before; `sized` where names that stand alone as their
-/// dimensions are counted.
+/// Matrices, after `before` others of the transform; `sized` if names that stand alone as their dimensions are counted.
 #[tactic(auto, using(crate::proofs::DeclLemmas::counted_more))]
-pub(crate) fn decls(
+pub fn decls(
     alloc: Global,
     cursor: &mut Cursor<'_>,
     before: usize,
@@ -57,7 +52,7 @@ pub(crate) fn decls(
     requires { before ≤ 16 }
     ensures leads { Leads (λ v. v.items) result (decls before sized) cursor.old cursor.new }
     ensures within { IfOk result (λ v. before + length v.items ≤ 16) }
-    ensures shorter { OnOk result (length cursor.new.rest.now < length cursor.old.rest.now) }
+    ensures shorter { Shortens result cursor.old cursor.new }
 {
     let mut known = no_sizes(alloc, sized);
     let mut found = Vec::new(alloc);
@@ -73,8 +68,8 @@ pub(crate) fn decls(
     }
 }
 
-/// `through` and matrices, or none, and `to`.
-pub(crate) fn through(
+/// The matrices after `through`, or none, up to and with `to`.
+pub fn through(
     alloc: Global,
     cursor: &mut Cursor<'_>,
     before: usize,
@@ -82,7 +77,7 @@ pub(crate) fn through(
     requires { before ≤ 16 }
     ensures leads { Leads (λ v. v.items) result (through before) cursor.old cursor.new }
     ensures within { IfOk result (λ v. before + length v.items ≤ 16) }
-    ensures shorter { OnOk result (length cursor.new.rest.now < length cursor.old.rest.now) }
+    ensures shorter { Shortens result cursor.old cursor.new }
 {
     match cursor.peek() {
         TokenKind::Through => {
@@ -101,7 +96,7 @@ pub(crate) fn through(
 
 fn minimum(alloc: Global, cursor: &mut Cursor<'_>, before: usize) -> Result<(Name, u64), Fault>
     ensures leads { Leads (λ m. m) result (minimum before) cursor.old cursor.new }
-    ensures shorter { OnOk result (length cursor.new.rest.now < length cursor.old.rest.now) }
+    ensures shorter { Shortens result cursor.old cursor.new }
 {
     let name = name_in(
         alloc,
@@ -114,7 +109,7 @@ fn minimum(alloc: Global, cursor: &mut Cursor<'_>, before: usize) -> Result<(Nam
 
 fn some_minimums(alloc: Global, cursor: &mut Cursor<'_>) -> Result<Vec<(Name, u64)>, Fault>
     ensures leads { Leads (λ v. v.items) result (λ f. minimum 0 (λ m. more_minimums (m ∷ []) f)) cursor.old cursor.new }
-    ensures shorter { OnOk result (length cursor.new.rest.now < length cursor.old.rest.now) }
+    ensures shorter { Shortens result cursor.old cursor.new }
 {
     let mut found = Vec::new(alloc);
     found.push(minimum(alloc, cursor, 0)?)?;
@@ -134,10 +129,10 @@ fn some_minimums(alloc: Global, cursor: &mut Cursor<'_>) -> Result<Vec<(Name, u6
     }
 }
 
-/// `where` and least values of sizes, or none, and `from`.
-pub(crate) fn minimums(alloc: Global, cursor: &mut Cursor<'_>) -> Result<Vec<(Name, u64)>, Fault>
+/// The minimums after `where`, or none, up to and with `from`.
+pub fn minimums(alloc: Global, cursor: &mut Cursor<'_>) -> Result<Vec<(Name, u64)>, Fault>
     ensures leads { Leads (λ v. v.items) result minimums cursor.old cursor.new }
-    ensures shorter { OnOk result (length cursor.new.rest.now < length cursor.old.rest.now) }
+    ensures shorter { Shortens result cursor.old cursor.new }
 {
     match cursor.peek() {
         TokenKind::Where => {

@@ -4,8 +4,8 @@ ghost use Rattle.pb_parser.specs.Gives.{refused_with};
 use pb_body_parser::Fault;
 use pb_syntax::{Refusal, Text};
 
-/// The tree, or the refusal that a fault is.
-pub(crate) fn refused_with(read: Result<Text, Fault>) -> Result<Text, Refusal>
+/// A fault as the refusal that it is.
+pub fn refused_with(read: Result<Text, Fault>) -> Result<Text, Refusal>
     ensures { result ≡ refused_with read }
 {
     match read {

@@ -3,8 +3,8 @@ ghost use Rattle.pb_syntax.specs.Trees.{bare_rule};
 ghost use Rattle.pb_syntax.specs.declared.refusal.Item.TheVariants.{Conditions, Rules};
 ghost use Rattle.pb_syntax.specs.declared.kind.TokenKind.TheVariants.{To};
 ghost use Rattle.pb_grammar.specs.Want.{a_use, uses, rules, reads, condition, conditions, more_conditions, relation, form, begin, after_mark, a_sign, rule};
-ghost use Rattle.pb_syntax.specs.Limits.{limited};
-ghost use Rattle.pb_body_parser.specs.Leads.{Leads};
+ghost use Rattle.pb_syntax.specs.Limits.{over};
+ghost use Rattle.pb_body_parser.specs.Leads.{Leads, Shortens};
 
 use pb_body_parser::begin_name;
 use pb_body_parser::{Cursor, name_in};
@@ -12,14 +12,8 @@ use pb_body_parser::Fault;
 use pb_body_parser::{form, small};
 use pb_body_parser::statements;
 use crate::view::view_or_none;
-use pb_syntax::{CondText, FormText, Item, TokenKind, MarkText, Relation, RuleText, UseText};
+use pb_syntax::{CondText, FormText, Item, MOST_CONDITIONS, MOST_RULES, MOST_VIEWS, MarkText, Relation, RuleText, TokenKind, UseText};
 use std::alloc::Global;
-
-const MOST_USES: usize = 16;
-
-const MOST_CONDITIONS: usize = 16;
-
-const MOST_RULES: usize = 32;
 
 fn one_use(
     alloc: Global,
@@ -28,9 +22,9 @@ fn one_use(
     before: usize,
 ) -> Result<UseText, Fault>
     ensures leads { Leads (λ u. u) result (a_use what before) cursor.old cursor.new }
-    ensures shorter { OnOk result (length cursor.new.rest.now < length cursor.old.rest.now) }
+    ensures shorter { Shortens result cursor.old cursor.new }
 {
-    let matrix = name_in(alloc, begin_name(cursor, MOST_USES, before, what)?)?;
+    let matrix = name_in(alloc, begin_name(cursor, MOST_VIEWS, before, what)?)?;
     let view = view_or_none(alloc, cursor)?;
     let bound = name_in(alloc, cursor.expect(TokenKind::Name)?)?;
     Ok(UseText {
@@ -42,7 +36,7 @@ fn one_use(
 
 fn uses(alloc: Global, cursor: &mut Cursor<'_>, what: Item) -> Result<Vec<UseText>, Fault>
     ensures leads { Leads (λ v. v.items) result (uses what) cursor.old cursor.new }
-    ensures shorter { OnOk result (length cursor.new.rest.now < length cursor.old.rest.now) }
+    ensures shorter { Shortens result cursor.old cursor.new }
 {
     let mut found = Vec::new(alloc);
     found.push(one_use(alloc, cursor, what, 0)?)?;
@@ -65,7 +59,7 @@ fn uses(alloc: Global, cursor: &mut Cursor<'_>, what: Item) -> Result<Vec<UseTex
 #[tactic(auto, using(crate::proofs::RuleLemmas::some_reads))]
 fn reads(alloc: Global, cursor: &mut Cursor<'_>) -> Result<Vec<UseText>, Fault>
     ensures leads { Leads (λ v. v.items) result reads cursor.old cursor.new }
-    ensures shorter { OnOk result (length cursor.new.rest.now < length cursor.old.rest.now) }
+    ensures shorter { Shortens result cursor.old cursor.new }
 {
     match cursor.peek() {
         TokenKind::Close => {
@@ -78,7 +72,7 @@ fn reads(alloc: Global, cursor: &mut Cursor<'_>) -> Result<Vec<UseText>, Fault>
 
 fn relation(cursor: &mut Cursor<'_>) -> Result<Relation, Fault>
     ensures leads { Leads (λ r. r) result relation cursor.old cursor.new }
-    ensures shorter { OnOk result (length cursor.new.rest.now < length cursor.old.rest.now) }
+    ensures shorter { Shortens result cursor.old cursor.new }
 {
     match cursor.peek() {
         TokenKind::Less => {
@@ -107,8 +101,8 @@ fn relation(cursor: &mut Cursor<'_>) -> Result<Relation, Fault>
 
 #[tactic(auto, using(pb_body_parser::proofs::BeginLemmas::begin_within))]
 fn begin_form(alloc: Global, cursor: &mut Cursor<'_>, before: usize) -> Result<FormText, Fault>
-    ensures leads { Leads (λ x. x) result (λ f. begin (limited 16 before Conditions) (form f)) cursor.old cursor.new }
-    ensures shorter { OnOk result (length cursor.new.rest.now < length cursor.old.rest.now) }
+    ensures leads { Leads (λ x. x) result (λ f. begin (over Conditions before) (form f)) cursor.old cursor.new }
+    ensures shorter { Shortens result cursor.old cursor.new }
 {
     if before < MOST_CONDITIONS {
         return form(alloc, cursor);
@@ -123,7 +117,7 @@ fn begin_form(alloc: Global, cursor: &mut Cursor<'_>, before: usize) -> Result<F
 
 fn condition(alloc: Global, cursor: &mut Cursor<'_>, before: usize) -> Result<CondText, Fault>
     ensures leads { Leads (λ c. c) result (condition before) cursor.old cursor.new }
-    ensures shorter { OnOk result (length cursor.new.rest.now < length cursor.old.rest.now) }
+    ensures shorter { Shortens result cursor.old cursor.new }
 {
     let left = begin_form(alloc, cursor, before)?;
     let relation = relation(cursor)?;
@@ -137,7 +131,7 @@ fn condition(alloc: Global, cursor: &mut Cursor<'_>, before: usize) -> Result<Co
 
 fn some_conditions(alloc: Global, cursor: &mut Cursor<'_>) -> Result<Vec<CondText>, Fault>
     ensures leads { Leads (λ v. v.items) result (λ f. condition 0 (λ c. more_conditions (c ∷ []) f)) cursor.old cursor.new }
-    ensures shorter { OnOk result (length cursor.new.rest.now < length cursor.old.rest.now) }
+    ensures shorter { Shortens result cursor.old cursor.new }
 {
     let mut found = Vec::new(alloc);
     found.push(condition(alloc, cursor, 0)?)?;
@@ -159,7 +153,7 @@ fn some_conditions(alloc: Global, cursor: &mut Cursor<'_>) -> Result<Vec<CondTex
 
 fn conditions(alloc: Global, cursor: &mut Cursor<'_>) -> Result<Vec<CondText>, Fault>
     ensures leads { Leads (λ v. v.items) result conditions cursor.old cursor.new }
-    ensures shorter { OnOk result (length cursor.new.rest.now < length cursor.old.rest.now) }
+    ensures shorter { Shortens result cursor.old cursor.new }
 {
     match cursor.peek() {
         TokenKind::Where => {
@@ -177,7 +171,7 @@ fn conditions(alloc: Global, cursor: &mut Cursor<'_>) -> Result<Vec<CondText>, F
 #[tactic(auto, unfolding(pb_grammar::specs::Want::after_mark))]
 fn after_mark(alloc: Global, cursor: &mut Cursor<'_>, mark: MarkText) -> Result<RuleText, Fault>
     ensures leads { Leads bare_rule result (after_mark mark) cursor.old cursor.new }
-    ensures shorter { OnOk result (length cursor.new.rest.now < length cursor.old.rest.now) }
+    ensures shorter { Shortens result cursor.old cursor.new }
 {
     cursor.expect(TokenKind::Open)?;
     let outs = uses(alloc, cursor, Item::Outputs)?;
@@ -198,7 +192,7 @@ fn after_mark(alloc: Global, cursor: &mut Cursor<'_>, mark: MarkText) -> Result<
 
 fn marked(alloc: Global, cursor: &mut Cursor<'_>, mark: MarkText) -> Result<RuleText, Fault>
     ensures leads { Leads bare_rule result (λ f. a_sign To (after_mark mark f)) cursor.old cursor.new }
-    ensures shorter { OnOk result (length cursor.new.rest.now < length cursor.old.rest.now) }
+    ensures shorter { Shortens result cursor.old cursor.new }
 {
     cursor.expect(TokenKind::To)?;
     after_mark(alloc, cursor, mark)
@@ -206,7 +200,7 @@ fn marked(alloc: Global, cursor: &mut Cursor<'_>, mark: MarkText) -> Result<Rule
 
 fn rule(alloc: Global, cursor: &mut Cursor<'_>) -> Result<RuleText, Fault>
     ensures leads { Leads bare_rule result rule cursor.old cursor.new }
-    ensures shorter { OnOk result (length cursor.new.rest.now < length cursor.old.rest.now) }
+    ensures shorter { Shortens result cursor.old cursor.new }
 {
     match cursor.peek() {
         TokenKind::To => {
@@ -233,9 +227,9 @@ fn rule(alloc: Global, cursor: &mut Cursor<'_>) -> Result<RuleText, Fault>
 }
 
 #[tactic(auto, using(pb_body_parser::proofs::BeginLemmas::begin_within))]
-fn further_rule(alloc: Global, cursor: &mut Cursor<'_>, before: usize) -> Result<RuleText, Fault>
-    ensures leads { Leads bare_rule result (λ f. begin (limited 32 before Rules) (rule f)) cursor.old cursor.new }
-    ensures shorter { OnOk result (length cursor.new.rest.now < length cursor.old.rest.now) }
+fn next_rule(alloc: Global, cursor: &mut Cursor<'_>, before: usize) -> Result<RuleText, Fault>
+    ensures leads { Leads bare_rule result (λ f. begin (over Rules before) (rule f)) cursor.old cursor.new }
+    ensures shorter { Shortens result cursor.old cursor.new }
 {
     if before < MOST_RULES {
         return rule(alloc, cursor);
@@ -250,10 +244,10 @@ fn further_rule(alloc: Global, cursor: &mut Cursor<'_>, before: usize) -> Result
 }
 
 /// The rules of a transform, and the `}` after them.
-#[tactic(auto, using(crate::proofs::RuleLemmas::further_rule, crate::proofs::RuleLemmas::rules_more))]
-pub(crate) fn rules(alloc: Global, cursor: &mut Cursor<'_>) -> Result<Vec<RuleText>, Fault>
+#[tactic(auto, using(crate::proofs::RuleLemmas::next_rule, crate::proofs::RuleLemmas::rules_more))]
+pub fn rules(alloc: Global, cursor: &mut Cursor<'_>) -> Result<Vec<RuleText>, Fault>
     ensures leads { Leads (λ v. map bare_rule v.items) result rules cursor.old cursor.new }
-    ensures shorter { OnOk result (length cursor.new.rest.now < length cursor.old.rest.now) }
+    ensures shorter { Shortens result cursor.old cursor.new }
 {
     let mut found = Vec::new(alloc);
     found.push(rule(alloc, cursor)?)?;
@@ -265,7 +259,7 @@ pub(crate) fn rules(alloc: Global, cursor: &mut Cursor<'_>) -> Result<Vec<RuleTe
             }
             _ => {}
         }
-        let further = further_rule(alloc, cursor, found.len())?;
+        let further = next_rule(alloc, cursor, found.len())?;
         found.push(further)?;
     }
 }

@@ -1,15 +1,12 @@
-ghost use Rattle.std.specs.Prelude.{◌≡◌, ◌<◌, ◌⊎◌, ℕ, List, [], length, OnOk, IfOk, IfErr, MatchResult};
-ghost use Rattle.pb_syntax.specs.declared.refusal.Item.{Item as AnItem};
-ghost use Rattle.pb_syntax.specs.declared.refusal.Refusal.TheVariants.{BadSyntax, OverLimit, Memory};
-ghost use Rattle.pb_syntax.specs.Trees.{TransformTree, bare_transform, bare_text};
-ghost use Rattle.pb_syntax.specs.Grammar.{IsProgram};
-ghost use Rattle.pb_syntax.specs.TooMany.{in_program};
-ghost use Rattle.pb_syntax.specs.Faults.{Accepted, RefusedTokens, BadSyntaxAt, OverLimitAt};
+ghost use Rattle.std.specs.Prelude.{◌≡◌, ◌⊎◌, IfOk, IfErr};
+ghost use Rattle.pb_syntax.specs.declared.refusal.Refusal.TheVariants.{Memory};
+ghost use Rattle.pb_syntax.specs.Trees.{bare_transform, bare_text};
+ghost use Rattle.pb_syntax.specs.Faults.{Accepted, AreRefused};
 ghost use Rattle.pb_syntax.specs.declared.refusal.Item.TheVariants.{Transforms};
 ghost use Rattle.pb_grammar.specs.Want.{a_transform, begin, program};
-ghost use Rattle.pb_syntax.specs.Limits.{limited};
+ghost use Rattle.pb_syntax.specs.Limits.{over};
 ghost use Rattle.pb_grammar.specs.Reading.{read};
-ghost use Rattle.pb_body_parser.specs.Leads.{Leads};
+ghost use Rattle.pb_body_parser.specs.Leads.{Leads, Shortens};
 ghost use Rattle.pb_parser.specs.Gives.{Gives};
 
 use pb_body_parser::{Cursor, name_in};
@@ -17,14 +14,12 @@ use crate::decl::{decls, minimums, through};
 use crate::refused::refused_with;
 use pb_body_parser::Fault;
 use crate::rule::rules;
-use pb_syntax::{Item, TokenKind, Refusal, Text, Token, TransformText};
+use pb_syntax::{Item, MOST_TRANSFORMS, Refusal, Text, Token, TokenKind, TransformText};
 use std::alloc::Global;
-
-const MOST_TRANSFORMS: usize = 64;
 
 fn transform(alloc: Global, cursor: &mut Cursor<'_>) -> Result<TransformText, Fault>
     ensures leads { Leads bare_transform result a_transform cursor.old cursor.new }
-    ensures shorter { OnOk result (length cursor.new.rest.now < length cursor.old.rest.now) }
+    ensures shorter { Shortens result cursor.old cursor.new }
 {
     cursor.expect(TokenKind::Transform)?;
     let name = name_in(alloc, cursor.expect(TokenKind::Name)?)?;
@@ -45,13 +40,13 @@ fn transform(alloc: Global, cursor: &mut Cursor<'_>) -> Result<TransformText, Fa
 }
 
 #[tactic(auto, using(pb_body_parser::proofs::BeginLemmas::begin_within))]
-fn further_transform(
+fn next_transform(
     alloc: Global,
     cursor: &mut Cursor<'_>,
     before: usize,
 ) -> Result<TransformText, Fault>
-    ensures leads { Leads bare_transform result (λ f. begin (limited 64 before Transforms) (a_transform f)) cursor.old cursor.new }
-    ensures shorter { OnOk result (length cursor.new.rest.now < length cursor.old.rest.now) }
+    ensures leads { Leads bare_transform result (λ f. begin (over Transforms before) (a_transform f)) cursor.old cursor.new }
+    ensures shorter { Shortens result cursor.old cursor.new }
 {
     if before < MOST_TRANSFORMS {
         return transform(alloc, cursor);
@@ -62,7 +57,7 @@ fn further_transform(
     }
 }
 
-#[tactic(auto, using(crate::proofs::RuleLemmas::further_transform, crate::proofs::RuleLemmas::transforms_more))]
+#[tactic(auto, using(crate::proofs::RuleLemmas::next_transform, crate::proofs::RuleLemmas::transforms_more))]
 fn read_program(alloc: Global, tokens: &[Token], end: u32) -> Result<Text, Fault>
     ensures read { Gives result (read end tokens.now program) }
 {
@@ -70,7 +65,7 @@ fn read_program(alloc: Global, tokens: &[Token], end: u32) -> Result<Text, Fault
     let mut transforms = Vec::new(alloc);
     transforms.push(transform(alloc, &mut cursor)?)?;
     while !cursor.rest.is_empty() {
-        let further = further_transform(alloc, &mut cursor, transforms.len())?;
+        let further = next_transform(alloc, &mut cursor, transforms.len())?;
         transforms.push(further)?;
     }
     Ok(Text { transforms })
@@ -81,7 +76,7 @@ fn read_program(alloc: Global, tokens: &[Token], end: u32) -> Result<Text, Fault
 /// item is too many before such a place, with the first item that is and the place where it begins.
 pub fn parse(alloc: Global, tokens: &[Token], end: u32) -> Result<Text, Refusal>
     ensures found { IfOk result (λ t. Accepted (bare_text t) tokens.now) }
-    ensures refused { IfErr result (RefusedTokens tokens.now end) }
+    ensures refused { IfErr result (λ e. (e ≡ Memory) ⊎ AreRefused tokens.now end e) }
 {
     refused_with(read_program(alloc, tokens, end))
 }

@@ -4,7 +4,7 @@ ghost use Rattle.pb_syntax.specs.declared.kind.TokenKind.TheVariants.{Open, Clos
 ghost use Rattle.pb_syntax.specs.declared.tree.view.ViewText.TheVariants.{Row, Column};
 ghost use Rattle.pb_grammar.specs.Want.{form, a_sign, after_x, view_or_none, view_name};
 ghost use Rattle.pb_grammar.specs.Reading.{between};
-ghost use Rattle.pb_body_parser.specs.Leads.{Leads};
+ghost use Rattle.pb_body_parser.specs.Leads.{Leads, Shortens, NeverGrows};
 
 use pb_body_parser::Cursor;
 use pb_body_parser::Fault;
@@ -13,7 +13,7 @@ use pb_syntax::{TokenKind, Token, TokenWhat, ViewText};
 use std::alloc::Global;
 
 /// The bytes of the name that a token is.
-pub(crate) fn word_in(token: &Token) -> &[u8]
+pub fn word_in(token: &Token) -> &[u8]
     ensures { result.now ≡ (name_in token.now).bytes }
 {
     match &token.what {
@@ -24,7 +24,7 @@ pub(crate) fn word_in(token: &Token) -> &[u8]
 
 fn row(alloc: Global, cursor: &mut Cursor<'_>) -> Result<ViewText, Fault>
     ensures leads { Leads (λ v. v) result (λ f. a_sign Open (form (λ y. a_sign Close (f (Row y))))) cursor.old cursor.new }
-    ensures shorter { OnOk result (length cursor.new.rest.now < length cursor.old.rest.now) }
+    ensures shorter { Shortens result cursor.old cursor.new }
 {
     cursor.expect(TokenKind::Open)?;
     let y = form(alloc, cursor)?;
@@ -34,7 +34,7 @@ fn row(alloc: Global, cursor: &mut Cursor<'_>) -> Result<ViewText, Fault>
 
 fn column(alloc: Global, cursor: &mut Cursor<'_>) -> Result<ViewText, Fault>
     ensures leads { Leads (λ v. v) result (λ f. a_sign Open (form (λ x. a_sign Close (f (Column x))))) cursor.old cursor.new }
-    ensures shorter { OnOk result (length cursor.new.rest.now < length cursor.old.rest.now) }
+    ensures shorter { Shortens result cursor.old cursor.new }
 {
     cursor.expect(TokenKind::Open)?;
     let x = form(alloc, cursor)?;
@@ -44,7 +44,7 @@ fn column(alloc: Global, cursor: &mut Cursor<'_>) -> Result<ViewText, Fault>
 
 fn cell(alloc: Global, cursor: &mut Cursor<'_>) -> Result<ViewText, Fault>
     ensures leads { Leads (λ v. v) result (λ f. a_sign Open (form (λ x. after_x x f))) cursor.old cursor.new }
-    ensures shorter { OnOk result (length cursor.new.rest.now < length cursor.old.rest.now) }
+    ensures shorter { Shortens result cursor.old cursor.new }
 {
     cursor.expect(TokenKind::Open)?;
     let x = form(alloc, cursor)?;
@@ -65,7 +65,7 @@ fn cell(alloc: Global, cursor: &mut Cursor<'_>) -> Result<ViewText, Fault>
 
 fn region(alloc: Global, cursor: &mut Cursor<'_>) -> Result<ViewText, Fault>
     ensures leads { Leads (λ v. v) result between cursor.old cursor.new }
-    ensures shorter { OnOk result (length cursor.new.rest.now < length cursor.old.rest.now) }
+    ensures shorter { Shortens result cursor.old cursor.new }
 {
     cursor.expect(TokenKind::Open)?;
     let first = form(alloc, cursor)?;
@@ -98,7 +98,7 @@ fn region(alloc: Global, cursor: &mut Cursor<'_>) -> Result<ViewText, Fault>
 
 fn view(alloc: Global, cursor: &mut Cursor<'_>) -> Result<ViewText, Fault>
     ensures leads { Leads (λ v. v) result view_name cursor.old cursor.new }
-    ensures shorter { OnOk result (length cursor.new.rest.now < length cursor.old.rest.now) }
+    ensures shorter { Shortens result cursor.old cursor.new }
 {
     match cursor.peek() {
         TokenKind::Name => {
@@ -123,9 +123,9 @@ fn view(alloc: Global, cursor: &mut Cursor<'_>) -> Result<ViewText, Fault>
 }
 
 /// `.` and a view, or the whole matrix where no `.` comes next.
-pub(crate) fn view_or_none(alloc: Global, cursor: &mut Cursor<'_>) -> Result<ViewText, Fault>
+pub fn view_or_none(alloc: Global, cursor: &mut Cursor<'_>) -> Result<ViewText, Fault>
     ensures leads { Leads (λ v. v) result view_or_none cursor.old cursor.new }
-    ensures shorter { OnOk result (length cursor.new.rest.now ≤ length cursor.old.rest.now) }
+    ensures no_longer { NeverGrows result cursor.old cursor.new }
 {
     match cursor.peek() {
         TokenKind::Dot => {

@@ -4,7 +4,6 @@ ghost use Rattle.pb_syntax.specs.Trees.{bare_text};
 
 mod expression;
 mod form;
-mod sign;
 mod statement;
 mod transform;
 mod view;

@@ -3,7 +3,7 @@ use Rattle.std.specs.Prelude.{◌≡◌, ℕ, ◌≤◌, ◌<◌, List, [], ◌�
 use Rattle.pb_syntax.specs.declared.token.Token.{Token}
 use Rattle.pb_syntax.specs.declared.refusal.Item.{Item}
 use Rattle.pb_syntax.specs.declared.refusal.Refusal.{Refusal}
-use Rattle.pb_syntax.specs.declared.refusal.Refusal.TheVariants.{BadSyntax, OverLimit, Memory}
+use Rattle.pb_syntax.specs.declared.refusal.Refusal.TheVariants.{BadSyntax, OverLimit}
 use Rattle.pb_syntax.specs.Trees.{TransformTree}
 use Rattle.pb_syntax.specs.Grammar.{IsProgram}
 use Rattle.pb_syntax.specs.TooMany.{TooMany, in_program}
@@ -56,9 +56,8 @@ pub record OverLimitAt (tokens : List Token) (what : Item) (at : ℕ) : Type 0 w
 abbrev pub Accepted : List TransformTree → List Token → Type 0
 Accepted tree tokens = (p : IsProgram tree tokens) × (in_program p ≡ [])
 
--- when each refusal may come
-abbrev pub RefusedTokens : List Token → ℕ → Refusal → Type 0
-RefusedTokens tokens end (BadSyntax at) = BadSyntaxAt tokens end at
-RefusedTokens tokens end (OverLimit what at) = OverLimitAt tokens what at
-RefusedTokens tokens end Memory = Unit {0}
-RefusedTokens tokens end _ = ⊥
+-- these tokens, of a text that ends there, are refused so
+abbrev pub AreRefused : List Token → ℕ → Refusal → Type 0
+AreRefused tokens end (BadSyntax at) = BadSyntaxAt tokens end at
+AreRefused tokens end (OverLimit what at) = OverLimitAt tokens what at
+AreRefused tokens end _ = ⊥

@@ -1,5 +1,6 @@
 -- What a token is to the grammar.
-use Rattle.std.specs.Prelude.{◌≡◌, ℕ, ◌==◌, List, [], codes, if◌then◌else◌}
+use denote.Enum.Bare.{sameb}
+use Rattle.std.specs.Prelude.{◌≡◌, ℕ, ◌+◌, Bool, ◌==◌, List, [], ◌∷◌, if◌then◌else◌}
 use Rattle.std.specs.Str.{bytes_eq}
 use Rattle.pb_values.specs.Name.{NameValue}
 use Rattle.pb_syntax.specs.declared.token.Token.{Token}
@@ -7,51 +8,24 @@ use Rattle.pb_syntax.specs.declared.token.TokenWhat.{TokenWhat}
 use Rattle.pb_syntax.specs.declared.token.TokenWhat.TheVariants as what
 use Rattle.pb_syntax.specs.declared.kind.TokenKind.{TokenKind}
 use Rattle.pb_syntax.specs.declared.kind.TokenKind.TheVariants as k
+use Rattle.pb_syntax.specs.contracts.kind.TokenKind.{the_type}
+use Rattle.pb_syntax.specs.Signs.{sign_table, keyword_table}
 
--- the keywords
+-- the kind beside these bytes; any other word is a name
+abbrev pub kind_by : List ℕ → List (List ℕ × TokenKind) → TokenKind
+kind_by w [] = k.Name
+kind_by w (row ∷ rest) = if bytes_eq w row.0 then row.1 else kind_by w rest
+
 abbrev pub word_kind : List ℕ → TokenKind
-word_kind w =
-    if bytes_eq w (codes "transform") then k.Transform
-    else (if bytes_eq w (codes "from") then k.From
-    else (if bytes_eq w (codes "through") then k.Through
-    else (if bytes_eq w (codes "to") then k.To
-    else (if bytes_eq w (codes "where") then k.Where
-    else (if bytes_eq w (codes "primary") then k.Primary
-    else (if bytes_eq w (codes "secondary") then k.Secondary
-    else (if bytes_eq w (codes "priority") then k.Priority
-    else (if bytes_eq w (codes "let") then k.Let
-    else (if bytes_eq w (codes "if") then k.If
-    else (if bytes_eq w (codes "else") then k.Else
-    else (if bytes_eq w (codes "for") then k.For else k.Name)))))))))))
+word_kind w = kind_by w keyword_table
 
--- the signs, by their places in the list
+-- the kind at a place, where the first row's place is told
+abbrev pub kind_at : ℕ → ℕ → List (List ℕ × TokenKind) → TokenKind
+kind_at p first [] = k.Unknown
+kind_at p first (row ∷ rest) = if p == first then row.1 else kind_at p (first + 1) rest
+
 abbrev pub sign_kind : ℕ → TokenKind
-sign_kind p =
-    if p == 0 then k.Open
-    else (if p == 1 then k.Close
-    else (if p == 2 then k.OpenBrace
-    else (if p == 3 then k.CloseBrace
-    else (if p == 4 then k.OpenBracket
-    else (if p == 5 then k.CloseBracket
-    else (if p == 6 then k.Comma
-    else (if p == 7 then k.Semicolon
-    else (if p == 8 then k.Dot
-    else (if p == 9 then k.Dots
-    else (if p == 10 then k.Assign
-    else (if p == 11 then k.Equal
-    else (if p == 12 then k.Unequal
-    else (if p == 13 then k.Less
-    else (if p == 14 then k.LessOrEqual
-    else (if p == 15 then k.Greater
-    else (if p == 16 then k.GreaterOrEqual
-    else (if p == 17 then k.Plus
-    else (if p == 18 then k.Minus
-    else (if p == 19 then k.Times
-    else (if p == 20 then k.Over
-    else (if p == 21 then k.Modulo
-    else (if p == 22 then k.And
-    else (if p == 23 then k.Or
-    else (if p == 24 then k.Not else k.Unknown))))))))))))))))))))))))
+sign_kind p = kind_at p 0 sign_table
 
 abbrev pub kind_of_what : TokenWhat → TokenKind
 kind_of_what (what.Word n) = word_kind n.bytes
@@ -60,6 +34,10 @@ kind_of_what (what.Sign p) = sign_kind p
 
 abbrev pub kind_of : Token → TokenKind
 kind_of t = kind_of_what t.what
+
+-- whether two kinds are one
+abbrev pub same_kind : TokenKind → TokenKind → Bool
+same_kind a b = sameb the_type a b
 
 abbrev pub Is : TokenKind → Token → Type 0
 Is kind t = kind_of t ≡ kind

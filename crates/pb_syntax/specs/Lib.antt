@@ -4,6 +4,7 @@ pub mod Faults
 pub mod Forms
 pub mod Grammar
 pub mod Kinds
+pub mod Lexemes
 pub mod Limits
 pub mod Operators
 pub mod Places
@@ -14,3 +15,4 @@ pub mod Tokens
 pub mod TooMany
 pub mod Transforms
 pub mod Trees
+pub mod WithinLimits

@@ -6,6 +6,7 @@ use Rattle.pb_values.specs.Name.{NameValue}
 use Rattle.pb_syntax.specs.declared.token.Token.{Token}
 use Rattle.pb_syntax.specs.declared.refusal.Item.{Item}
 use Rattle.pb_syntax.specs.declared.refusal.Item.TheVariants as item
+use Rattle.pb_syntax.specs.declared.limits.TheConstants.{MOST_TRANSFORMS, MOST_RULES, MOST_MATRICES, MOST_SIZES, MOST_VIEWS, MOST_CONDITIONS, MOST_MINIMUMS, MOST_TARGETS, MOST_ARGUMENTS, MOST_TERMS, MOST_NUMBER, MOST_STATEMENTS, MOST_NESTING}
 use Rattle.pb_syntax.specs.declared.tree.form.TermText.{TermText}
 use Rattle.pb_syntax.specs.Kinds.{number_in}
 use Rattle.pb_syntax.specs.Forms.{FormValue, DeclValue}
@@ -14,20 +15,20 @@ use Rattle.pb_syntax.specs.Forms.{FormValue, DeclValue}
 -- rule; minimums of a header; targets and arguments of a call; terms of a form; statements of a body, nested ones too;
 -- `(` and `{` that are open in a body, its own brace counted. A number of a form, a minimum or a mark is at most this
 abbrev pub most : Item → ℕ
-most item.Transforms = 64
-most item.Rules = 32
-most item.Matrices = 16
-most item.Sizes = 8
-most item.Outputs = 16
-most item.Reads = 16
-most item.Conditions = 16
-most item.Minimums = 8
-most item.Targets = 16
-most item.Arguments = 16
-most item.Terms = 8
-most item.Number = 1048576
-most item.Statements = 256
-most item.Nesting = 32
+most item.Transforms = MOST_TRANSFORMS
+most item.Rules = MOST_RULES
+most item.Matrices = MOST_MATRICES
+most item.Sizes = MOST_SIZES
+most item.Outputs = MOST_VIEWS
+most item.Reads = MOST_VIEWS
+most item.Conditions = MOST_CONDITIONS
+most item.Minimums = MOST_MINIMUMS
+most item.Targets = MOST_TARGETS
+most item.Arguments = MOST_ARGUMENTS
+most item.Terms = MOST_TERMS
+most item.Number = MOST_NUMBER
+most item.Statements = MOST_STATEMENTS
+most item.Nesting = MOST_NESTING
 
 -- an item too many and the place where it begins
 pub record Excess : Type 0 where

@@ -1,5 +1,8 @@
--- The signs, by their places in the list `( ) { } [ ] , ; . .. = == != < <= > >= + - * / % && || !`.
-use Rattle.std.specs.Prelude.{ℕ, Bool, ◌&&◌, ◌||◌, ◌==◌, List, [], ◌∷◌, Option, Some, None, is_some, codes, if◌then◌else◌}
+-- The signs and keywords: their bytes, their places in the list `( ) { } [ ] , ; . .. = == != < <= > >= + - * / % && || !`,
+-- and what they are to the grammar.
+use Rattle.std.specs.Prelude.{ℕ, Bool, ◌&&◌, ◌||◌, ◌==◌, List, [], ◌∷◌, map, Option, Some, None, is_some, codes, if◌then◌else◌}
+use Rattle.pb_syntax.specs.declared.kind.TokenKind.{TokenKind}
+use Rattle.pb_syntax.specs.declared.kind.TokenKind.TheVariants as k
 
 -- `..` `==` `!=` `<=` `>=` `&&` `||`
 abbrev pub long_sign : ℕ → ℕ → Option ℕ
@@ -42,11 +45,23 @@ begins_comment a b = a == 47 && (b == 47 || b == 42)
 abbrev pub goes_on : ℕ → ℕ → Bool
 goes_on a b = is_some (long_sign a b) || begins_comment a b
 
--- the signs in order
+-- the signs in order, each with its bytes and what it is to the grammar
+abbrev pub sign_table : List (List ℕ × TokenKind)
+sign_table = (codes "(", k.Open) ∷ (codes ")", k.Close) ∷ (codes "{", k.OpenBrace) ∷ (codes "}", k.CloseBrace)
+    ∷ (codes "[", k.OpenBracket) ∷ (codes "]", k.CloseBracket) ∷ (codes ",", k.Comma) ∷ (codes ";", k.Semicolon)
+    ∷ (codes ".", k.Dot) ∷ (codes "..", k.Dots) ∷ (codes "=", k.Assign) ∷ (codes "==", k.Equal) ∷ (codes "!=", k.Unequal)
+    ∷ (codes "<", k.Less) ∷ (codes "<=", k.LessOrEqual) ∷ (codes ">", k.Greater) ∷ (codes ">=", k.GreaterOrEqual)
+    ∷ (codes "+", k.Plus) ∷ (codes "-", k.Minus) ∷ (codes "*", k.Times) ∷ (codes "/", k.Over) ∷ (codes "%", k.Modulo)
+    ∷ (codes "&&", k.And) ∷ (codes "||", k.Or) ∷ (codes "!", k.Not) ∷ []
+
+-- the keywords
+abbrev pub keyword_table : List (List ℕ × TokenKind)
+keyword_table = (codes "transform", k.Transform) ∷ (codes "from", k.From) ∷ (codes "through", k.Through) ∷ (codes "to", k.To)
+    ∷ (codes "where", k.Where) ∷ (codes "primary", k.Primary) ∷ (codes "secondary", k.Secondary) ∷ (codes "priority", k.Priority)
+    ∷ (codes "let", k.Let) ∷ (codes "if", k.If) ∷ (codes "else", k.Else) ∷ (codes "for", k.For) ∷ []
+
 abbrev pub signs : List (List ℕ)
-signs = codes "(" ∷ codes ")" ∷ codes "{" ∷ codes "}" ∷ codes "[" ∷ codes "]" ∷ codes "," ∷ codes ";" ∷ codes "."
-    ∷ codes ".." ∷ codes "=" ∷ codes "==" ∷ codes "!=" ∷ codes "<" ∷ codes "<=" ∷ codes ">" ∷ codes ">=" ∷ codes "+"
-    ∷ codes "-" ∷ codes "*" ∷ codes "/" ∷ codes "%" ∷ codes "&&" ∷ codes "||" ∷ codes "!" ∷ []
+signs = map (λ (row : List ℕ × TokenKind). row.0) sign_table
 
 -- the place of a sign, by its bytes
 abbrev pub sign_place : List ℕ → Option ℕ

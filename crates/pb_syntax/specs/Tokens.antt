@@ -5,6 +5,7 @@ use Rattle.std.specs.Char.{is_ascii_digit}
 use Rattle.std.specs.Str.Parse.{digits_value}
 use Rattle.pb_syntax.specs.declared.token.Token.{Token}
 use Rattle.pb_syntax.specs.declared.token.TokenWhat.TheVariants.{Word, Number, Sign}
+use Rattle.pb_syntax.specs.declared.limits.TheConstants.{MOST_VALUE}
 use Rattle.pb_syntax.specs.Bytes.{is_blank, begins_name, is_in_name, is_in_line, EndsBefore, has_close}
 use Rattle.pb_syntax.specs.Signs.{long_sign, short_sign, goes_on}
 
@@ -23,7 +24,7 @@ pub data Piece : ℕ → List ℕ → List ℕ → List Token → Type 0 where
       → Piece at (b ∷ more) after (record { at = at; what = Word (record { bytes = b ∷ more; at = at }) } ∷ [])
   number : {at d : ℕ} {more after : List ℕ}
       → IsTrue (is_ascii_digit d) → IsTrue (list_all is_ascii_digit more) → EndsBefore is_ascii_digit after
-      → digits_value 10 (d ∷ more) ≤ 9223372036854775807
+      → digits_value 10 (d ∷ more) ≤ MOST_VALUE
       → Piece at (d ∷ more) after (record { at = at; what = Number (digits_value 10 (d ∷ more)) } ∷ [])
   two_byte_sign : {at a b place : ℕ} {after : List ℕ}
       → long_sign a b ≡ Some place

@@ -1,12 +1,13 @@
-ghost use Rattle.std.specs.Prelude.{◌≡◌};
-ghost use Rattle.pb_syntax.specs.Kinds.{sign_kind, word_kind, kind_of};
+ghost use Rattle.std.specs.Prelude.{◌≡◌, ◌↔◌, IsTrue};
+ghost use Rattle.pb_syntax.specs.Kinds.{word_kind, kind_of};
 
+use crate::sign::sign_kind;
 use crate::token::{Token, TokenWhat};
 use pb_values::Name;
 
 /// What a token is to the grammar: a keyword, a name, a number or a sign. `Unknown` is a sign that isn't in the
 /// list, `End` the end of the text.
-#[derive(Clone, Copy, Debug)]
+#[derive(Clone, Copy, PartialEq, Eq, Debug)]
 pub enum TokenKind {
     Transform,
     From,
@@ -51,6 +52,7 @@ pub enum TokenKind {
     End,
 }
 
+/// What a word is to the grammar: a keyword, or else a name.
 pub fn word_kind(word: &Name) -> TokenKind
     ensures { result ≡ word_kind word.now.bytes }
 {
@@ -94,39 +96,6 @@ pub fn word_kind(word: &Name) -> TokenKind
     TokenKind::Name
 }
 
-pub fn sign_kind(place: u8) -> TokenKind
-    ensures { result ≡ sign_kind place }
-{
-    match place {
-        0 => TokenKind::Open,
-        1 => TokenKind::Close,
-        2 => TokenKind::OpenBrace,
-        3 => TokenKind::CloseBrace,
-        4 => TokenKind::OpenBracket,
-        5 => TokenKind::CloseBracket,
-        6 => TokenKind::Comma,
-        7 => TokenKind::Semicolon,
-        8 => TokenKind::Dot,
-        9 => TokenKind::Dots,
-        10 => TokenKind::Assign,
-        11 => TokenKind::Equal,
-        12 => TokenKind::Unequal,
-        13 => TokenKind::Less,
-        14 => TokenKind::LessOrEqual,
-        15 => TokenKind::Greater,
-        16 => TokenKind::GreaterOrEqual,
-        17 => TokenKind::Plus,
-        18 => TokenKind::Minus,
-        19 => TokenKind::Times,
-        20 => TokenKind::Over,
-        21 => TokenKind::Modulo,
-        22 => TokenKind::And,
-        23 => TokenKind::Or,
-        24 => TokenKind::Not,
-        _ => TokenKind::Unknown,
-    }
-}
-
 /// What a token is to the grammar.
 pub fn kind_of(token: &Token) -> TokenKind
     ensures { result ≡ kind_of token.now }
@@ -136,4 +105,11 @@ pub fn kind_of(token: &Token) -> TokenKind
         TokenWhat::Number(_) => TokenKind::Number,
         TokenWhat::Sign(place) => sign_kind(*place),
     }
+}
+
+/// Whether a token is of this kind.
+pub fn is_kind(token: &Token, kind: TokenKind) -> bool
+    ensures { IsTrue result ↔ kind_of token.now ≡ kind }
+{
+    kind_of(token) == kind
 }

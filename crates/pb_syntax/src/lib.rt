@@ -6,14 +6,21 @@
 
 mod kind;
 mod laws;
+mod limits;
 mod refusal;
+pub mod sign;
 mod token;
 mod tree;
 
-pub use kind::{TokenKind, kind_of, sign_kind, word_kind};
+pub use kind::{TokenKind, is_kind, kind_of, word_kind};
 pub use laws::signs_are_those_listed;
+pub use limits::{
+    MOST_ARGUMENTS, MOST_BYTES, MOST_CONDITIONS, MOST_MATRICES, MOST_MINIMUMS, MOST_NESTING,
+    MOST_NUMBER, MOST_RULES, MOST_SIZES, MOST_STATEMENTS, MOST_TARGETS, MOST_TERMS,
+    MOST_TRANSFORMS, MOST_VALUE, MOST_VIEWS,
+};
 pub use pb_values::Name;
-pub use refusal::{Item, Refusal};
+pub use refusal::{Item, Refusal, Segments};
 pub use token::{Token, TokenWhat};
 pub use tree::{
     CondText, DeclText, ExprText, FormText, Level, MarkText, Operator, Relation, RuleText,

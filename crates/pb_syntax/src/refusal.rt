@@ -1,6 +1,7 @@
 use pb_linear::{Form, Sizes, SymBox};
 use pb_values::Name;
 use std::alloc::{AllocError, AllocFailed};
+use std::marker::Model;
 
 /// What a text may have only so many of.
 #[derive(Clone, Copy, Debug)]
@@ -19,6 +20,20 @@ pub enum Item {
     Number,
     Statements,
     Nesting,
+}
+
+/// Segments of a transform, by number, from 0; contracts see the list of them.
+#[derive(Drop)]
+pub struct Segments {
+    pub numbers: Vec<u32>,
+}
+
+impl Model for Segments {
+    ghost use Rattle.std.specs.Prelude.{List, ℕ};
+
+    ghost Value = { List ℕ };
+
+    ghost view = { λ s. s.numbers.items };
 }
 
 /// The first fault of a program. `at` is a place in its text, from 0; transforms, matrices, rules, outputs,
@@ -91,7 +106,7 @@ pub enum Refusal {
     },
     NoOrder {
         transform: u32,
-        segments: Vec<u32>,
+        segments: Segments,
     },
     Memory,
 }

@@ -5,7 +5,7 @@ ghost use Rattle.pb_prog.specs.Spelling.{word, opening, closing, open_brace, clo
 ghost use Rattle.pb_prog.specs.Writing.{puts, expr_in, stmt_in, body_in, block_in};
 
 use pb_syntax::TokenKind;
-use crate::print::sign;
+use pb_syntax::sign;
 use crate::print::writer::Writer;
 use pb_syntax::{ExprText, FormText, StmtText};
 use pb_values::Name;

@@ -3,7 +3,7 @@ ghost use Rattle.pb_prog.specs.Spelling.{minimum_tokens, minimums_tokens, throug
 ghost use Rattle.pb_prog.specs.Writing.{puts, rule_in, transform_in};
 
 use pb_syntax::TokenKind;
-use crate::print::sign;
+use pb_syntax::sign;
 use crate::print::writer::Writer;
 use pb_syntax::{DeclText, RuleText, TransformText};
 use pb_values::Name;

@@ -5,7 +5,7 @@ ghost use Rattle.pb_prog.specs.Spelling.{word, sign_at, opening, comma, dot, wit
 ghost use Rattle.pb_prog.specs.Writing.{puts};
 
 use pb_syntax::TokenKind;
-use crate::print::sign;
+use pb_syntax::sign;
 use crate::print::writer::Writer;
 use pb_syntax::{CondText, FormText, MarkText, Relation, UseText, ViewText};
 use std::alloc::AllocError;

@@ -1,11 +1,11 @@
-ghost use Rattle.std.specs.Prelude.{◌≡◌, ◌+◌, ◌≤◌, ◌<◌, ◌^◌, ◌++◌, [], None, OnOk, length, slice_index_or};
+ghost use Rattle.std.specs.Prelude.{◌≡◌, ◌+◌, ◌≤◌, ◌<◌, ◌^◌, ◌++◌, [], None, OnOk, length};
 ghost use Rattle.pb_prog.specs.Canonical.{ends_line, joins_before, joins_after, joins_both, joined, outside, indentation, space, depth_after};
 ghost use Rattle.pb_syntax.specs.Kinds.{word_kind};
-ghost use Rattle.pb_syntax.specs.Signs.{signs};
 ghost use Rattle.pb_prog.specs.Spelling.{word, numeral, sign_at};
 ghost use Rattle.pb_prog.specs.Writing.{put, put_bytes};
 
-use pb_syntax::{TokenKind, sign_kind, word_kind};
+use pb_syntax::sign::{SIGNS, sign_bytes, sign_kind};
+use pb_syntax::{TokenKind, word_kind};
 use itoa::Buffer;
 use pb_values::Name;
 use std::alloc::{AllocError, Global};
@@ -141,39 +141,6 @@ fn write_space(
     }
 }
 
-fn sign_bytes(place: u8) -> &'static [u8]
-    requires { place < 25 }
-    ensures { result.now ≡ slice_index_or signs place [] }
-{
-    match place {
-        0 => b"(",
-        1 => b")",
-        2 => b"{",
-        3 => b"}",
-        4 => b"[",
-        5 => b"]",
-        6 => b",",
-        7 => b";",
-        8 => b".",
-        9 => b"..",
-        10 => b"=",
-        11 => b"==",
-        12 => b"!=",
-        13 => b"<",
-        14 => b"<=",
-        15 => b">",
-        16 => b">=",
-        17 => b"+",
-        18 => b"-",
-        19 => b"*",
-        20 => b"/",
-        21 => b"%",
-        22 => b"&&",
-        23 => b"||",
-        _ => b"!",
-    }
-}
-
 impl Writer {
     /// A writer of an empty text.
     pub(crate) fn new(alloc: Global) -> Writer
@@ -236,7 +203,7 @@ impl Writer {
     /// Puts the sign at this place in the list of signs.
     #[tactic(auto, unfolding(crate::specs::Writing::put))]
     pub(crate) fn sign(&mut self, place: u8) -> Result<(), AllocError>
-        requires { place < 25 }
+        requires { place < SIGNS }
         ensures { OnOk result (self.new ≡ put self.old (sign_at place)) }
     {
         self.put(sign_kind(place), sign_bytes(place))

@@ -1,4 +1,4 @@
-use Rattle.std.proofs.Common.{arith, sym}
+use Rattle.std.proofs.Common.{arith, inr, sym}
 use Rattle.pb_lexer.proofs.ReadLemmas.{at_start, at_fault, at_next}
 use Rattle.pb_lexer.proofs.read.read_pieces.Goals as goal
 
@@ -7,7 +7,7 @@ loop-at-init c = (omega arith, at_start c.args.text.now _ c.new-found.ensures.it
 
 pub returns-in_default-clause-refused : goal.returns-in_default-clause-refused
 returns-in_default-clause-refused c =
-    (c.requires, at_fault c.args.text.now c.loop-at.at _ c.loop-at-test.true c.loop-at.invariant.1 (sym c.in_default.ensures.front))
+    inr (c.requires, at_fault c.args.text.now c.loop-at.at _ c.loop-at-test.true c.loop-at.invariant.1 (sym c.in_default.ensures.front))
 
 pub loop-at-preserved : goal.loop-at-preserved
 loop-at-preserved c =

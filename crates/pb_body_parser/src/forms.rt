@@ -1,23 +1,19 @@
 ghost use Rattle.std.specs.Prelude.{◌≡◌, ◌<◌, ◌≤◌, [], ◌∷◌, length, false, OnOk};
 ghost use Rattle.pb_syntax.specs.declared.refusal.Item.TheVariants.{Terms};
 ghost use Rattle.pb_grammar.specs.Want.{small, divisor, times, quotient, term, more_terms, form, begin};
-ghost use Rattle.pb_syntax.specs.Limits.{limited};
+ghost use Rattle.pb_syntax.specs.Limits.{over};
 ghost use Rattle.pb_grammar.specs.Reading.{signed_form};
-ghost use Rattle.pb_body_parser.specs.Leads.{Leads};
+ghost use Rattle.pb_body_parser.specs.Leads.{Leads, Shortens, NeverGrows};
 
 use crate::cursor::{Cursor, name_in, number_in};
 use crate::fault::Fault;
-use pb_syntax::{FormText, Item, TokenKind, Name, TermText};
+use pb_syntax::{FormText, Item, MOST_NUMBER, MOST_TERMS, Name, TermText, TokenKind};
 use std::alloc::Global;
 
-const MOST_NUMBER: u64 = 1_048_576;
-
-const MOST_TERMS: usize = 8;
-
-/// A number of a form, a minimum or a priority.
-pub(crate) fn small(cursor: &mut Cursor<'_>) -> Result<u64, Fault>
+/// A number of a form, a minimum or a priority; `OverLimit` if it is too great.
+pub fn small(cursor: &mut Cursor<'_>) -> Result<u64, Fault>
     ensures leads { Leads (λ n. n) result small cursor.old cursor.new }
-    ensures shorter { OnOk result (length cursor.new.rest.now < length cursor.old.rest.now) }
+    ensures shorter { Shortens result cursor.old cursor.new }
 {
     match cursor.peek() {
         TokenKind::Number => {
@@ -34,7 +30,7 @@ pub(crate) fn small(cursor: &mut Cursor<'_>) -> Result<u64, Fault>
 
 fn divisor(cursor: &mut Cursor<'_>) -> Result<u8, Fault>
     ensures leads { Leads (λ n. n) result divisor cursor.old cursor.new }
-    ensures shorter { OnOk result (length cursor.new.rest.now < length cursor.old.rest.now) }
+    ensures shorter { Shortens result cursor.old cursor.new }
 {
     match cursor.peek() {
         TokenKind::Number => {
@@ -59,7 +55,7 @@ fn after_number(
     factor: u64,
 ) -> Result<TermText, Fault>
     ensures leads { Leads (λ x. x) result (times minus factor) cursor.old cursor.new }
-    ensures shorter { OnOk result (length cursor.new.rest.now ≤ length cursor.old.rest.now) }
+    ensures no_longer { NeverGrows result cursor.old cursor.new }
 {
     match cursor.peek() {
         TokenKind::Times => {
@@ -83,7 +79,7 @@ fn after_number(
 
 fn after_name(cursor: &mut Cursor<'_>, minus: bool, name: Name) -> Result<TermText, Fault>
     ensures leads { Leads (λ x. x) result (quotient minus name) cursor.old cursor.new }
-    ensures shorter { OnOk result (length cursor.new.rest.now ≤ length cursor.old.rest.now) }
+    ensures no_longer { NeverGrows result cursor.old cursor.new }
 {
     match cursor.peek() {
         TokenKind::Over => {
@@ -108,7 +104,7 @@ fn after_name(cursor: &mut Cursor<'_>, minus: bool, name: Name) -> Result<TermTe
 #[tactic(auto, using(crate::proofs::FormLemmas::term_number))]
 fn term(alloc: Global, cursor: &mut Cursor<'_>, minus: bool) -> Result<TermText, Fault>
     ensures leads { Leads (λ x. x) result (term minus) cursor.old cursor.new }
-    ensures shorter { OnOk result (length cursor.new.rest.now < length cursor.old.rest.now) }
+    ensures shorter { Shortens result cursor.old cursor.new }
 {
     match cursor.peek() {
         TokenKind::Number => {
@@ -124,14 +120,14 @@ fn term(alloc: Global, cursor: &mut Cursor<'_>, minus: bool) -> Result<TermText,
 }
 
 #[tactic(auto, using(crate::proofs::BeginLemmas::begin_within))]
-fn further_term(
+fn next_term(
     alloc: Global,
     cursor: &mut Cursor<'_>,
     minus: bool,
     before: usize,
 ) -> Result<TermText, Fault>
-    ensures leads { Leads (λ x. x) result (λ f. begin (limited 8 before Terms) (term minus f)) cursor.old cursor.new }
-    ensures shorter { OnOk result (length cursor.new.rest.now < length cursor.old.rest.now) }
+    ensures leads { Leads (λ x. x) result (λ f. begin (over Terms before) (term minus f)) cursor.old cursor.new }
+    ensures shorter { Shortens result cursor.old cursor.new }
 {
     if before < MOST_TERMS {
         return term(alloc, cursor, minus);
@@ -149,7 +145,7 @@ fn more_terms(
     first: TermText,
 ) -> Result<Vec<TermText>, Fault>
     ensures leads { Leads (λ v. v.items) result (more_terms (first ∷ [])) cursor.old cursor.new }
-    ensures shorter { OnOk result (length cursor.new.rest.now ≤ length cursor.old.rest.now) }
+    ensures no_longer { NeverGrows result cursor.old cursor.new }
 {
     let mut terms = Vec::new(alloc);
     terms.push(first)?;
@@ -160,25 +156,25 @@ fn more_terms(
             _ => return Ok(terms),
         };
         cursor.take();
-        let further = further_term(alloc, cursor, minus, terms.len())?;
+        let further = next_term(alloc, cursor, minus, terms.len())?;
         terms.push(further)?;
     }
 }
 
 fn signed_form(alloc: Global, cursor: &mut Cursor<'_>, minus: bool) -> Result<FormText, Fault>
     ensures leads { Leads (λ x. x) result (λ f. term false (signed_form minus f)) cursor.old cursor.new }
-    ensures shorter { OnOk result (length cursor.new.rest.now < length cursor.old.rest.now) }
+    ensures shorter { Shortens result cursor.old cursor.new }
 {
     let first = term(alloc, cursor, false)?;
     let terms = more_terms(alloc, cursor, first)?;
     Ok(FormText { minus, terms })
 }
 
-/// A sum of at most 8 terms, each a number or a name with a factor or a quotient.
+/// A form: a sum of terms, each a number or a name with a factor or a quotient; `OverLimit` if there are too many.
 #[tactic(auto, using(crate::proofs::FormLemmas::form_else))]
-pub(crate) fn form(alloc: Global, cursor: &mut Cursor<'_>) -> Result<FormText, Fault>
+pub fn form(alloc: Global, cursor: &mut Cursor<'_>) -> Result<FormText, Fault>
     ensures leads { Leads (λ x. x) result form cursor.old cursor.new }
-    ensures shorter { OnOk result (length cursor.new.rest.now < length cursor.old.rest.now) }
+    ensures shorter { Shortens result cursor.old cursor.new }
 {
     match cursor.peek() {
         TokenKind::Minus => {
