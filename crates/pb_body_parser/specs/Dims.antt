@@ -27,7 +27,7 @@ abbrev pub after_dims : SizeNames → List FormValue → SizeNames
 after_dims None dims = None
 after_dims (Some known) dims = Some (sizes_in known dims)
 
--- a size too many, as a refusal, or else what is told further on
+-- the fault of a size too many, or else what comes later
 abbrev pub excess_told : Option Excess → Result (List TransformTree) Fault → Result (List TransformTree) Fault
 excess_told None further = further
 excess_told (Some x) further = Err (OverLimit x.what x.at)

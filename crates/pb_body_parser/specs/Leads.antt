@@ -41,7 +41,7 @@ abbrev pub LeadsCounted : {A B : Type 0} → (A → B) → Result A Fault → ((
 LeadsCounted {A} {B} view (Ok x) want before after n = (f : B → ℕ → Want) → from before (want f) ≡ from after (f (view x) n)
 LeadsCounted {A} {B} view (Err e) want before after n = Fails e ((f : B → ℕ → Want) → told (from before (want f)) ≡ Err e)
 
--- the next token was taken if it is an operator of this line, or a relation; else what is wanted next comes
+-- the next token was consumed if it is an operator of this level, or a relation; else what is wanted next comes
 abbrev pub Operators : Option Operator → Level → Cursor → Cursor → Type 0
 Operators (Some o) l before after = (d : ℕ) (e : ExprTree) (xs : List (Operator × ExprTree)) (f : ExprTree → Want) →
     from before (more_operands l d e xs f) ≡ from after (operand l d (λ x. more_operands l d e (xs ++ (o, x) ∷ []) f))

@@ -2,7 +2,7 @@ ghost use Rattle.std.specs.Prelude.{◌≡◌, ◌≢◌, ◌≤◌, ◌<◌, su
 ghost use Rattle.pb_syntax.specs.Kinds.{name_in};
 ghost use Rattle.pb_syntax.specs.declared.kind.TokenKind.TheVariants as k;
 ghost use Rattle.pb_grammar.specs.Next.{next_kind, next_place};
-ghost use Rattle.pb_grammar.specs.Want.{name_token, bracket, a_sign, word};
+ghost use Rattle.pb_grammar.specs.Want.{name_token, bracket, word};
 ghost use Rattle.pb_body_parser.specs.Leads.{Leads, LeadsOn, Shortens};
 
 use crate::cursor::{Cursor, name_in};
@@ -29,17 +29,6 @@ pub fn open(cursor: &mut Cursor<'_>, kind: TokenKind, depth: u32) -> Result<u32,
         return Err(cursor.over(Item::Nesting));
     }
     Err(cursor.bad())
-}
-
-/// Consumes a token of this kind.
-#[tactic(auto, using(crate::proofs::ReadLemmas::fails_then))]
-pub fn sign(cursor: &mut Cursor<'_>, kind: TokenKind) -> Result<(), Fault>
-    requires known { kind ≢ k.End }
-    ensures leads { LeadsOn result (a_sign kind) cursor.old cursor.new }
-    ensures shorter { Shortens result cursor.old cursor.new }
-{
-    cursor.expect(kind)?;
-    Ok(())
 }
 
 /// Consumes the next token, a name.

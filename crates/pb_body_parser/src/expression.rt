@@ -11,7 +11,7 @@ ghost use Rattle.pb_grammar.specs.Want.{Want, begin, primary, after_name, member
 ghost use Rattle.pb_syntax.specs.Limits.{over};
 ghost use Rattle.pb_body_parser.specs.Leads.{Leads, LeadsOn, Fails, told, from, Operators, Relations, Members, Shortens, NeverGrows};
 
-use crate::bracket::{name, open, sign};
+use crate::bracket::{name, open};
 use crate::cursor::{Cursor, name_in, number_in};
 use crate::fault::Fault;
 use crate::make::{
@@ -135,7 +135,7 @@ fn primary(alloc: Global, cursor: &mut Cursor<'_>, depth: u32) -> Result<ExprTex
             let at = cursor.place();
             let depth = open(cursor, TokenKind::Open, depth)?;
             let inner = expression(alloc, cursor, depth)?;
-            sign(cursor, TokenKind::Close)?;
+            cursor.expect(TokenKind::Close)?;
             parentheses(alloc, at, inner)
         }
         _ => Err(cursor.bad()),
@@ -202,7 +202,8 @@ fn nothing(cursor: &mut Cursor<'_>, depth: u32) -> Result<(), Fault>
     ensures shorter { Shortens result cursor.old cursor.new }
 {
     open(cursor, TokenKind::Open, depth)?;
-    sign(cursor, TokenKind::Close)
+    cursor.expect(TokenKind::Close)?;
+    Ok(())
 }
 
 /// One or two coordinates in parentheses.
@@ -222,10 +223,10 @@ pub fn coordinates(
     if let TokenKind::Comma = cursor.peek() {
         cursor.take();
         let y = expression(alloc, cursor, depth)?;
-        sign(cursor, TokenKind::Close)?;
+        cursor.expect(TokenKind::Close)?;
         return two(alloc, x, y);
     }
-    sign(cursor, TokenKind::Close)?;
+    cursor.expect(TokenKind::Close)?;
     one(alloc, x)
 }
 
@@ -294,7 +295,7 @@ pub fn some_arguments(
         let next = next_argument(alloc, cursor, depth, found.len())?;
         found.push(next)?;
     }
-    sign(cursor, TokenKind::Close)?;
+    cursor.expect(TokenKind::Close)?;
     Ok(found)
 }
 

@@ -10,7 +10,7 @@ ghost use Rattle.pb_grammar.specs.Want.{Want, begin, name_token, statements, sta
 ghost use Rattle.pb_syntax.specs.Limits.{over};
 ghost use Rattle.pb_body_parser.specs.Leads.{Leads, LeadsCounted, Fails, told, from, Shortens, NeverGrows};
 
-use crate::bracket::{name, open, sign, word};
+use crate::bracket::{name, open, word};
 use crate::cursor::{Cursor, name_in};
 use crate::dims::dims;
 use crate::expression::{coordinates, expression, some_arguments};
@@ -56,13 +56,13 @@ fn after_let(
         TokenKind::Assign => {
             cursor.take();
             let value = expression(alloc, cursor, depth)?;
-            sign(cursor, TokenKind::Semicolon)?;
+            cursor.expect(TokenKind::Semicolon)?;
             Ok(let_number(at, name, value))
         }
         TokenKind::OpenBracket => {
             cursor.take();
             let found = dimensions(alloc, cursor)?;
-            sign(cursor, TokenKind::Semicolon)?;
+            cursor.expect(TokenKind::Semicolon)?;
             Ok(let_matrix(at, name, found))
         }
         _ => Err(cursor.bad()),
@@ -85,7 +85,7 @@ fn after_target(
         TokenKind::Assign => {
             cursor.take();
             let value = expression(alloc, cursor, depth)?;
-            sign(cursor, TokenKind::Semicolon)?;
+            cursor.expect(TokenKind::Semicolon)?;
             Ok(assign(target, value))
         }
         TokenKind::Comma => {
@@ -126,9 +126,9 @@ fn after_dot(
 {
     word(cursor, b"cell".as_slice())?;
     let place = coordinates(alloc, cursor, depth)?;
-    sign(cursor, TokenKind::Assign)?;
+    cursor.expect(TokenKind::Assign)?;
     let value = expression(alloc, cursor, depth)?;
-    sign(cursor, TokenKind::Semicolon)?;
+    cursor.expect(TokenKind::Semicolon)?;
     Ok(assign_cell(target, place, value))
 }
 
@@ -165,7 +165,7 @@ fn more_targets(
         let next = next_target(alloc, cursor, found.len())?;
         found.push(next)?;
     }
-    sign(cursor, TokenKind::Assign)?;
+    cursor.expect(TokenKind::Assign)?;
     called(alloc, cursor, depth, found)
 }
 
@@ -184,7 +184,7 @@ fn called(
     let called = name(alloc, cursor)?;
     let inside = open(cursor, TokenKind::Open, depth)?;
     let found = some_arguments(alloc, cursor, inside)?;
-    sign(cursor, TokenKind::Semicolon)?;
+    cursor.expect(TokenKind::Semicolon)?;
     Ok(call_statement(targets, called, found))
 }
 
@@ -225,7 +225,7 @@ fn after_if(
 {
     let inside = open(cursor, TokenKind::Open, depth)?;
     let test = expression(alloc, cursor, inside)?;
-    sign(cursor, TokenKind::Close)?;
+    cursor.expect(TokenKind::Close)?;
     let then = block(alloc, cursor, depth, count)?;
     otherwise(alloc, cursor, depth, count, at, test, then)
 }
@@ -276,11 +276,11 @@ fn after_for(
 {
     let inside = open(cursor, TokenKind::Open, depth)?;
     let index = name(alloc, cursor)?;
-    sign(cursor, TokenKind::Assign)?;
+    cursor.expect(TokenKind::Assign)?;
     let start = expression(alloc, cursor, inside)?;
-    sign(cursor, TokenKind::Dots)?;
+    cursor.expect(TokenKind::Dots)?;
     let end = expression(alloc, cursor, inside)?;
-    sign(cursor, TokenKind::Close)?;
+    cursor.expect(TokenKind::Close)?;
     let body = block(alloc, cursor, depth, count)?;
     Ok(for_each(at, index, start, end, body))
 }

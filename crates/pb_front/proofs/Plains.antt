@@ -119,7 +119,7 @@ done = record { kept = λ g. (none, g) }
 both : {a b : List Written} {all mid rest : List Token} → Keeps a all mid → Keeps b mid rest → Keeps (a ++ b) all rest
 both f g = record { kept = λ h. let r = f.kept h in let s = g.kept r.1 in (append r.0 s.0, s.1) }
 
--- the lines of the grammar, in its order
+-- by the lines of the grammar, in its order
 commas : {A : Type 0} {Item : A → List Token → List Token → Type 0} {tokens : A → List Written} {xs : List A} {all rest : List Token}
     → ((x : A) (all rest : List Token) → Item x all rest → Keeps (tokens x) all rest) → Commas Item xs all rest → Keeps (after_commas tokens xs) all rest
 commas item no_comma = done

@@ -21,7 +21,6 @@ fn read_tree(alloc: Global, text: &[u8]) -> Result<Text, Refusal>
 /// The tree of a program text. `TooLong` if the text is longer than `MOST_BYTES`, before any memory is taken; else
 /// `BadToken` with the first byte that begins no token, blank or comment; else `BadSyntax` or `OverLimit` with its place,
 /// as `pb_parser::parse` says.
-#[tactic(auto, using(crate::proofs::ReadLemmas::complete))]
 pub fn read_text(alloc: Global, text: &[u8]) -> Result<Text, Refusal>
     ensures found { IfOk result (λ t. IsRead text.now (bare_text t)) }
     ensures refused { IfErr result (λ e. (e ≡ Memory) ⊎ IsRefused text.now e) }

@@ -21,7 +21,7 @@ use Rattle.pb_grammar.specs.Want.{Want, token, a_sign, bracket, coordinates, fac
 use Rattle.pb_grammar.specs.Reading.{take, step, or_else, member_step, Verdict}
 use Rattle.pb_grammar.proofs.Steps.{caught, distance, rank, Ends, ends_at, Gives, plain, marks, same_step, skip_call, skip_operands, skip_comparison, took_begin, Takes, takes_by, counted_begin, mark_is}
 
--- a line of the grammar
+-- a chain of binary operators
 abbrev pub line : Level → ℕ → (ExprTree → Want) → Want
 line p d f = operand p d (λ e. more_operands p d e [] f)
 

@@ -1,4 +1,4 @@
--- Reading from left to right with one token of sight: what is still wanted, as data. Each case goes on with what it
+-- Reading from left to right with one token of lookahead: what is still wanted, as data. Each case goes on with what it
 -- has read; a mark tells that an item that is too many begins at the token that comes next.
 use Rattle.std.specs.Prelude.{ℕ, suc, ◌+◌, Bool, true, false, List, [], ◌∷◌, length, Option, None, codes}
 use Rattle.pb_values.specs.Name.{NameValue}
@@ -186,7 +186,7 @@ operand level.Disjunction = conjunction
 unfoldable pub coordinates : ℕ → (List ExprTree → Want) → Want
 coordinates d f = bracket d k.Open (expression (suc d) (λ x. after_coordinate (suc d) x f))
 
--- a line of the grammar that repeats
+-- a chain of binary operators of one level
 abbrev pub line : Level → ℕ → (ExprTree → Want) → Want
 line level.Product = product
 line level.Sum = total
@@ -197,7 +197,7 @@ line level.Disjunction = expression
 unfoldable pub some_arguments : ℕ → (List ExprTree → Want) → Want
 some_arguments d f = expression d (λ e. more_arguments d (e ∷ []) f)
 
--- statements in braces, where so many began before
+-- statements in braces; `n` statements of the body have begun before
 unfoldable pub block : ℕ → ℕ → (List StmtTree → ℕ → Want) → Want
 block d n f = bracket d k.OpenBrace (statements (suc d) n [] f)
 

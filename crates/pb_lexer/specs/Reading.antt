@@ -18,7 +18,7 @@ in_run InName = is_in_name
 in_run InNumber = is_ascii_digit
 in_run InLine = is_in_line
 
--- so many bytes, and those before the first `*/`
+-- `n` bytes, and those before the first `*/`
 abbrev pub close_from : ℕ → List ℕ → Option ℕ
 close_from n [] = None
 close_from n (b ∷ rest) = if b == 42 && begins_slash rest then Some n else close_from (n + 1) rest

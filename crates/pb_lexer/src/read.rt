@@ -8,7 +8,7 @@ use crate::piece::{PieceKind, read_front};
 use pb_syntax::{MOST_BYTES, Name, Refusal, Token, TokenWhat};
 use std::alloc::Global;
 
-// Puts the token of some bytes after the others, if they are one.
+// Appends the token that some bytes are, if they are one.
 fn put_token(
     alloc: Global,
     found: &mut Vec<Token>,

@@ -9,7 +9,7 @@ use Rattle.pb_matrix.specs.declared.header.TheConstants.{MAX_CELLS}
 abbrev pub has_leading_zero : List ℕ → Bool
 has_leading_zero word = nat_lt 1 (length word) && slice_index word 0 == 48
 
--- a side of a matrix: digits without a leading zero, and at most so many cells
+-- a side of a matrix: digits without a leading zero, and at most the greatest number of cells
 abbrev pub side : List ℕ → Option ℕ
 side word =
     if (is_digits word && not (has_leading_zero word)) && nat_le (digits_value 10 word) MAX_CELLS then Some (digits_value 10 word)

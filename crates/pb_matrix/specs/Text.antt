@@ -12,7 +12,7 @@ line_text ws = join_with_byte 32 ws ++ 10 ∷ []
 abbrev pub header_words : Shape → List (List ℕ)
 header_words s = codes "matrix" ∷ decimal s.w ∷ (if s.dims == 2 then decimal s.h ∷ [] else [])
 
--- so many rows of this width, from the front of the cells
+-- rows of this width, from the front of the cells
 abbrev pub rows : ℕ → ℕ → List ℤ → List (List ℤ)
 rows zero w cells = []
 rows (suc h) w cells = take w cells ∷ rows h w (drop w cells)

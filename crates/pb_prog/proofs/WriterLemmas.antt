@@ -1,4 +1,4 @@
--- Tokens that are put one after the other.
+-- Tokens that are written one after the other.
 use Rattle.std.proofs.Common.{◌≡◌, ℕ, zero, suc, add-one, ◌+◌, Bool, true, false, List, [], ◌∷◌, ◌++◌, length, get_or, drop, ◌<◌, ◌≤◌, refl, ap, sym, subst, Result, OnOk, ◌∙◌, arith}
 use Rattle.std.proofs.lemmas.List.{append_assoc, append-nil, drop_more, drop_all}
 use Rattle.pb_syntax.specs.declared.tree.expression.Relation.{Relation}

@@ -63,7 +63,7 @@ abbrev pub indentation : ℕ → List ℕ
 indentation zero = []
 indentation (suc n) = 32 ∷ 32 ∷ indentation n
 
--- what stands before a token with so many braces open and that token before it: where a line begins, its indentation
+-- what stands before a token, with `depth` braces open and `last` the token before it: where a line begins, its indentation
 unfoldable pub space : ℕ → Option TokenKind → TokenKind → List ℕ
 space depth None b = indentation (outside depth b)
 space depth (Some a) b = if ends_line a then indentation (outside depth b) else (if joined a b then [] else (32 ∷ []))
@@ -78,7 +78,7 @@ depth_after depth k.OpenBrace = depth + 1
 depth_after depth k.CloseBrace = depth - 1
 depth_after depth _ = depth
 
--- tokens after others, with so many braces open and that token before them
+-- tokens after others, with `depth` braces open and `last` the token before them
 abbrev pub layout : ℕ → Option TokenKind → List Written → List ℕ
 layout depth last [] = []
 layout depth last (t ∷ ts) =

@@ -50,7 +50,7 @@ pub data IsMinimums : List (NameValue × ℕ) → List Token → List Token → 
       → Is k.Where w → IsMinimum x all mid → Commas IsMinimum xs mid rest → IsMinimums (x ∷ xs) (w ∷ all) rest
 
 -- term = NUMBER | NAME | NUMBER "*" NAME | NAME "/" K; a factor 1 isn't kept. Whether `-` stands before it, if it isn't
--- the first, is told
+-- the first, is the argument `m`
 pub data IsTerm : Bool → TermText → List Token → List Token → Type 0 where
   number_term : {m : Bool} {t : Token} {rest : List Token} → Is k.Number t
       → IsTerm m (record { minus = m; factor = number_in t; name = None; quotient = 0 }) (t ∷ rest) rest

@@ -19,7 +19,7 @@ kind_by w (row ∷ rest) = if bytes_eq w row.0 then row.1 else kind_by w rest
 abbrev pub word_kind : List ℕ → TokenKind
 word_kind w = kind_by w keyword_table
 
--- the kind at a place, where the first row's place is told
+-- the kind at a place of the table, whose first row has the place `first`
 abbrev pub kind_at : ℕ → ℕ → List (List ℕ × TokenKind) → TokenKind
 kind_at p first [] = k.Unknown
 kind_at p first (row ∷ rest) = if p == first then row.1 else kind_at p (first + 1) rest

@@ -38,7 +38,7 @@ pub record Excess : Type 0 where
 abbrev pub limited : ℕ → ℕ → Item → Option Item
 limited top before what = if nat_le top before then Some what else None
 
--- an item with so many before it
+-- the item is too many where `before` others stand before it
 abbrev pub over : Item → ℕ → Option Item
 over what before = limited (most what) before what
 

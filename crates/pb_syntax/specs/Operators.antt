@@ -9,7 +9,7 @@ use Rattle.pb_syntax.specs.declared.tree.expression.Operator.TheVariants as oper
 use Rattle.pb_syntax.specs.declared.tree.expression.Relation.{Relation}
 use Rattle.pb_syntax.specs.declared.tree.expression.Relation.TheVariants as relation
 
--- the operator of a line of the grammar, if a token is one
+-- the binary operator of a precedence level that a token is, if it is one
 abbrev pub operator_of : Level → TokenKind → Option Operator
 operator_of level.Product k.Times = Some operator.Times
 operator_of level.Product k.Over = Some operator.Over

@@ -118,7 +118,7 @@ in_mark (primary is) l = l
 in_mark (secondary is) l = l
 in_mark (priority {n = n} {c = c} {rest = rest} is o i j) l = note (too_great n) (n ∷ c ∷ rest) l
 
--- In a body: how many `(` and `{` are open is told.
+-- In a body, `d` brackets, `(` or `{`, are open.
 abbrev mutual
   pub in_line : {p : Level} {x : ExprTree} {all rest : List Token} → ℕ → IsLine p x all rest → List TooMany → List TooMany
   in_line d (a_line x xs) l = in_operand d x (in_operands d xs l)

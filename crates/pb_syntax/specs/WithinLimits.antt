@@ -84,7 +84,7 @@ abbrev pub exprs_count : ExprTrees → ℕ
 exprs_count no_exprs = 0
 exprs_count (an_expr x xs) = 1 + exprs_count xs
 
--- of an expression of a body, where so many `(` and `{` are open
+-- of an expression of a body, where `d` brackets, `(` or `{`, are open
 abbrev mutual
   pub ExprWithin : ℕ → ExprTree → Type 0
   ExprWithin d (number at n) = n ≤ MOST_VALUE

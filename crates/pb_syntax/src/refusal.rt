@@ -3,7 +3,7 @@ use pb_values::Name;
 use std::alloc::{AllocError, AllocFailed};
 use std::marker::Model;
 
-/// What a text may have only so many of.
+/// The items of a program whose number is limited.
 #[derive(Clone, Copy, Debug)]
 pub enum Item {
     Transforms,

@@ -11,7 +11,7 @@ use pb_values::Name;
 use std::alloc::{AllocError, Global};
 use std::marker::Model;
 
-/// Puts tokens one after the other: the bytes so far, how many braces are open, and the last token.
+/// Writes tokens one after the other: the bytes so far, how many braces are open, and the last token.
 #[derive(Drop)]
 pub(crate) struct Writer {
     text: Vec<u8>,
@@ -160,7 +160,7 @@ impl Writer {
         self.text
     }
 
-    /// Puts a token of this kind with these bytes.
+    /// Writes a token of this kind with these bytes.
     fn put(&mut self, kind: TokenKind, bytes: &[u8]) -> Result<(), AllocError>
         ensures { OnOk result (self.new ≡ put_bytes self.old kind bytes.now) }
     {
@@ -174,7 +174,7 @@ impl Writer {
         Ok(())
     }
 
-    /// Puts a keyword.
+    /// Writes a keyword.
     #[tactic(auto, unfolding(crate::specs::Writing::put))]
     pub(crate) fn keyword(&mut self, kind: TokenKind, bytes: &[u8]) -> Result<(), AllocError>
         requires { word_kind bytes.now ≡ kind }
@@ -183,7 +183,7 @@ impl Writer {
         self.put(kind, bytes)
     }
 
-    /// Puts a name.
+    /// Writes a name.
     #[tactic(auto, unfolding(crate::specs::Writing::put))]
     pub(crate) fn name(&mut self, name: &Name) -> Result<(), AllocError>
         ensures { OnOk result (self.new ≡ put self.old (word name.now.bytes)) }
@@ -191,7 +191,7 @@ impl Writer {
         self.put(word_kind(name), name.bytes())
     }
 
-    /// Puts a number.
+    /// Writes a number.
     #[tactic(auto, unfolding(crate::specs::Writing::put))]
     pub(crate) fn number(&mut self, value: u64) -> Result<(), AllocError>
         ensures { OnOk result (self.new ≡ put self.old (numeral value)) }
@@ -200,7 +200,7 @@ impl Writer {
         self.put(TokenKind::Number, buffer.format(value).as_bytes())
     }
 
-    /// Puts the sign at this place in the list of signs.
+    /// Writes the sign at this place in the list of signs.
     #[tactic(auto, unfolding(crate::specs::Writing::put))]
     pub(crate) fn sign(&mut self, place: u8) -> Result<(), AllocError>
         requires { place < SIGNS }

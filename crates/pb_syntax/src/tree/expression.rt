@@ -1,7 +1,7 @@
 use pb_values::Name;
 
 /// An expression. `at` is the place of its first byte; one without begins with a name or an expression, whose place
-/// that is. Operands of a line of the grammar that repeats stand side by side: the first, then each other with the
+/// that is. The operands of a chain of binary operators stand side by side: the first, then each other with the
 /// operator before it.
 #[derive(Drop)]
 pub enum ExprText {
@@ -48,7 +48,7 @@ pub enum UnarySign {
     Not,
 }
 
-/// The lines of the grammar that repeat: products, sums, conjunctions and disjunctions.
+/// The precedence levels of binary operators, the tightest first.
 #[derive(Clone, Copy, Debug)]
 pub enum Level {
     Product,
@@ -57,7 +57,7 @@ pub enum Level {
     Disjunction,
 }
 
-/// The operators of those lines: `*` `/` `%`, `+` `-`, `&&`, `||`.
+/// The binary operators, by level: `*` `/` `%`, `+` `-`, `&&`, `||`.
 #[derive(Clone, Copy, Debug)]
 pub enum Operator {
     Times,

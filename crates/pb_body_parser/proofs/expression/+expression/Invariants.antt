@@ -7,7 +7,7 @@ use Rattle.pb_grammar.specs.Want.{Want, more_arguments, some_arguments, more_ope
 use Rattle.pb_body_parser.specs.Leads.{from}
 use Rattle.pb_body_parser.proofs.expression.+expression.Given as goal
 
--- how deep an expression goes: brackets first, then the lines of the grammar
+-- how deep an expression goes: brackets first, then the precedence levels
 abbrev pub above : ℕ → ℕ → ℕ
 above depth rank = 32 * (33 - depth) + rank
 

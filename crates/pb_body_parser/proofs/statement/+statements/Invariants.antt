@@ -5,7 +5,7 @@ use Rattle.pb_grammar.specs.Want.{Want, statements}
 use Rattle.pb_body_parser.specs.Leads.{from}
 use Rattle.pb_body_parser.proofs.statement.+statements.Given as goal
 
--- how deep statements go: brackets first, then from a block to what hangs on it
+-- how deep statements go: brackets first, then from a block to its parts
 abbrev pub above : ℕ → ℕ → ℕ
 above depth rank = 8 * (33 - depth) + rank
 
