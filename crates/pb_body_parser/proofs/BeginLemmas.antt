@@ -4,7 +4,7 @@ use Rattle.pb_syntax.specs.declared.token.Token.{Token}
 use Rattle.pb_syntax.specs.declared.refusal.Item.{Item}
 use Rattle.pb_syntax.specs.Kinds.{kind_of}
 use Rattle.pb_grammar.specs.Want.{Want, begin}
-use Rattle.pb_syntax.specs.Limits.{limited, over}
+use Rattle.pb_syntax.specs.Limits.{limited}
 use Rattle.pb_grammar.specs.Reading.{step, marked, on, read}
 
 pub limited_within : (most before : ℕ) (item : Item) → before < most → limited most before item ≡ None

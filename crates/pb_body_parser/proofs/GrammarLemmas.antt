@@ -13,7 +13,7 @@ use Rattle.pb_syntax.specs.Stmts.{StmtTree}
 use Rattle.pb_syntax.specs.Exprs.{ExprTree, call, cell, width, height, parentheses, exprs}
 use Rattle.pb_grammar.specs.Next.{next_kind, next_place, next_is, word_is}
 use Rattle.pb_grammar.specs.Want.{Want, statements, statement, more_targets, called, begin, product, total, compared, conjunction, expression, line, operand, more_operands, coordinates, after_coordinate, some_arguments, arguments, more_arguments, factor, primary, after_name, member, bracket, a_sign}
-use Rattle.pb_syntax.specs.Limits.{limited, over}
+use Rattle.pb_syntax.specs.Limits.{over}
 use Rattle.pb_grammar.specs.Reading.{take, refuse, read, step}
 use Rattle.pb_body_parser.specs.Leads.{told, from}
 use Rattle.pb_body_parser.specs.declared.cursor.Cursor.{Cursor}

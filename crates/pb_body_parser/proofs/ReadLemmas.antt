@@ -12,7 +12,7 @@ use Rattle.pb_body_parser.specs.declared.fault.Fault.TheVariants.{BadSyntax, Ove
 use Rattle.pb_syntax.specs.Kinds.{kind_of}
 use Rattle.pb_grammar.specs.Next.{next_kind, next_place, next_is, word_is, Sees}
 use Rattle.pb_grammar.specs.Want.{Want, begin, token, word}
-use Rattle.pb_syntax.specs.Limits.{limited, over}
+use Rattle.pb_syntax.specs.Limits.{limited}
 use Rattle.pb_grammar.specs.Reading.{Step, take, refuse, read, step, on, taken_if}
 use Rattle.pb_body_parser.specs.Leads.{Fails, Leads, from, told}
 use Rattle.pb_body_parser.specs.declared.cursor.Cursor.{Cursor}

@@ -6,7 +6,7 @@ ghost use Rattle.pb_body_parser.specs.Leads.{Leads, Shortens};
 
 use crate::cursor::Cursor;
 use crate::fault::Fault;
-use pb_syntax::{Item, TokenKind, Token};
+use pb_syntax::{Item, Token, TokenKind};
 
 /// Consumes the name that begins an item; `OverLimit` if `before` of at most `most` items stand before it already.
 #[tactic(auto, using(crate::proofs::BeginLemmas::begin_within))]

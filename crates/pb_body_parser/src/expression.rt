@@ -17,7 +17,10 @@ use crate::fault::Fault;
 use crate::make::{
     call, cell, chained, compared, height, named, number, one, parentheses, signed, two, width,
 };
-use pb_syntax::{ExprText, Item, Level, MOST_ARGUMENTS, MOST_NESTING, Name, Operator, Relation, TokenKind, UnarySign};
+use pb_syntax::{
+    ExprText, Item, Level, MOST_ARGUMENTS, MOST_NESTING, Name, Operator, Relation, TokenKind,
+    UnarySign,
+};
 use std::alloc::Global;
 
 /// What may stand after a view's `.`.
@@ -61,7 +64,8 @@ fn begins_expression(kind: TokenKind) -> bool
     ensures { result ≡ begins_expression kind }
 {
     match kind {
-        TokenKind::Number | TokenKind::Name | TokenKind::Open | TokenKind::Minus | TokenKind::Not => true,
+        TokenKind::Number | TokenKind::Name | TokenKind::Open | TokenKind::Minus | TokenKind::Not =>
+            true,
         _ => false,
     }
 }
@@ -379,11 +383,7 @@ fn comparison(alloc: Global, cursor: &mut Cursor<'_>, depth: u32) -> Result<Expr
 
 /// An expression of a body; `depth` brackets are open.
 #[cycle(expression)]
-pub fn expression(
-    alloc: Global,
-    cursor: &mut Cursor<'_>,
-    depth: u32,
-) -> Result<ExprText, Fault>
+pub fn expression(alloc: Global, cursor: &mut Cursor<'_>, depth: u32) -> Result<ExprText, Fault>
     requires nested { depth ≤ MOST_NESTING }
     ensures leads { Leads bare result (expression depth) cursor.old cursor.new }
     ensures shorter { Shortens result cursor.old cursor.new }

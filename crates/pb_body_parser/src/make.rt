@@ -6,7 +6,7 @@ ghost use Rattle.pb_syntax.specs.Exprs.{chained};
 ghost use Rattle.pb_body_parser.specs.Bare.{bares, bare_operands, bare_stmts};
 
 use crate::fault::Fault;
-use pb_syntax::{ExprText, FormText, Level, Name, Operator, Relation, UnarySign, StmtText};
+use pb_syntax::{ExprText, FormText, Level, Name, Operator, Relation, StmtText, UnarySign};
 use std::alloc::Global;
 
 /// A number at its place.

@@ -18,7 +18,10 @@ use crate::fault::Fault;
 use crate::make::{
     assign, assign_cell, call_statement, for_each, if_holds, if_or_else, let_matrix, let_number,
 };
-use pb_syntax::{ExprText, FormText, Item, MOST_NESTING, MOST_STATEMENTS, MOST_TARGETS, Name, StmtText, TokenKind};
+use pb_syntax::{
+    ExprText, FormText, Item, MOST_NESTING, MOST_STATEMENTS, MOST_TARGETS, Name, StmtText,
+    TokenKind,
+};
 use std::alloc::Global;
 
 fn begins_statement(kind: TokenKind) -> bool

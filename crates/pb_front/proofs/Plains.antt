@@ -1,8 +1,7 @@
 -- The tokens of a tree are plain where the tokens that spell it are tokens of a text.
-use Rattle.std.proofs.Common.{◌≡◌, ℕ, ◌<◌, ◌≤◌, Bool, true, false, nat_lt, ◌&&◌, ◌==◌, not, List, [], ◌∷◌, ◌++◌, get_or, cond, refl, subst, arith, inl, inr, append-nil}
+use Rattle.std.proofs.Common.{◌≡◌, ℕ, ◌≤◌, Bool, true, false, nat_lt, ◌&&◌, ◌==◌, not, List, [], ◌∷◌, ◌++◌, cond, refl, subst, arith, append-nil}
 use Rattle.std.specs.List.{list_all}
-use Rattle.std.proofs.lemmas.Bool.{cases_lt, ltb-true, not-true}
-use Rattle.std.proofs.lemmas.List.{get_or_past}
+use Rattle.std.proofs.lemmas.Bool.{ltb-true, not-true}
 use Rattle.pb_values.specs.Name.{NameValue}
 use Rattle.pb_syntax.proofs.TestLemmas.{and_parts, each}
 use Rattle.pb_syntax.specs.declared.token.Token.{Token}
@@ -21,7 +20,6 @@ use Rattle.pb_syntax.specs.declared.tree.view.UseText.{UseText}
 use Rattle.pb_syntax.specs.declared.tree.view.CondText.{CondText}
 use Rattle.pb_syntax.specs.declared.tree.view.MarkText.{MarkText}
 use Rattle.pb_syntax.specs.Bytes.{begins_name, is_in_name}
-use Rattle.pb_syntax.specs.Signs.{signs}
 use Rattle.pb_syntax.specs.Kinds.{sign_kind, Is, name_in, name_in_what, number_in, number_in_what, kind_of_what}
 use Rattle.pb_syntax.specs.Lexemes.{IsLexemeAt, AreLexemes, IsWordText}
 use Rattle.pb_syntax.specs.Grammar as g

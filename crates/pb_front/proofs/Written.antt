@@ -1,6 +1,5 @@
 -- Tokens as they are written, their places aside, and lists of them that a text can have side by side.
-use Rattle.std.proofs.Common.{◌≡◌, ℕ, ◌≤◌, ◌<◌, Bool, false, ◌==◌, List, [], ◌∷◌, IsTrue}
-use Rattle.std.specs.List.{list_all}
+use Rattle.std.proofs.Common.{◌≡◌, ℕ, ◌≤◌, ◌<◌, Bool, false, ◌==◌, List, [], ◌∷◌}
 use Rattle.pb_syntax.specs.declared.token.Token.{Token}
 use Rattle.pb_syntax.specs.declared.token.TokenWhat.{TokenWhat}
 use Rattle.pb_syntax.specs.declared.token.TokenWhat.TheVariants as what

@@ -1,11 +1,11 @@
 -- A tree in which nothing is too many, of tokens that a text can have, is within the limits.
-use Rattle.std.proofs.Common.{◌≡◌, ◌≢◌, ℕ, suc, ◌+◌, ◌<◌, ◌≤◌, Bool, true, false, nat_lt, nat_le, not, inl, inr, List, [], ◌∷◌, ◌++◌, length, Option, Some, None, cond, refl, sym, ◌∙◌, subst, ap, arith, append_assoc, length-append}
+use Rattle.std.proofs.Common.{◌≡◌, ℕ, suc, ◌+◌, ◌<◌, ◌≤◌, Bool, true, false, nat_lt, nat_le, not, inl, inr, List, [], ◌∷◌, ◌++◌, length, Option, Some, None, cond, refl, sym, ◌∙◌, subst, ap, arith, append_assoc, length-append}
 use Rattle.std.specs.List.{AllByRecursion}
 use Rattle.std.proofs.lemmas.Bool.Decides.{nat_tests}
 use Rattle.std.proofs.lemmas.List.{append-nil}
 use Rattle.pb_values.specs.Name.{NameValue}
 use Rattle.pb_syntax.proofs.TestLemmas.{each}
-use Rattle.pb_syntax.specs.declared.limits.TheConstants.{MOST_VALUE, MOST_NUMBER, MOST_NESTING}
+use Rattle.pb_syntax.specs.declared.limits.TheConstants.{MOST_VALUE, MOST_NUMBER}
 use Rattle.pb_syntax.specs.declared.token.Token.{Token}
 use Rattle.pb_syntax.specs.declared.token.TokenWhat.{TokenWhat}
 use Rattle.pb_syntax.specs.declared.token.TokenWhat.TheVariants as what
@@ -30,8 +30,8 @@ use Rattle.pb_syntax.specs.Stmts.{StmtTree, stmts}
 use Rattle.pb_syntax.specs.Trees.{RuleTree, TransformTree}
 use Rattle.pb_syntax.specs.Grammar as g
 use Rattle.pb_syntax.specs.Grammar.{Commas, IsName, IsMinimum, IsMinimums, IsTerm, IsTerms, IsForm, IsDims, IsDecl, IsDecls, IsThrough, IsView, IsUse, IsReads, IsCond, IsConds, IsMark, IsLine, IsOperands, IsOperand, IsComp, IsUnary, IsPrim, IsArguments, IsCoordinates, IsStmt, IsBlock, IsStmts, IsRule, IsRules, IsTransform, IsTransforms, IsProgram}
-use Rattle.pb_syntax.specs.Limits.{Excess, most, over, here, too_great, SizeNames, put_size, is_known, after_form, sizes_in, sizes_of, alone, counted, size_excess, excess_of}
-use Rattle.pb_syntax.specs.TooMany.{TooMany, note, first_at, begun, in_commas, in_name, in_minimum, in_minimums, in_term, in_terms, in_form, in_dims, in_decl, in_more_decls, in_decls, in_through, in_view, in_use, in_reads, in_cond, in_conds, in_mark, in_line, in_operands, in_operand, in_comp, in_unary, in_prim, in_arguments, in_coordinates, statements_in, among, in_stmt, in_block, in_stmts, in_rule, in_rules, in_transform, in_transforms, in_program}
+use Rattle.pb_syntax.specs.Limits.{Excess, most, over, too_great, SizeNames, put_size, is_known, after_form, sizes_in, sizes_of, alone, counted, size_excess, excess_of}
+use Rattle.pb_syntax.specs.TooMany.{TooMany, note, begun, in_commas, in_name, in_minimum, in_minimums, in_term, in_terms, in_form, in_dims, in_decl, in_more_decls, in_decls, in_through, in_view, in_use, in_reads, in_cond, in_conds, in_mark, in_line, in_operands, in_operand, in_comp, in_unary, in_prim, in_arguments, in_coordinates, statements_in, among, in_stmt, in_block, in_stmts, in_rule, in_rules, in_transform, in_transforms, in_program}
 use Rattle.pb_syntax.specs.Faults.{Accepted}
 use Rattle.pb_syntax.specs.WithinLimits.{IsNamed, Counts, TermWithin, FormWithin, DimsWithin, DeclWithin, ViewWithin, UseWithin, CondWithin, MarkWithin, exprs_count, ExprWithin, ExprsWithin, OperandsWithin, AllExprs, StmtWithin, StmtsWithin, RuleWithin, MinimumWithin, TransformWithin, IsWithinLimits}
 use Rattle.pb_grammar.proofs.StmtLaws.{among_is}
@@ -225,8 +225,11 @@ more_decls n from found (g.a_comma {x = d} {xs = ds} is p ps) l h e m f =
     let s = decl (n + length found) (counted from found) p _ h.1 e in
     let r = more_decls n from (found ++ d ∷ []) ps l s.left s.none (omega (arith, s.within.1, length-append found (d ∷ []))) (counted_more from found d (s.within.2 f)) in
     record {
-      within = (omega (arith, r.within.0, length-append found (d ∷ [])), (s.within.0, r.within.1),
-      subst (λ all. FewSizes (counted from all)) (append_assoc found (d ∷ []) ds) r.within.2);
+      within = (
+        omega (arith, r.within.0, length-append found (d ∷ [])),
+        (s.within.0, r.within.1),
+        subst (λ all. FewSizes (counted from all)) (append_assoc found (d ∷ []) ds) r.within.2,
+      );
       left = r.left;
       none = r.none;
     }
@@ -425,8 +428,17 @@ mutual
       let b = few item.Nesting d (o ∷ mid) _ s.none in
       let a = arguments (suc d) 1 xs l s.left.1.1.1 b.1 (omega arith) in
       record {
-        within = (((named t i h.0, (named u q h.1.1.0, s.within.1)), (omega arith, omega (arith, s.within.0)), named f r s.left.1.0, b.0,
-        (a.within.1, omega (arith, a.within.0)), a.within.2), omega (arith, few_before));
+        within = (
+          (
+            (named t i h.0, (named u q h.1.1.0, s.within.1)),
+            (omega arith, omega (arith, s.within.0)),
+            named f r s.left.1.0,
+            b.0,
+            (a.within.1, omega (arith, a.within.0)),
+            a.within.2,
+          ),
+          omega (arith, few_before),
+        );
         left = a.left.1;
         none = a.none;
       }

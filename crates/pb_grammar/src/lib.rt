@@ -6,6 +6,4 @@
 
 mod laws;
 
-pub use laws::{
-    a_list_has_one_tree, an_accepted_tree_is_within_limits, tokens_have_one_answer,
-};
+pub use laws::{a_list_has_one_tree, an_accepted_tree_is_within_limits, tokens_have_one_answer};

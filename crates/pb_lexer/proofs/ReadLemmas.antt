@@ -1,9 +1,9 @@
 -- What the pass over a text keeps, and what follows from its answer.
-use Rattle.std.proofs.Common.{◌≡◌, ℕ, ◌+◌, ◌-◌, ◌<◌, ◌≤◌, ◌⊎◌, inl, inr, List, [], ◌∷◌, ◌++◌, length, take, drop, Some, None, Result, Ok, Err, refl, sym, ◌∙◌, ap, subst, arith, append_assoc, length-append, length-take, length-drop, take_all}
+use Rattle.std.proofs.Common.{◌≡◌, ℕ, ◌+◌, ◌-◌, ◌<◌, ◌≤◌, List, [], ◌∷◌, ◌++◌, length, take, drop, Some, None, refl, sym, ◌∙◌, ap, subst, arith, append_assoc, length-append, length-take, length-drop, take_all}
 use Rattle.std.proofs.Math.Seq.{take-append_seam, drop-append_seam}
 use Rattle.std.proofs.lemmas.List.{take-append-drop}
 use Rattle.pb_syntax.specs.declared.token.Token.{Token}
-use Rattle.pb_syntax.specs.Tokens.{Piece, Pieces, none, Spells, BadTokenAt}
+use Rattle.pb_syntax.specs.Tokens.{Piece, Pieces, none, BadTokenAt}
 use Rattle.pb_lexer.specs.declared.piece.Front.{Front}
 use Rattle.pb_lexer.specs.Reading.{piece_read, tokens_of}
 use Rattle.pb_lexer.proofs.PieceLemmas.{found}

@@ -40,7 +40,11 @@ fn read_value(digits: &[u8]) -> Option<u64>
         }
         value = value * 10 + (*byte - b'0') as u64;
     }
-    if value > MOST_VALUE { None } else { Some(value) }
+    if value > MOST_VALUE {
+        None
+    } else {
+        Some(value)
+    }
 }
 
 fn read_number(text: &[u8]) -> Option<Front>

@@ -7,7 +7,7 @@ use Rattle.pb_body_parser.specs.declared.fault.Fault.TheVariants as fault
 use Rattle.pb_syntax.specs.Transforms.{TransformValue, TextValue}
 use Rattle.pb_syntax.specs.Trees.{TransformTree, bare_transform}
 use Rattle.pb_grammar.specs.Want.{Want, begin, a_transform, more_transforms}
-use Rattle.pb_syntax.specs.Limits.{limited, over}
+use Rattle.pb_syntax.specs.Limits.{over}
 use Rattle.pb_grammar.specs.Reading.{Verdict, read}
 use Rattle.pb_body_parser.specs.Leads.{Fails, told}
 use Rattle.pb_parser.specs.Gives.{Gives}

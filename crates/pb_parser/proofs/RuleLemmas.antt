@@ -13,7 +13,7 @@ use Rattle.pb_syntax.specs.Transforms.{TransformValue}
 use Rattle.pb_syntax.specs.Trees.{RuleTree, TransformTree, bare_rule, bare_transform}
 use Rattle.pb_grammar.specs.Next.{next_kind}
 use Rattle.pb_grammar.specs.Want.{Want, uses, reads, rule, more_rules, begin, a_transform, more_transforms}
-use Rattle.pb_syntax.specs.Limits.{limited, over}
+use Rattle.pb_syntax.specs.Limits.{over}
 use Rattle.pb_grammar.specs.Reading.{Step, step, on, read}
 
 reads_step : (t : Token) (f : List UseText → Want) (kind : TokenKind) → kind ≢ k.Close

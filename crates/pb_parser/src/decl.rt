@@ -4,11 +4,7 @@ ghost use Rattle.pb_syntax.specs.Limits.{counted};
 ghost use Rattle.pb_body_parser.specs.Dims.{sizes_known, after_dims};
 ghost use Rattle.pb_body_parser.specs.Leads.{Leads, Shortens};
 
-use pb_body_parser::begin_name;
-use pb_body_parser::{Cursor, name_in};
-use pb_body_parser::counted_dims;
-use pb_body_parser::Fault;
-use pb_body_parser::small;
+use pb_body_parser::{Cursor, Fault, begin_name, counted_dims, name_in, small};
 use pb_syntax::{DeclText, Item, MOST_MATRICES, MOST_MINIMUMS, Name, TokenKind};
 use std::alloc::Global;
 

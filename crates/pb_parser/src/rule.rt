@@ -6,13 +6,12 @@ ghost use Rattle.pb_grammar.specs.Want.{a_use, uses, rules, reads, condition, co
 ghost use Rattle.pb_syntax.specs.Limits.{over};
 ghost use Rattle.pb_body_parser.specs.Leads.{Leads, Shortens};
 
-use pb_body_parser::begin_name;
-use pb_body_parser::{Cursor, name_in};
-use pb_body_parser::Fault;
-use pb_body_parser::{form, small};
-use pb_body_parser::statements;
 use crate::view::view_or_none;
-use pb_syntax::{CondText, FormText, Item, MOST_CONDITIONS, MOST_RULES, MOST_VIEWS, MarkText, Relation, RuleText, TokenKind, UseText};
+use pb_body_parser::{Cursor, Fault, begin_name, form, name_in, small, statements};
+use pb_syntax::{
+    CondText, FormText, Item, MOST_CONDITIONS, MOST_RULES, MOST_VIEWS, MarkText, Relation,
+    RuleText, TokenKind, UseText,
+};
 use std::alloc::Global;
 
 fn one_use(

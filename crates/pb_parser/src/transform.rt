@@ -9,11 +9,10 @@ ghost use Rattle.pb_grammar.specs.Reading.{read};
 ghost use Rattle.pb_body_parser.specs.Leads.{Leads, Shortens};
 ghost use Rattle.pb_parser.specs.Gives.{Gives};
 
-use pb_body_parser::{Cursor, name_in};
 use crate::decl::{decls, minimums, through};
 use crate::refused::refused_with;
-use pb_body_parser::Fault;
 use crate::rule::rules;
+use pb_body_parser::{Cursor, Fault, name_in};
 use pb_syntax::{Item, MOST_TRANSFORMS, Refusal, Text, Token, TokenKind, TransformText};
 use std::alloc::Global;
 

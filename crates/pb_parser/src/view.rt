@@ -6,10 +6,8 @@ ghost use Rattle.pb_grammar.specs.Want.{form, a_sign, after_x, view_or_none, vie
 ghost use Rattle.pb_grammar.specs.Reading.{between};
 ghost use Rattle.pb_body_parser.specs.Leads.{Leads, Shortens, NeverGrows};
 
-use pb_body_parser::Cursor;
-use pb_body_parser::Fault;
-use pb_body_parser::form;
-use pb_syntax::{TokenKind, Token, TokenWhat, ViewText};
+use pb_body_parser::{Cursor, Fault, form};
+use pb_syntax::{Token, TokenKind, TokenWhat, ViewText};
 use std::alloc::Global;
 
 /// The bytes of the name that a token is.

@@ -14,7 +14,6 @@ pub and_parts : (a b : Bool) → (a && b) ≡ true → (a ≡ true) × (b ≡ tr
 and_parts true b e = (refl, e)
 and_parts false b e = absurd (cc)
 
-
 -- a table of the signs
 abbrev pub below : (ℕ → Bool) → ℕ → Bool
 below test zero = true

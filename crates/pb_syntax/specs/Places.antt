@@ -1,5 +1,5 @@
 -- A tree with its places aside: each place in it is 0.
-use Rattle.std.specs.Prelude.{ℕ, List, [], ◌∷◌, Option, Some, None, map}
+use Rattle.std.specs.Prelude.{ℕ, List, Option, Some, None, map}
 use Rattle.pb_values.specs.Name.{NameValue}
 use Rattle.pb_syntax.specs.declared.tree.form.TermText.{TermText}
 use Rattle.pb_syntax.specs.declared.tree.view.ViewText.{ViewText}

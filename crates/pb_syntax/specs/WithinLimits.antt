@@ -1,5 +1,5 @@
 -- The limits, said of a tree: what is true of each tree that a text has.
-use Rattle.std.specs.Prelude.{◌≡◌, ◌≢◌, ℕ, suc, ◌+◌, ◌≤◌, ◌<◌, Bool, true, false, List, [], ◌∷◌, length, Option, Some, None, ◌⊎◌}
+use Rattle.std.specs.Prelude.{◌≡◌, ◌≢◌, ℕ, suc, ◌+◌, ◌≤◌, ◌<◌, false, List, [], ◌∷◌, length, Option, Some, None, ◌⊎◌}
 use Rattle.std.specs.List.{AllByRecursion}
 use Rattle.pb_values.specs.Name.{NameValue}
 use Rattle.pb_syntax.specs.declared.kind.TokenKind.TheVariants as k

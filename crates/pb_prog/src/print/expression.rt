@@ -2,9 +2,8 @@ ghost use Rattle.std.specs.Prelude.{◌≡◌, [], ◌∷◌, ◌++◌, codes, O
 ghost use Rattle.pb_prog.specs.Spelling.{word, sign_at, opening, closing, dot, operator_sign, unary_sign, relation_sign};
 ghost use Rattle.pb_prog.specs.Writing.{puts, expr_in, args_in, operands_in};
 
-use pb_syntax::sign;
 use crate::print::writer::Writer;
-use pb_syntax::{ExprText, Operator, Relation, UnarySign};
+use pb_syntax::{ExprText, Operator, Relation, UnarySign, sign};
 use pb_values::Name;
 use std::alloc::AllocError;
 

@@ -2,9 +2,8 @@ ghost use Rattle.std.specs.Prelude.{◌≡◌, OnOk};
 ghost use Rattle.pb_prog.specs.Spelling.{with_commas, factor_tokens, quotient_tokens, term_tokens, sum_tokens, form_tokens, decl_tokens};
 ghost use Rattle.pb_prog.specs.Writing.{puts, comma_unless, sign_unless};
 
-use pb_syntax::sign;
 use crate::print::writer::Writer;
-use pb_syntax::{DeclText, FormText, TermText};
+use pb_syntax::{DeclText, FormText, TermText, sign};
 use std::alloc::AllocError;
 
 impl Writer {

@@ -4,10 +4,8 @@ ghost use Rattle.pb_syntax.specs.Stmts.{let_number, let_matrix, assign, call_stm
 ghost use Rattle.pb_prog.specs.Spelling.{word, opening, closing, open_brace, close_brace, equals, dots, name_tokens, with_commas, stmt_tokens};
 ghost use Rattle.pb_prog.specs.Writing.{puts, expr_in, stmt_in, body_in, block_in};
 
-use pb_syntax::TokenKind;
-use pb_syntax::sign;
 use crate::print::writer::Writer;
-use pb_syntax::{ExprText, FormText, StmtText};
+use pb_syntax::{ExprText, FormText, StmtText, TokenKind, sign};
 use pb_values::Name;
 use std::alloc::AllocError;
 

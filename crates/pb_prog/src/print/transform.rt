@@ -2,10 +2,8 @@ ghost use Rattle.std.specs.Prelude.{◌≡◌, OnOk};
 ghost use Rattle.pb_prog.specs.Spelling.{minimum_tokens, minimums_tokens, through_tokens, with_commas, in_order};
 ghost use Rattle.pb_prog.specs.Writing.{puts, rule_in, transform_in};
 
-use pb_syntax::TokenKind;
-use pb_syntax::sign;
 use crate::print::writer::Writer;
-use pb_syntax::{DeclText, RuleText, TransformText};
+use pb_syntax::{DeclText, RuleText, TokenKind, TransformText, sign};
 use pb_values::Name;
 use std::alloc::AllocError;
 

@@ -4,10 +4,8 @@ ghost use Rattle.pb_syntax.specs.Kinds.{word_kind};
 ghost use Rattle.pb_prog.specs.Spelling.{word, sign_at, opening, comma, dot, with_commas, form_tokens, relation_sign, view_tokens, use_tokens, cond_tokens, conds_tokens, mark_tokens};
 ghost use Rattle.pb_prog.specs.Writing.{puts};
 
-use pb_syntax::TokenKind;
-use pb_syntax::sign;
 use crate::print::writer::Writer;
-use pb_syntax::{CondText, FormText, MarkText, Relation, UseText, ViewText};
+use pb_syntax::{CondText, FormText, MarkText, Relation, TokenKind, UseText, ViewText, sign};
 use std::alloc::AllocError;
 
 fn relation_sign(relation: Relation) -> u8

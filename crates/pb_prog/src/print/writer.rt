@@ -4,9 +4,9 @@ ghost use Rattle.pb_syntax.specs.Kinds.{word_kind};
 ghost use Rattle.pb_prog.specs.Spelling.{word, numeral, sign_at};
 ghost use Rattle.pb_prog.specs.Writing.{put, put_bytes};
 
+use itoa::Buffer;
 use pb_syntax::sign::{SIGNS, sign_bytes, sign_kind};
 use pb_syntax::{TokenKind, word_kind};
-use itoa::Buffer;
 use pb_values::Name;
 use std::alloc::{AllocError, Global};
 use std::marker::Model;
