@@ -1,39 +1,59 @@
 #!/usr/bin/env bash
-# Runs the proved program with the words given, from the caller's folder. Where a source is newer than the
-# program, it is proved and built first, which needs the toolchain's command `rt` on the PATH.
+# Runs the proved program with the words given, from the caller's folder, and ends with its status.
+# Where a source is newer than the program, the program is proved and built first, by the toolchain's command `rt`.
+# Status 70 says that this failed; docs/LANGUAGE.md lists the program's own statuses.
 set -u
 top=$(cd "$(dirname "$(readlink -f "${BASH_SOURCE[0]}")")" && pwd)
-program=$top/crates/pb/out/pb
+crate=$top/crates/pb
+log=$crate/out/build.log
 
-newer() {
-    [ ! -x "$program" ] || [ -n "$(find "$top/crates" "$top/crates.txt" -path '*/out' -prune -o \
-        -type f \( -name '*.rt' -o -name '*.antt' -o -name crates.txt \) -newer "$program" -print -quit)" ]
+is_stale() {
+    [ ! -x "$crate/out/pb" ] || [ -n "$(find "$top/crates" "$top/crates.txt" -path '*/out' -prune -o \
+        -type f \( -name '*.rt' -o -name '*.antt' -o -name crates.txt \) -newer "$crate/out/pb" -print -quit)" ]
 }
 
+# In the folder of a crate, `rt all check` proves that crate and those below it, several at a time. `rt run` takes what
+# was proved, and builds and runs the program: here it checks an example.
 build() {
-    local log=$top/crates/pb/out/build.log started=$SECONDS
-    mkdir -p "${log%/*}"
-    echo "pb: proving and building the program; from nothing this takes a quarter of an hour or so" >&2
-    (cd "$top/crates/pb" && exec rt run </dev/null >"$log" 2>&1) &
-    local building=$!
-    while kill -0 "$building" 2>/dev/null; do
-        sleep 1
-        [ $(( (SECONDS - started) % 10 )) -ne 0 ] || echo "pb: still at work, $(( SECONDS - started )) s" >&2
-    done
-    # `rt run` ends with the program's own status, so the program's age tells whether it was built.
-    if grep -q '^logic=proved' "$log" && [ -x "$program" ]; then
-        touch "$program"
-    else
-        echo "pb: the program couldn't be proved and built; what the toolchain said is in $log" >&2
-        exit 1
-    fi
+    cd "$crate" && rt all check --jobs "$(nproc)" && rt run -- check data/double.pb
 }
 
-if newer; then
-    if ! command -v rt >/dev/null; then
-        echo "pb: the toolchain's command rt isn't on the PATH, and the program isn't built" >&2
-        exit 1
-    fi
-    build
+# How many crates the program stands on, itself among them.
+count_crates() {
+    awk -F: 'function visit(name, names, n) {
+                 if (!(name in below) || name in seen) return
+                 seen[name] = 1; count++
+                 for (n = split(below[name], names, " "); n > 0; n--) visit(names[n])
+             }
+             { sub(/#.*/, ""); below[$1] = $2 }
+             END { visit("pb"); print count }' "$top/crates.txt"
+}
+
+tell_progress() {
+    local count
+    count=$(count_crates)
+    while sleep 15 >/dev/null 2>&1; do
+        echo "pb: $(grep -c '^== pb' "$log") of $count crates done, $SECONDS s" >&2
+    done
+}
+
+fail() {
+    echo "pb: $1" >&2
+    exit 70
+}
+
+if is_stale; then
+    command -v rt >/dev/null || fail "the program isn't built, and the toolchain's command rt isn't on the PATH"
+    echo "pb: proving and building the program; from nothing this takes a quarter of an hour or so" >&2
+    mkdir -p "$crate/out"
+    : >"$log"
+    tell_progress &
+    teller=$!
+    disown
+    trap 'kill "$teller" 2>/dev/null' EXIT
+    (build) </dev/null >"$log" 2>&1 || fail "the program couldn't be proved and built; what rt said is in $log"
+    touch "$crate/out/pb"
+    kill "$teller"
+    trap - EXIT
 fi
-exec "$program" "$@"
+exec "$crate/out/pb" "$@"
