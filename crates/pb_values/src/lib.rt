@@ -1,14 +1,19 @@
-//! Outcomes of cells, shapes of matrices, names of a text and the checked arithmetic of bodies.
+//! Outcomes of cells, shapes and views of matrices, names of a text and the checked arithmetic of bodies.
 //!
-//! In: whole numbers of 64 bits. Out: their exact sum or difference, or `Kind::Overflow`.
+//! In: whole numbers of 64 bits. Out: the exact number of an operation, or the kind of its trap. A view taken from another
+//! shows the same cells.
 #![tactic(auto)]
 
 mod arithmetic;
 mod name;
 mod outcome;
+mod rect;
 mod shape;
+mod view;
 
-pub use arithmetic::{add, sub};
+pub use arithmetic::{abs, add, div, mul, neg, rem, sub};
 pub use name::Name;
 pub use outcome::{Kind, Outcome, Trap};
-pub use shape::Shape;
+pub use rect::Rect;
+pub use shape::{MOST_SIDE, Shape};
+pub use view::View;

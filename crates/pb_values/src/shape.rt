@@ -6,3 +6,19 @@ pub struct Shape {
     pub w: u64,
     pub h: u64,
 }
+
+/// The most cells of a side.
+pub const MOST_SIDE: u64 = 4_194_304;
+
+impl Shape {
+    ghost use Rattle.std.specs.Prelude.{◌≡◌, ◌*◌, ◌≤◌};
+
+    /// How many cells there are. Each side is at most `MOST_SIDE`.
+    pub fn cells(&self) -> u64
+        requires width { self.now.w ≤ MOST_SIDE }
+        requires height { self.now.h ≤ MOST_SIDE }
+        ensures { result ≡ self.now.w * self.now.h }
+    {
+        self.w * self.h
+    }
+}
