@@ -1,7 +1,8 @@
 //! How tokens are read against the grammar, one at a time, and what follows: laws, no code that runs.
 //!
 //! `specs/Want.antt` has what is still wanted of the tokens to come, `specs/Reading.antt` what a token does to it. The laws:
-//! a list of tokens has at most one tree, and has a tree, one place of bad syntax or one first item too many.
+//! a list of tokens has at most one tree; it is a program in which nothing is too many, or has one place of bad syntax, or
+//! one first item too many; and an accepted tree is within the limits.
 #![tactic(auto)]
 
 mod laws;

@@ -2,7 +2,7 @@ ghost use Rattle.std.specs.Prelude.{◌≡◌, ◌≤◌, ◌<◌, ◌⊎◌, �
 ghost use Rattle.pb_syntax.specs.declared.refusal.Refusal.TheVariants.{TooLong, Memory};
 ghost use Rattle.pb_syntax.specs.Tokens.{Spells};
 ghost use Rattle.pb_lexer.specs.Reading.{tokens_of};
-ghost use Rattle.pb_lexer.specs.Refusing.{IsLexed, IsUnlexed};
+ghost use Rattle.pb_lexer.specs.Lexing.{IsLexed, IsUnlexed};
 
 use crate::piece::{PieceKind, read_front};
 use pb_syntax::{MOST_BYTES, Name, Refusal, Token, TokenWhat};

@@ -3,7 +3,7 @@ use Rattle.std.proofs.Common.{◌≡◌, ℕ, ◌≤◌, length, arith, List, []
 use Rattle.pb_outside.specs.Shelf.{Files}
 use Rattle.pb_values.specs.declared.outcome.Kind.{Kind}
 use Rattle.pb_prog.specs.Canonical.{canonical}
-use Rattle.pb_lexer.specs.Refusing.{most_bytes}
+use Rattle.pb_lexer.specs.Lexing.{most_bytes}
 use Rattle.pb_front.specs.Reading.{IsRead}
 use Rattle.pb_front.proofs.CanonicalLemmas.{read_again, its_own}
 use Rattle.pb_front.proofs.ReadLemmas.{one_tree, one_refusal as one_refusal_of, not_both}

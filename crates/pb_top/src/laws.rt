@@ -1,6 +1,6 @@
 ghost use Rattle.std.specs.Prelude.{◌≡◌, ℕ, ◌≤◌, List, length};
 ghost use Rattle.pb_outside.specs.Shelf.{Files};
-ghost use Rattle.pb_lexer.specs.Refusing.{most_bytes};
+ghost use Rattle.pb_lexer.specs.Lexing.{most_bytes};
 ghost use Rattle.pb_top.specs.Reply.{Reply, done_reply};
 ghost use Rattle.pb_top.specs.Check.{CheckAnswers};
 ghost use Rattle.pb_top.specs.Answer.{Answers};
