@@ -1,5 +1,5 @@
 -- From what the work ended with, once it was written, to how the call ends.
-use Rattle.std.proofs.Common.{◌≡◌, ◌≢◌, ℕ, List, [], ◌∷◌, ◌++◌, length, map, take, drop, ◌-◌, String, Option, Some, None, ◌⊎◌, Result, Ok, Err, IfOk, Vec, Contains, inl, inr, string_bytes, refl, sym, ap, subst, ◌∙◌, append-nil, arith}
+use Rattle.std.proofs.Common.{◌≡◌, ◌≢◌, ℕ, ◌<◌, List, [], ◌∷◌, ◌++◌, length, map, take, drop, ◌-◌, String, Option, Some, None, ◌⊎◌, Result, Ok, Err, IfOk, Vec, Contains, inl, inr, string_bytes, refl, sym, ap, subst, ◌∙◌, append-nil, arith}
 use Rattle.std.specs.declared.alloc.Global.{Global}
 use Rattle.std.specs.declared.alloc.AllocError.{AllocError}
 use Rattle.std.proofs.lemmas.List.Elements.{Contains-append_right}
@@ -15,7 +15,6 @@ use Rattle.pb_top.specs.Answer.{taken_words, AskAnswers, Answers, IsTailOf, IsOu
 use Rattle.pb_top.specs.Ends.{IsReadFault, Shows, IsAnswered, IsAnswerStatus, AreSteady, AsksInOrder, OutBreaks, ErrBreaks, Ends}
 use Rattle.pb_top.specs.Working.{IsRefusal, StopsWith, NamesFault, ShelfStops, ShelfReplies, WritesTo, StopIsWritten, IsWritten, LineIsWritten}
 use Rattle.pb_top.specs.declared.reply.Status.{Status}
-use Rattle.pb_top.specs.declared.reply.Status.TheVariants.{Usage, Program, Input, NotBuilt, File}
 use Rattle.pb_top.specs.declared.reply.Stop.{Stop}
 use Rattle.pb_top.specs.declared.reply.Stop.TheVariants.{Memory, Refused, Unread}
 use Rattle.pb_top.proofs.FileLemmas.{asks_none}
@@ -38,36 +37,32 @@ pub record Keeps (words : List (List ℕ)) (shelf : ShelfChange) : Type 0 where
 is_out : (words : List (List ℕ)) (shelf : ShelfChange) → Keeps words shelf → (reply : Reply) → IsOut words shelf.before reply reply.out
 is_out words shelf keeps reply = ([], keeps.tail reply, sym (append-nil reply.out))
 
--- the status of a refusal is none of the faults'
-record IsOther (status : ℕ) : Type 0 where
-  pub answers : IsAnswerStatus status
-  pub some : status ≢ 0
-
-other_code : (code : Status) (status : ℕ) → IsRefusal code → status ≡ status_code code → IsOther status
-other_code Usage status refusal is = record { answers = record { no_read_fault = λ e. absurd (omega arith); no_write_fault = λ e. absurd (omega arith); no_want = λ e. absurd (omega arith) }; some = λ e. absurd (omega arith) }
-other_code Program status refusal is = record { answers = record { no_read_fault = λ e. absurd (omega arith); no_write_fault = λ e. absurd (omega arith); no_want = λ e. absurd (omega arith) }; some = λ e. absurd (omega arith) }
-other_code Input status refusal is = record { answers = record { no_read_fault = λ e. absurd (omega arith); no_write_fault = λ e. absurd (omega arith); no_want = λ e. absurd (omega arith) }; some = λ e. absurd (omega arith) }
-other_code NotBuilt status refusal is = record { answers = record { no_read_fault = λ e. absurd (omega arith); no_write_fault = λ e. absurd (omega arith); no_want = λ e. absurd (omega arith) }; some = λ e. absurd (omega arith) }
-other_code File status refusal is = record { answers = record { no_read_fault = λ e. absurd (omega arith); no_write_fault = λ e. absurd (omega arith); no_want = λ e. absurd (omega arith) }; some = λ e. absurd (omega arith) }
-other_code _ status refusal is = absurd refusal
+-- a status that no fault has is an answer's
+pub other_status : (status n : ℕ) → status ≡ n → (n < 9) ⊎ (11 < n) → IsAnswerStatus status
+other_status status n is other =
+    record { no_read_fault = λ e. absurd (omega arith); no_write_fault = λ e. absurd (omega arith); no_want = λ e. absurd (omega arith) }
 
 module _ (words : List (List ℕ)) (shelf : ShelfChange) (out err : SinkChange) (keeps : Keeps words shelf) where
-  -- the text of an answer was put whole
-  answered_ends : (status : ℕ) → IsAnswerStatus status → IsSound shelf → AreSteady out err → IsAnswered words shelf.before out err status
-      → (status ≢ 0 → Stays out) → (status ≡ 0 → Stays err) → Ends words shelf out err status
-  answered_ends status is sound steady answered untouched silent = record {
-    answered = λ s. answered;
-    read_fault = λ e. absurd (is.no_read_fault e);
-    write_fault = λ e. absurd (is.no_write_fault e);
-    memory = λ e. absurd (is.no_want e);
-    files = keeps.files;
-    asked = keeps.asked;
-    untaken = keeps.untaken;
-    sound = λ s. sound;
-    steady = λ n. steady;
-    untouched = λ a b. untouched a;
-    silent = silent;
-  }
+  -- the text of a reply was put whole
+  reply_ends : (reply : Reply) (status : ℕ) → (reply.status < 9) ⊎ (11 < reply.status) → IsSound shelf → Answers words shelf.before reply → status ≡ reply.status
+      → Gains reply.out out → Gains reply.err err → AreSteady out err → (status ≢ 0 → Stays out) → (status ≡ 0 → Stays err) → Ends words shelf out err status
+  reply_ends reply status other sound answers is gains_out gains_err steady untouched silent =
+      let plain = other_status status reply.status is other in
+      let text = is_out words shelf keeps reply in
+      let shows : Shows words shelf.before out err status reply = record { status_is = is; text = reply.out; is_text = text; gains_out = gains_out; gains_err = gains_err } in
+      record {
+        answered = λ s. record { reply = reply; answers = answers; shows = shows };
+        read_fault = λ e. absurd (plain.no_read_fault e);
+        write_fault = λ e. absurd (plain.no_write_fault e);
+        memory = λ e. absurd (plain.no_want e);
+        files = keeps.files;
+        asked = keeps.asked;
+        untaken = keeps.untaken;
+        sound = λ s. sound;
+        steady = λ n. steady;
+        untouched = λ a b. untouched a;
+        silent = silent;
+      }
 
   -- a put was refused
   breaks_ends : (status : ℕ) → status ≡ 10 → OutBreaks words shelf out err ⊎ ErrBreaks words shelf out err → Ends words shelf out err status
@@ -104,47 +99,18 @@ module _ (words : List (List ℕ)) (shelf : ShelfChange) (out err : SinkChange) 
   -- a text on `out` is the answer's
   out_ends : (text : List ℕ) (status : ℕ) → IsSound shelf → Answers words shelf.before (done_reply text) → WritesTo text out err 0 status → Ends words shelf out err status
   out_ends text status sound answers (inl (is, gains, steady, idle)) =
-      answered_ends status
-      (record { no_read_fault = λ e. absurd (omega arith); no_write_fault = λ e. absurd (omega arith); no_want = λ e. absurd (omega arith) })
-      sound (record { of_out = steady; of_err = idle.steady })
-      (record {
-        reply = done_reply text;
-        answers = answers;
-        shows = record {
-          status_is = is;
-          text = text;
-          is_text = is_out words shelf keeps (done_reply text);
-          gains_out = gains;
-          gains_err = gains_none err idle.stays;
-        };
-      })
+      reply_ends (done_reply text) status (inl (omega arith)) sound answers is gains (gains_none err idle.stays) (record { of_out = steady; of_err = idle.steady })
       (λ n. absurd (n is)) (λ e. idle.stays)
   out_ends text status sound answers (inr (is, breaks, idle)) =
-      breaks_ends status is (inl (record {
-        text = text;
-        is_text = (done_reply text, answers, is_out words shelf keeps (done_reply text));
-        breaks = breaks;
-        idle = idle;
-      }))
+      let reply = done_reply text in
+      breaks_ends status is (inl (record { text = text; is_text = (reply, answers, is_out words shelf keeps reply); breaks = breaks; idle = idle }))
 
   -- a line on `err` is the answer's
   err_ends : (code : Status) (line : List ℕ) (status : ℕ) → IsSound shelf → IsRefusal code → Answers words shelf.before (refusal_reply code line)
       → WritesTo line err out (status_code code) status → Ends words shelf out err status
   err_ends code line status sound refusal answers (inl (is, gains, steady, idle)) =
-      let other = other_code code status refusal is in
-      answered_ends status other.answers sound (record { of_out = idle.steady; of_err = steady })
-      (record {
-        reply = refusal_reply code line;
-        answers = answers;
-        shows = record {
-          status_is = is;
-          text = [];
-          is_text = is_out words shelf keeps (refusal_reply code line);
-          gains_out = gains_none out idle.stays;
-          gains_err = gains;
-        };
-      })
-      (λ n. idle.stays) (λ e. absurd (other.some e))
+      reply_ends (refusal_reply code line) status refusal.1 sound answers is (gains_none out idle.stays) gains (record { of_out = idle.steady; of_err = steady })
+      (λ n. idle.stays) (λ e. absurd (omega (arith, refusal.0)))
   err_ends code line status sound refusal answers (inr (is, breaks, idle)) =
       breaks_ends status is (inr (record { text = line; is_text = inl (refusal_reply code line, answers, refl); breaks = breaks; idle = idle }))
 

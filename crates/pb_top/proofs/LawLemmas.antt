@@ -30,6 +30,7 @@ use Rattle.pb_top.specs.Ends.{Shows, IsAnswered, IsAnswerStatus, OutBreaks, ErrB
 use Rattle.pb_top.specs.declared.program.Sign.{Sign}
 use Rattle.pb_top.proofs.FrameLemmas.{one_form}
 use Rattle.pb_top.proofs.StepLemmas.{then_one, takes_one}
+use Rattle.pb_top.proofs.EndLemmas.{other_status}
 
 abbrev as_sum : ℤ → Result ℤ Kind
 as_sum z = Ok z
@@ -121,15 +122,12 @@ checked_stays program text (inl (tree, read, is)) short =
 fault_or_not : (status : ℕ) → IsAnswerStatus status ⊎ (status ≡ 9) ⊎ (status ≡ 10) ⊎ (status ≡ 11)
 fault_or_not status =
     elim (cases_lt status 9) [
-      | inl few ↦ inl (record { no_read_fault = λ e. absurd (omega arith); no_write_fault = λ e. absurd (omega arith); no_want = λ e. absurd (omega arith) })
+      | inl few ↦ inl (other_status status status refl (inl few))
       | inr nine ↦ elim (cases_lt 11 status) [
-        | inl many ↦ inl (record { no_read_fault = λ e. absurd (omega arith); no_write_fault = λ e. absurd (omega arith); no_want = λ e. absurd (omega arith) })
+        | inl many ↦ inl (other_status status status refl (inr many))
         | inr eleven ↦ elim (cases_lt status 10) [
           | inl less ↦ inr (inl (omega arith))
-          | inr ten ↦ elim (cases_lt 10 status) [
-            | inl more ↦ inr (inr (inr (omega arith)))
-            | inr only ↦ inr (inr (inl (omega arith)))
-          ]
+          | inr ten ↦ elim (cases_lt 10 status) [ inl more ↦ inr (inr (inr (omega arith))) | inr only ↦ inr (inr (inl (omega arith))) ]
         ]
       ]
     ]

@@ -1,5 +1,5 @@
 -- For proofs alone: what the private steps of a command give, before anything is written.
-use Rattle.std.specs.Prelude.{◌≡◌, ℕ, List, [], ◌∷◌, ◌++◌, map, length, Option, Some, None, Result, Ok, Err, Vec, ◌⊎◌, string_bytes}
+use Rattle.std.specs.Prelude.{◌≡◌, ℕ, ◌<◌, List, [], ◌∷◌, ◌++◌, map, length, Option, Some, None, Result, Ok, Err, Vec, ◌⊎◌, string_bytes}
 use Rattle.std.specs.declared.alloc.Global.{Global}
 use Rattle.std.specs.declared.alloc.AllocError.{AllocError}
 use Rattle.pb_outside.specs.Count.{RoseBy}
@@ -10,18 +10,12 @@ use Rattle.pb_top.specs.Reply.{Reply, status_code, done_reply, refusal_reply}
 use Rattle.pb_top.specs.Steps.{Takes}
 use Rattle.pb_top.specs.Answer.{RunLine, limited}
 use Rattle.pb_top.specs.declared.reply.Status.{Status}
-use Rattle.pb_top.specs.declared.reply.Status.TheVariants.{Usage, Program, Input, NotBuilt, File}
 use Rattle.pb_top.specs.declared.reply.Stop.{Stop}
 use Rattle.pb_top.specs.declared.reply.Stop.TheVariants.{Memory, Refused, Unread}
 
 -- a status with a line on `err` that no device's fault gives
 abbrev pub IsRefusal : Status → Type 0
-IsRefusal Usage = Unit {0}
-IsRefusal Program = Unit {0}
-IsRefusal Input = Unit {0}
-IsRefusal NotBuilt = Unit {0}
-IsRefusal File = Unit {0}
-IsRefusal other = ⊥
+IsRefusal status = (0 < status_code status) × ((status_code status < 9) ⊎ (11 < status_code status))
 
 -- the work stops with a reply that the relation says, or for want of memory
 abbrev pub StopsWith : (Reply → Type 0) → Stop → Type 0

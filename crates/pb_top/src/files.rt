@@ -8,6 +8,7 @@ use pb_outside::{FILE_LIMIT, Shelf, Take};
 use std::alloc::Global;
 
 /// Takes a file of the command.
+#[tactic(auto, using(crate::proofs::FileLemmas::fault_stops))]
 pub fn fetch<S: Shelf>(alloc: Global, shelf: &mut S, name: &str) -> Result<Vec<u8>, Stop>
     ensures taken { IsTaken name.now (shelf_change S.files S.faults S.taken S.asked shelf.old shelf.new) result }
     ensures stays { S.files shelf.new ≡ S.files shelf.old }
