@@ -102,6 +102,7 @@ pub fn not_built(alloc: Global) -> Result<Stop, AllocError>
     Ok(Stop::Refused(Status::NotBuilt, line))
 }
 
+/// A file that isn't there.
 pub fn no_file(alloc: Global, name: &str) -> Result<Stop, AllocError>
     ensures { IfOk result (StopsWith (λ reply. reply ≡ no_file name.now)) }
 {
@@ -109,6 +110,7 @@ pub fn no_file(alloc: Global, name: &str) -> Result<Stop, AllocError>
     Ok(Stop::Refused(Status::File, line))
 }
 
+/// A file that is longer than its limit.
 pub fn file_too_long(alloc: Global, name: &str) -> Result<Stop, AllocError>
     ensures { IfOk result (StopsWith (λ reply. reply ≡ file_too_long name.now)) }
 {
@@ -116,6 +118,7 @@ pub fn file_too_long(alloc: Global, name: &str) -> Result<Stop, AllocError>
     Ok(Stop::Refused(Status::File, line))
 }
 
+/// A file that couldn't be read.
 pub fn unread(alloc: Global, name: &str) -> Result<Stop, AllocError>
     ensures { IfOk result (IsUnread (read_fault_line name.now)) }
 {
