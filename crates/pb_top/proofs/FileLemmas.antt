@@ -25,21 +25,6 @@ pub asks_none : (names : List (List ℕ)) (told : Option (List (List ℕ))) → 
 asks_none names None = record { front = []; others = names; parts = refl; asked = refl }
 asks_none names (Some before) = record { front = []; others = names; parts = refl; asked = ap Some (sym (append-nil before)) }
 
--- a name was asked, if memory didn't run out
-pub asks_name : (name : List ℕ) (result : Result Take AllocError) (before now : Option (List (List ℕ))) → AsksName name result before now
-    → AsksFront (name ∷ []) before now
-asks_name name (Ok take) before now asks = record { front = name ∷ []; others = []; parts = refl; asked = asks }
-asks_name name (Err e) before now (inl asks) = subst (AsksFront (name ∷ []) before) (sym asks) (asks_none (name ∷ []) before)
-asks_name name (Err e) before now (inr asks) = record { front = name ∷ []; others = []; parts = refl; asked = asks }
-
--- the work stops at a file that can't be taken
-pub file_stops : (name : List ℕ) (shelf : ShelfChange) (reply : Reply) (stop : Stop) → IsSound shelf → TakesFile shelf.before name FILE_LIMIT (Err reply)
-    → StopsWith (λ r. r ≡ reply) stop → ShelfStops (name ∷ []) (λ told r. Takes told (limited (name ∷ [])) (Err r)) shelf stop
-file_stops name shelf reply Memory sound takes stops = tt
-file_stops name shelf reply (Refused status line) sound takes stops =
-    (sound, stops.0, inl (subst (λ r. TakesFile shelf.before name FILE_LIMIT (Err r)) (sym stops.1) takes))
-file_stops name shelf reply (Unread line) sound takes stops = absurd stops
-
 -- the work stops at a file that couldn't be read
 pub fault_stops : (name : List ℕ) (shelf : ShelfChange) (stop : Stop) → RoseBy 1 shelf.faults_before shelf.faults_now
     → shelf.asked_now ≡ asked_after (name ∷ []) shelf.asked_before → IsUnread (read_fault_line name) stop

@@ -40,11 +40,6 @@ pub replies_map : (P Q : Reply → Type 0) → ((reply : Reply) → P reply → 
 replies_map P Q each (Ok text) says = each (done_reply text.items) says
 replies_map P Q each (Err stop) stops = stops_map P Q each stop stops
 
--- where the first step stops, all do
-pub stops_then : {A : Type 0} (Step : Result A Reply → Type 0) (next : A → Reply → Type 0) (stop : Stop) → StopsWith (λ reply. Step (Err reply)) stop
-    → StopsWith (Then Step next) stop
-stops_then Step next = stops_map (λ reply. Step (Err reply)) (Then Step next) (λ reply stop. inr stop)
-
 -- where files are told, a file gives one thing
 file_one : (files : Files) (word : List ℕ) (limit : ℕ) (x y : Result (List ℕ) Reply) → TakesFile (Some files) word limit x → TakesFile (Some files) word limit y → x ≡ y
 file_one files word limit (Ok bytes) (Ok others) (few, is) (few_too, other_is) = let same = sym is ∙ other_is in cc

@@ -1,4 +1,4 @@
-use Rattle.std.proofs.Common.{map, string_bytes, refl, sym, false, true}
+use Rattle.std.proofs.Common.{map, string_bytes, refl}
 use Rattle.pb_top.specs.Sinks.{shelf_change, sink_change}
 use Rattle.pb_top.proofs.ProgramLemmas.{false_true}
 use Rattle.pb_top.proofs.EndLemmas.{usage_ends, work_ends, not_threaded, texts_after}
