@@ -1,5 +1,5 @@
 -- From what the work ended with, once it was written, to how the call ends.
-use Rattle.std.proofs.Common.{◌≡◌, ◌≢◌, ℕ, ◌<◌, List, [], ◌∷◌, ◌++◌, length, map, take, drop, ◌-◌, String, Option, Some, None, ◌⊎◌, Result, Ok, Err, IfOk, Vec, Contains, inl, inr, string_bytes, refl, sym, ap, subst, ◌∙◌, append-nil, arith}
+use Rattle.std.proofs.Common.{◌≡◌, ◌≢◌, ℕ, ◌<◌, List, [], ◌∷◌, length, map, take, drop, ◌-◌, String, Option, Some, None, ◌⊎◌, Result, Ok, Err, IfOk, Vec, Contains, inl, inr, string_bytes, refl, sym, ap, subst, ◌∙◌, append-nil, arith}
 use Rattle.std.specs.declared.alloc.Global.{Global}
 use Rattle.std.specs.declared.alloc.AllocError.{AllocError}
 use Rattle.std.proofs.lemmas.List.Elements.{Contains-append_right}
@@ -12,8 +12,8 @@ use Rattle.pb_words.proofs.LineLemmas.{one_reading}
 use Rattle.pb_top.specs.Sinks.{ShelfChange, SinkChange, IsSound, AsksFront, Gains, Stays, IsIdle}
 use Rattle.pb_top.specs.Reply.{Reply, status_code, done_reply, refusal_reply, usage, not_built}
 use Rattle.pb_top.specs.Answer.{taken_words, AskAnswers, Answers, IsTailOf, IsOut, IsFileWord, AreFileWords, IsThreaded, NeedsThreads}
-use Rattle.pb_top.specs.Ends.{IsReadFault, Shows, IsAnswered, IsAnswerStatus, AreSteady, AsksInOrder, OutBreaks, ErrBreaks, Ends}
-use Rattle.pb_top.specs.Working.{IsRefusal, StopsWith, NamesFault, ShelfStops, ShelfReplies, WritesTo, StopIsWritten, IsWritten, LineIsWritten}
+use Rattle.pb_top.specs.Ends.{IsReadFault, Shows, IsAnswerStatus, AreSteady, AsksInOrder, OutBreaks, ErrBreaks, Ends}
+use Rattle.pb_top.specs.Working.{IsRefusal, StopsWith, ShelfReplies, WritesTo, IsWritten, LineIsWritten}
 use Rattle.pb_top.specs.declared.reply.Status.{Status}
 use Rattle.pb_top.specs.declared.reply.Stop.{Stop}
 use Rattle.pb_top.specs.declared.reply.Stop.TheVariants.{Memory, Refused, Unread}

@@ -1,20 +1,18 @@
 -- Files taken in order, up to the first that can't be taken.
-use Rattle.std.proofs.Common.{◌≡◌, ℕ, suc, ◌+◌, ◌<◌, take, arith, add-one, List, [], ◌∷◌, ◌++◌, map, length, drop, get_or, Option, Some, None, Result, Ok, Err, IsErrAnd, Vec, inl, inr, sym, ap, subst, refl, ◌∙◌, string_bytes, append_assoc, append-nil}
+use Rattle.std.proofs.Common.{◌≡◌, ℕ, suc, ◌+◌, ◌<◌, take, arith, add-one, List, [], ◌∷◌, ◌++◌, length, drop, get_or, Option, Some, None, Result, Ok, Err, IsErrAnd, Vec, inl, inr, sym, ap, subst, refl, ◌∙◌, string_bytes, append_assoc, append-nil}
 use Rattle.std.specs.Borrow.{Bor}
 use Rattle.std.specs.declared.alloc.Global.{Global}
-use Rattle.std.specs.declared.alloc.AllocError.{AllocError}
 use Rattle.std.proofs.Math.Seq.{drop-cons}
 use Rattle.std.proofs.lemmas.List.{get_or-map, length-map, take_more, take-append-drop, drop_all, map-append}
 use Rattle.pb_outside.specs.Count.{RoseBy}
-use Rattle.pb_outside.specs.Shelf.{Files, asked_after, AsksName}
+use Rattle.pb_outside.specs.Shelf.{Files, asked_after}
 use Rattle.pb_outside.specs.declared.shelf.TheConstants.{FILE_LIMIT}
-use Rattle.pb_outside.specs.declared.shelf.Take.{Take}
-use Rattle.pb_top.specs.Sinks.{ShelfChange, IsSound, AsksFront}
+use Rattle.pb_top.specs.Sinks.{ShelfChange, AsksFront}
 use Rattle.pb_top.specs.Texts.{read_fault_line}
 use Rattle.pb_top.specs.Reply.{Reply, refusal_reply}
 use Rattle.pb_top.specs.Steps.{TakesFile, Takes}
 use Rattle.pb_top.specs.Answer.{limited}
-use Rattle.pb_top.specs.Working.{StopsWith, IsUnread, ShelfStops, AreTaken, NamesFault, contents_of}
+use Rattle.pb_top.specs.Working.{IsUnread, ShelfStops, AreTaken, contents_of}
 use Rattle.pb_top.specs.Tokens.{texts_of}
 use Rattle.pb_top.specs.declared.reply.Stop.{Stop}
 use Rattle.pb_top.specs.declared.reply.Stop.TheVariants.{Memory, Refused, Unread}

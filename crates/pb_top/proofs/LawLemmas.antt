@@ -1,5 +1,5 @@
 -- Words and files have one answer.
-use Rattle.std.proofs.Common.{◌≡◌, ℕ, ◌≤◌, length, arith, List, [], ◌∷◌, map, drop, ℤ, Option, Some, None, IsSomeAnd, Result, Ok, Err, ◌⊎◌, inl, inr, sym, ap, subst, ◌∙◌, refl}
+use Rattle.std.proofs.Common.{◌≡◌, ℕ, ◌≤◌, length, arith, List, [], ◌∷◌, map, drop, ℤ, Option, Some, None, Result, Ok, Err, ◌⊎◌, inl, inr, sym, ap, subst, ◌∙◌, refl}
 use Rattle.std.proofs.lemmas.Bool.{cases_lt}
 use Rattle.pb_outside.specs.Shelf.{Files}
 use Rattle.pb_values.specs.declared.outcome.Kind.{Kind}
@@ -20,7 +20,7 @@ use Rattle.pb_matrix.specs.declared.matrix.MatrixRefusal.TheVariants.{BadHeader,
 use Rattle.pb_top.specs.declared.reply.Status.TheVariants.{Program}
 use Rattle.pb_top.specs.Reply.{Reply, IsFaultyInput, done_reply, refusal_reply}
 use Rattle.pb_top.specs.Refusals.{refusal_line}
-use Rattle.pb_top.specs.Steps.{TakesFile, Takes, Accepts}
+use Rattle.pb_top.specs.Steps.{Takes, Accepts}
 use Rattle.pb_top.specs.Check.{CheckAnswers}
 use Rattle.pb_top.specs.OneRule.{WritesSums, InputAnswers, RunsOneRule}
 use Rattle.pb_top.specs.Tokens.{tokens_of}

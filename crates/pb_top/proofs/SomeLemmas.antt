@@ -1,12 +1,12 @@
 -- Words and files have some answer.
-use Rattle.std.proofs.Common.{◌≡◌, ℕ, ◌<◌, ◌≤◌, Bool, true, false, not, nat_lt, cond, IsTrue, ◌↔◌, List, [], ◌∷◌, ◌++◌, length, map, flat_map, filter_map, take, drop, ℤ, Option, Some, None, IsSomeAnd, Result, Ok, Err, codes, ◌⊎◌, inl, inr, sym, ap, subst, ◌∙◌, refl, arith}
+use Rattle.std.proofs.Common.{◌≡◌, ℕ, Bool, true, false, nat_lt, cond, IsTrue, ◌↔◌, List, [], ◌∷◌, ◌++◌, length, map, flat_map, filter_map, take, drop, ℤ, Option, Some, None, Result, Ok, Err, codes, ◌⊎◌, inl, inr, sym, ap, subst, ◌∙◌, refl, arith}
 use Rattle.std.specs.List.{list_all, position_from}
 use Rattle.std.specs.Str.{bytes_eq}
 use Rattle.std.specs.Str.Lines.{lines}
 use Rattle.std.specs.Cmp.Lexicographic.{pointwise}
 use Rattle.std.proofs.lemmas.Bool.{cases_lt}
 use Rattle.std.proofs.lemmas.Slice.Eq.{slice_eq-Decides, bytes_eq-Decides}
-use Rattle.pb_outside.specs.Shelf.{Files, content_of}
+use Rattle.pb_outside.specs.Shelf.{Files}
 use Rattle.pb_values.specs.declared.outcome.Kind.{Kind}
 use Rattle.pb_values.specs.declared.shape.Shape.{Shape}
 use Rattle.pb_prog.specs.Canonical.{canonical}
@@ -26,15 +26,14 @@ use Rattle.pb_matrix.specs.Reading.{judged, after_header, lines_read, matrix_rea
 use Rattle.pb_matrix.specs.declared.matrix.MatrixRefusal.{MatrixRefusal}
 use Rattle.pb_matrix.specs.declared.matrix.MatrixRefusal.TheVariants.{BadHeader, BadNumber, TooFew, TooMany, Memory}
 use Rattle.pb_top.specs.declared.reply.Status.TheVariants.{Program}
-use Rattle.pb_top.specs.Reply.{Reply, IsFaultyInput, done_reply, refusal_reply, no_file, file_too_long, not_built, usage}
+use Rattle.pb_top.specs.Reply.{Reply, IsFaultyInput, done_reply, refusal_reply, not_built, usage}
 use Rattle.pb_top.specs.Refusals.{refusal_line}
-use Rattle.pb_top.specs.Steps.{TakesFile, Takes, Accepts}
-use Rattle.pb_top.specs.Check.{CheckAnswers}
-use Rattle.pb_top.specs.Program.{Names, terms_of, head_of, tail_tokens, are_free, sign_token, IsOneRule}
+use Rattle.pb_top.specs.Steps.{Takes, Accepts}
+use Rattle.pb_top.specs.Program.{Names, head_of, tail_tokens, are_free, sign_token, IsOneRule}
 use Rattle.pb_top.specs.Found.{AreTerms, named_at, middle_of, IsFramed}
-use Rattle.pb_top.specs.OneRule.{sum_at, IsRow, IsRule, WritesSums, InputAnswers, RunsOneRule}
+use Rattle.pb_top.specs.OneRule.{sum_at, IsRow, WritesSums, InputAnswers, RunsOneRule}
 use Rattle.pb_top.specs.Tokens.{tokens_of}
-use Rattle.pb_top.specs.Answer.{RunLine, built_run, taken_words, limited, RunAnswers, content_at, WorkAnswers, AskAnswers, Answers}
+use Rattle.pb_top.specs.Answer.{RunLine, built_run, taken_words, limited, RunAnswers, content_at, WorkAnswers, Answers}
 use Rattle.pb_top.specs.declared.program.Sign.{Sign}
 use Rattle.pb_top.specs.declared.program.Sign.TheVariants.{Plus, Minus}
 use Rattle.pb_top.proofs.ProgramLemmas.{terms_begin}

@@ -1,15 +1,15 @@
 -- From the files of a command to its answer.
-use Rattle.std.proofs.Common.{◌≡◌, ℕ, Bool, List, [], ◌∷◌, map, drop, length, suc, ap, Option, Some, None, Result, Ok, Err, Vec, string_bytes, inl, inr, refl, sym, subst}
+use Rattle.std.proofs.Common.{ℕ, List, [], Option, Result, Ok, Err, Vec, inl, refl}
 use Rattle.std.specs.declared.alloc.Global.{Global}
 use Rattle.pb_outside.specs.Shelf.{Files}
 use Rattle.pb_words.specs.declared.ask.Ask.{Ask}
-use Rattle.pb_words.specs.declared.ask.Ask.TheVariants.{Check, Choices, Run, Tune, Demo}
-use Rattle.pb_words.specs.declared.ask.Pool.TheVariants.{Serial, Locked, Steal}
+use Rattle.pb_words.specs.declared.ask.Ask.TheVariants.{Run, Demo}
+use Rattle.pb_words.specs.declared.ask.Pool.TheVariants.{Locked, Steal}
 use Rattle.pb_top.specs.Sinks.{ShelfChange, IsSound}
 use Rattle.pb_top.specs.Reply.{Reply, not_built}
 use Rattle.pb_top.specs.Steps.{Then, Takes}
-use Rattle.pb_top.specs.Answer.{limited, taken_words, WorkAnswers, AskAnswers, IsThreaded}
-use Rattle.pb_top.specs.Working.{Replies, ShelfStops, ShelfReplies}
+use Rattle.pb_top.specs.Answer.{limited, AskAnswers, IsThreaded}
+use Rattle.pb_top.specs.Working.{Replies, ShelfReplies}
 use Rattle.pb_top.specs.declared.reply.Stop.{Stop}
 use Rattle.pb_top.specs.declared.reply.Stop.TheVariants.{Memory, Refused, Unread}
 
