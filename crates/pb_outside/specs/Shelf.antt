@@ -1,5 +1,6 @@
-use Rattle.std.specs.Prelude.{◌≡◌, ℕ, ◌+◌, ◌<◌, ◌≤◌, List, length, Option, Some, None, IfSome, IsSomeAnd, Result, Ok, Err}
+use Rattle.std.specs.Prelude.{◌≡◌, ℕ, ◌+◌, ◌<◌, ◌≤◌, List, [], ◌∷◌, ◌++◌, length, Option, Some, None, IfSome, IsSomeAnd, Result, Ok, Err, ◌⊎◌}
 use Rattle.std.specs.declared.alloc.AllocError.{AllocError}
+use Rattle.std.specs.Option.{option_map}
 use Rattle.std.specs.Str.{bytes_eq}
 use Rattle.std.specs.Map.{lookup}
 use Rattle.pb_outside.specs.Count.{RoseBy}
@@ -38,3 +39,12 @@ CountsBytes limit (Ok Long) before now = RoseBy (limit + 1) before now
 CountsBytes limit (Ok Missing) before now = before ≤ now
 CountsBytes limit (Ok Failed) before now = before ≤ now
 CountsBytes limit (Err e) before now = before ≤ now
+
+-- what is told of the names that were asked has these more at its end
+abbrev pub asked_after : List (List ℕ) → Option (List (List ℕ)) → Option (List (List ℕ))
+asked_after names told = option_map (λ before. before ++ names) told
+
+-- a name comes after those that were asked before; where memory runs out it may be missing
+abbrev pub AsksName : List ℕ → Result Take AllocError → Option (List (List ℕ)) → Option (List (List ℕ)) → Type 0
+AsksName name (Ok take) before now = now ≡ asked_after (name ∷ []) before
+AsksName name (Err e) before now = (now ≡ before) ⊎ (now ≡ asked_after (name ∷ []) before)

@@ -65,6 +65,8 @@ impl<'a, R: Files> Shelf for FileShelf<'a, R> {
 
     ghost taken = { λ s. s.taken };
 
+    ghost asked = { λ _. None };
+
     fn take(&mut self, alloc: Global, name: &str, limit: u64) -> Result<Take, AllocError> {
         let Ok(mut file) = File::open(self.rt, name) else {
             self.faults = self.faults.saturating_add(1);

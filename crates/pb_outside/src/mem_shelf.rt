@@ -1,8 +1,8 @@
-ghost use Rattle.std.specs.Prelude.{◌≡◌, ◌≤◌, Some};
+ghost use Rattle.std.specs.Prelude.{◌≡◌, ◌≤◌, Some, None};
 ghost use Rattle.std.specs.Option.{option_copied, option_map};
 ghost use Rattle.pb_outside.specs.declared.shelf.TheConstants.{FILE_LIMIT};
 ghost use Rattle.pb_outside.specs.MemShelf.{entries_of, CountsCall};
-ghost use Rattle.pb_outside.specs.Shelf.{IsContent, CountsTakeFault, CountsBytes, content_of};
+ghost use Rattle.pb_outside.specs.Shelf.{IsContent, CountsTakeFault, CountsBytes, AsksName, content_of};
 
 use crate::shelf::{Shelf, Take};
 use std::alloc::{AllocError, Global};
@@ -62,11 +62,14 @@ impl Shelf for MemShelf {
 
     ghost taken = { λ s. s.taken };
 
+    ghost asked = { λ _. None };
+
     fn take(&mut self, alloc: Global, name: &str, limit: u64) -> Result<Take, AllocError>
         requires { limit ≤ FILE_LIMIT }
         ensures content { IsContent (Some self.old.files) name.now limit result }
         ensures faults { CountsTakeFault result self.old.faults self.new.faults }
         ensures taken { CountsBytes limit result self.old.taken self.new.taken }
+        ensures asked { AsksName name.now result None None }
         ensures stays { Some self.new.files ≡ Some self.old.files }
         ensures call { CountsCall self.old self.new limit result }
     {

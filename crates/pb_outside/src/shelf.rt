@@ -1,5 +1,5 @@
 ghost use Rattle.std.specs.Prelude.{◌≡◌, ℕ, ◌≤◌, List, Option};
-ghost use Rattle.pb_outside.specs.Shelf.{Files, IsContent, CountsTakeFault, CountsBytes};
+ghost use Rattle.pb_outside.specs.Shelf.{Files, IsContent, CountsTakeFault, CountsBytes, AsksName};
 
 use std::alloc::{AllocError, Global};
 
@@ -30,11 +30,15 @@ pub trait Shelf {
     /// How many bytes were read; it stands still at its type's end.
     ghost taken: { Self → ℕ };
 
+    /// The names that were asked of it, in order, where they are told.
+    ghost asked: { Self → Option (List (List ℕ)) };
+
     /// Takes a file of at most `limit` bytes.
     fn take(&mut self, alloc: Global, name: &str, limit: u64) -> Result<Take, AllocError>
         requires { limit ≤ FILE_LIMIT }
         ensures content { IsContent (files self.old) name.now limit result }
         ensures faults { CountsTakeFault result (faults self.old) (faults self.new) }
         ensures taken { CountsBytes limit result (taken self.old) (taken self.new) }
+        ensures asked { AsksName name.now result (asked self.old) (asked self.new) }
         ensures stays { files self.new ≡ files self.old };
 }

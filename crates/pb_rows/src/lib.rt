@@ -1,7 +1,9 @@
 //! Rows that go through the top call, by exact bytes: words, files and failing devices, and what the two
-//! sinks hold in the end.
+//! sinks hold in the end; and what `pb_alone` answers, with the names that it asks of the shelf.
 #![tactic(auto)]
 
+#[cfg(test)]
+mod alone;
 #[cfg(test)]
 mod check;
 #[cfg(test)]

@@ -1,19 +1,24 @@
--- From an answer that was written to how the call ends.
-use Rattle.std.proofs.Common.{◌≡◌, ◌≢◌, ℕ, List, [], Option, Some, None, IfSome, ◌⊎◌, inl, inr, string_bytes, refl, sym, ap, ◌∙◌, append-nil, arith}
-use Rattle.pb_outside.specs.Shelf.{Files}
+-- From what the work ended with, once it was written, to how the call ends.
+use Rattle.std.proofs.Common.{◌≡◌, ◌≢◌, ℕ, ◌<◌, List, [], ◌∷◌, length, map, take, drop, ◌-◌, String, Option, Some, None, ◌⊎◌, Result, Ok, Err, IfOk, Vec, Contains, inl, inr, string_bytes, refl, sym, ap, subst, ◌∙◌, append-nil, arith}
+use Rattle.std.specs.declared.alloc.Global.{Global}
+use Rattle.std.specs.declared.alloc.AllocError.{AllocError}
+use Rattle.std.proofs.lemmas.List.Elements.{Contains-append_right}
+use Rattle.std.proofs.lemmas.List.{take_all, length-drop, drop-map}
 use Rattle.pb_outside.specs.Sink.{told_with}
-use Rattle.pb_top.specs.Sinks.{ShelfChange, SinkChange, Gains, Stays, IsIdle}
-use Rattle.pb_top.specs.Reply.{Reply, done_reply, refusal_reply}
-use Rattle.pb_top.specs.Command.{file_words}
-use Rattle.pb_top.specs.Answer.{Answers, IsInside}
-use Rattle.pb_top.specs.Ends.{IsSound, IsReadFault, IsAnswered, IsAnswerStatus, AreSteady, OutBreaks, ErrBreaks, Ends}
-use Rattle.pb_top.specs.Working.{IsRefusal, WritesTo, IsAnswer, IsWritten}
-use Rattle.pb_top.specs.declared.answer.Answer.{Answer}
-use Rattle.pb_top.specs.declared.answer.Answer.TheVariants.{Done, Refusal, ReadFault}
-
-if_some : {P Q : Files → Type 0} (told : Option Files) → ((files : Files) → P files → Q files) → IfSome told P → IfSome told Q
-if_some None each p = tt
-if_some (Some files) each p = each files p
+use Rattle.pb_outside.specs.Shelf.{Files}
+use Rattle.pb_words.specs.Line.{Line, IsInside}
+use Rattle.pb_words.specs.declared.ask.Ask.{Ask}
+use Rattle.pb_words.proofs.LineLemmas.{one_reading}
+use Rattle.pb_top.specs.Sinks.{ShelfChange, SinkChange, IsSound, AsksFront, Gains, Stays, IsIdle}
+use Rattle.pb_top.specs.Reply.{Reply, status_code, done_reply, refusal_reply, usage, not_built}
+use Rattle.pb_top.specs.Answer.{taken_words, AskAnswers, Answers, IsTailOf, IsOut, IsFileWord, AreFileWords, IsThreaded, NeedsThreads}
+use Rattle.pb_top.specs.Ends.{IsReadFault, Shows, IsAnswerStatus, AreSteady, AsksInOrder, OutBreaks, ErrBreaks, Ends}
+use Rattle.pb_top.specs.Working.{IsRefusal, StopsWith, ShelfReplies, WritesTo, IsWritten, LineIsWritten}
+use Rattle.pb_top.specs.declared.reply.Status.{Status}
+use Rattle.pb_top.specs.declared.reply.Stop.{Stop}
+use Rattle.pb_top.specs.declared.reply.Stop.TheVariants.{Memory, Refused, Unread}
+use Rattle.pb_top.proofs.FileLemmas.{asks_none}
+use Rattle.pb_top.proofs.WorkLemmas.{threads_answer}
 
 no_bytes : (told : Option (List ℕ)) → told ≡ told_with [] told
 no_bytes None = refl
@@ -22,113 +27,206 @@ no_bytes (Some written) = ap Some (sym (append-nil written))
 gains_none : (sink : SinkChange) → Stays sink → Gains [] sink
 gains_none sink stays = stays ∙ no_bytes sink.before
 
--- what every end of a call keeps of the shelf
+-- what every end of a call keeps of the shelf, and that the words' reply has no tail
 pub record Keeps (words : List (List ℕ)) (shelf : ShelfChange) : Type 0 where
   pub files : shelf.now ≡ shelf.before
-  pub untaken : (IsInside words → file_words words ≡ []) → shelf.bytes_now ≡ shelf.bytes_before
+  pub asked : AsksInOrder words shelf
+  pub untaken : AreFileWords words shelf.before [] → shelf.bytes_now ≡ shelf.bytes_before
+  pub tail : (reply : Reply) → IsTailOf words shelf.before reply []
 
--- the text of an answer was put whole
-answered_ends : (words : List (List ℕ)) (shelf : ShelfChange) (out err : SinkChange) (status : ℕ) → Keeps words shelf → IsAnswerStatus status → IsSound shelf → AreSteady out err
-    → IfSome shelf.before (λ files. IsAnswered words files out err status) → (status ≢ 0 → Stays out) → (status ≡ 0 → Stays err) → Ends words shelf out err status
-answered_ends words shelf out err status keeps is sound steady answered untouched silent = record {
-  answered = λ s. answered;
-  read_fault = λ e. absurd (is.no_read_fault e);
-  write_fault = λ e. absurd (is.no_write_fault e);
-  memory = λ e. absurd (is.no_want e);
-  files = keeps.files;
-  untaken = keeps.untaken;
-  sound = λ s. sound;
-  steady = λ n. steady;
-  untouched = λ a b. untouched a;
-  silent = silent;
-}
+is_out : (words : List (List ℕ)) (shelf : ShelfChange) → Keeps words shelf → (reply : Reply) → IsOut words shelf.before reply reply.out
+is_out words shelf keeps reply = ([], keeps.tail reply, sym (append-nil reply.out))
 
--- a put was refused
-breaks_ends : (words : List (List ℕ)) (shelf : ShelfChange) (out err : SinkChange) (status : ℕ) → Keeps words shelf → status ≡ 10
-    → OutBreaks words shelf out err ⊎ ErrBreaks words shelf out err → Ends words shelf out err status
-breaks_ends words shelf out err status keeps is breaks = record {
-  answered = λ s. absurd (s.no_write_fault is);
-  read_fault = λ e. absurd (omega arith);
-  write_fault = λ e. breaks;
-  memory = λ e. absurd (omega arith);
-  files = keeps.files;
-  untaken = keeps.untaken;
-  sound = λ s. absurd (s.no_write_fault is);
-  steady = λ n. absurd (n is);
-  untouched = λ a b. absurd (b is);
-  silent = λ e. absurd (omega arith);
-}
+-- a status that no fault has is an answer's
+pub other_status : (status n : ℕ) → status ≡ n → (n < 9) ⊎ (11 < n) → IsAnswerStatus status
+other_status status n is other =
+    record { no_read_fault = λ e. absurd (omega arith); no_write_fault = λ e. absurd (omega arith); no_want = λ e. absurd (omega arith) }
 
--- a text on `out` is the answer's
-out_ends : (words : List (List ℕ)) (shelf : ShelfChange) (out err : SinkChange) (text : List ℕ) (status : ℕ) → Keeps words shelf → IsSound shelf
-    → IfSome shelf.before (λ files. Answers words files (done_reply text)) → WritesTo text out err 0 status → Ends words shelf out err status
-out_ends words shelf out err text status keeps sound answers (inl (is, gains, steady, idle)) =
-    answered_ends words shelf out err status keeps
-    (record { no_read_fault = λ e. absurd (omega arith); no_write_fault = λ e. absurd (omega arith); no_want = λ e. absurd (omega arith) })
-    sound (record { of_out = steady; of_err = idle.steady })
-    (if_some {P = λ f. Answers words f (done_reply text)} {Q = λ f. IsAnswered words f out err status} shelf.before (λ f answer.
-    record { reply = done_reply text; answers = answer; status_is = is; gains_out = gains; gains_err = gains_none err idle.stays }) answers)
-    (λ n. absurd (n is)) (λ e. idle.stays)
-out_ends words shelf out err text status keeps sound answers (inr (is, breaks, idle)) =
-    let is_text = if_some {P = λ f. Answers words f (done_reply text)} {Q = λ f. (reply : Reply) × Answers words f reply × (text ≡ reply.out)} shelf.before
-    (λ f answer. (done_reply text, answer, refl)) answers in
-    breaks_ends words shelf out err status keeps is (inl (record { text = text; is_text = is_text; breaks = breaks; idle = idle }))
+module _ (words : List (List ℕ)) (shelf : ShelfChange) (out err : SinkChange) (keeps : Keeps words shelf) where
+  -- the text of a reply was put whole
+  reply_ends : (reply : Reply) (status : ℕ) → (reply.status < 9) ⊎ (11 < reply.status) → IsSound shelf → Answers words shelf.before reply → status ≡ reply.status
+      → Gains reply.out out → Gains reply.err err → AreSteady out err → (status ≢ 0 → Stays out) → (status ≡ 0 → Stays err) → Ends words shelf out err status
+  reply_ends reply status other sound answers is gains_out gains_err steady untouched silent =
+      let plain = other_status status reply.status is other in
+      let text = is_out words shelf keeps reply in
+      let shows : Shows words shelf.before out err status reply = record { status_is = is; text = reply.out; is_text = text; gains_out = gains_out; gains_err = gains_err } in
+      record {
+        answered = λ s. record { reply = reply; answers = answers; shows = shows };
+        read_fault = λ e. absurd (plain.no_read_fault e);
+        write_fault = λ e. absurd (plain.no_write_fault e);
+        memory = λ e. absurd (plain.no_want e);
+        files = keeps.files;
+        asked = keeps.asked;
+        untaken = keeps.untaken;
+        sound = λ s. sound;
+        steady = λ n. steady;
+        untouched = λ a b. untouched a;
+        silent = silent;
+      }
 
--- a refusal is the answer's
-err_ends : (words : List (List ℕ)) (shelf : ShelfChange) (out err : SinkChange) (line : List ℕ) (code status : ℕ) → Keeps words shelf → IsSound shelf
-    → IsRefusal code → IfSome shelf.before (λ files. Answers words files (refusal_reply code line)) → WritesTo line err out code status → Ends words shelf out err status
-err_ends words shelf out err line code status keeps sound refusal answers (inl (is, gains, steady, idle)) =
-    answered_ends words shelf out err status keeps
-    (record {
-      no_read_fault = λ e. absurd (omega (arith, refusal));
-      no_write_fault = λ e. absurd (omega (arith, refusal));
-      no_want = λ e. absurd (omega (arith, refusal));
-    })
-    sound (record { of_out = idle.steady; of_err = steady })
-    (if_some {P = λ f. Answers words f (refusal_reply code line)} {Q = λ f. IsAnswered words f out err status} shelf.before (λ f answer.
-    record { reply = refusal_reply code line; answers = answer; status_is = is; gains_out = gains_none out idle.stays; gains_err = gains }) answers)
-    (λ n. idle.stays) (λ e. absurd (omega (arith, refusal)))
-err_ends words shelf out err line code status keeps sound refusal answers (inr (is, breaks, idle)) =
-    let is_text = if_some {P = λ f. Answers words f (refusal_reply code line)} {Q = λ f. (reply : Reply) × Answers words f reply × (line ≡ reply.err)} shelf.before
-    (λ f answer. (refusal_reply code line, answer, refl)) answers in
-    breaks_ends words shelf out err status keeps is (inr (record { text = line; is_text = inl is_text; breaks = breaks; idle = idle }))
+  -- a put was refused
+  breaks_ends : (status : ℕ) → status ≡ 10 → OutBreaks words shelf out err ⊎ ErrBreaks words shelf out err → Ends words shelf out err status
+  breaks_ends status is breaks = record {
+    answered = λ s. absurd (s.no_write_fault is);
+    read_fault = λ e. absurd (omega arith);
+    write_fault = λ e. breaks;
+    memory = λ e. absurd (omega arith);
+    files = keeps.files;
+    asked = keeps.asked;
+    untaken = keeps.untaken;
+    sound = λ s. absurd (s.no_write_fault is);
+    steady = λ n. absurd (n is);
+    untouched = λ a b. absurd (b is);
+    silent = λ e. absurd (omega arith);
+  }
 
--- a file couldn't be read
-fault_ends : (words : List (List ℕ)) (shelf : ShelfChange) (out err : SinkChange) (line : List ℕ) (status : ℕ) → Keeps words shelf
-    → IsReadFault words shelf line → WritesTo line err out 9 status → Ends words shelf out err status
-fault_ends words shelf out err line status keeps fault (inl (is, gains, steady, idle)) = record {
-  answered = λ s. absurd (s.no_read_fault is);
-  read_fault = λ e. record { line = line; fault = fault; gains_err = gains; stays_out = idle.stays };
-  write_fault = λ e. absurd (omega arith);
-  memory = λ e. absurd (omega arith);
-  files = keeps.files;
-  untaken = keeps.untaken;
-  sound = λ s. absurd (s.no_read_fault is);
-  steady = λ n. record { of_out = idle.steady; of_err = steady };
-  untouched = λ a b. idle.stays;
-  silent = λ e. absurd (omega arith);
-}
-fault_ends words shelf out err line status keeps fault (inr (is, breaks, idle)) =
-    breaks_ends words shelf out err status keeps is (inr (record { text = line; is_text = inr fault; breaks = breaks; idle = idle }))
+  -- memory ran out before anything was put
+  memory_ends : (status : ℕ) → status ≡ 11 → IsIdle out → IsIdle err → Ends words shelf out err status
+  memory_ends status is idle_out idle_err = record {
+    answered = λ s. absurd (s.no_want is);
+    read_fault = λ e. absurd (omega arith);
+    write_fault = λ e. absurd (omega arith);
+    memory = λ e. (idle_out.stays, idle_err.stays);
+    files = keeps.files;
+    asked = keeps.asked;
+    untaken = keeps.untaken;
+    sound = λ s. absurd (s.no_want is);
+    steady = λ n. record { of_out = idle_out.steady; of_err = idle_err.steady };
+    untouched = λ a b. idle_out.stays;
+    silent = λ e. absurd (omega arith);
+  }
 
--- an answer that was written ends the call
-pub answer_ends : (words : List (List ℕ)) (shelf : ShelfChange) (out err : SinkChange) (answer : Answer) (status : ℕ) → Keeps words shelf
-    → IsAnswer words shelf answer → IsWritten answer out err status → Ends words shelf out err status
-answer_ends words shelf out err (Done text) status keeps is written = out_ends words shelf out err text.items status keeps is.0 is.1 written
-answer_ends words shelf out err (Refusal code line) status keeps is written = err_ends words shelf out err (string_bytes line) code status keeps is.0 is.1 is.2 written
-answer_ends words shelf out err (ReadFault line) status keeps is written = fault_ends words shelf out err (string_bytes line) status keeps is written
+  -- a text on `out` is the answer's
+  out_ends : (text : List ℕ) (status : ℕ) → IsSound shelf → Answers words shelf.before (done_reply text) → WritesTo text out err 0 status → Ends words shelf out err status
+  out_ends text status sound answers (inl (is, gains, steady, idle)) =
+      reply_ends (done_reply text) status (inl (omega arith)) sound answers is gains (gains_none err idle.stays) (record { of_out = steady; of_err = idle.steady })
+      (λ n. absurd (n is)) (λ e. idle.stays)
+  out_ends text status sound answers (inr (is, breaks, idle)) =
+      let reply = done_reply text in
+      breaks_ends status is (inl (record { text = text; is_text = (reply, answers, is_out words shelf keeps reply); breaks = breaks; idle = idle }))
 
--- want of memory, before anything was put
-pub memory_ends : (words : List (List ℕ)) (shelf : ShelfChange) (out err : SinkChange) → Keeps words shelf → IsIdle out → IsIdle err → Ends words shelf out err 11
-memory_ends words shelf out err keeps idle_out idle_err = record {
-  answered = λ s. absurd (s.no_want refl);
-  read_fault = λ e. absurd (omega arith);
-  write_fault = λ e. absurd (omega arith);
-  memory = λ e. (idle_out.stays, idle_err.stays);
-  files = keeps.files;
-  untaken = keeps.untaken;
-  sound = λ s. absurd (s.no_want refl);
-  steady = λ n. record { of_out = idle_out.steady; of_err = idle_err.steady };
-  untouched = λ a b. idle_out.stays;
-  silent = λ e. absurd (omega arith);
-}
+  -- a line on `err` is the answer's
+  err_ends : (code : Status) (line : List ℕ) (status : ℕ) → IsSound shelf → IsRefusal code → Answers words shelf.before (refusal_reply code line)
+      → WritesTo line err out (status_code code) status → Ends words shelf out err status
+  err_ends code line status sound refusal answers (inl (is, gains, steady, idle)) =
+      reply_ends (refusal_reply code line) status refusal.1 sound answers is (gains_none out idle.stays) gains (record { of_out = idle.steady; of_err = steady })
+      (λ n. idle.stays) (λ e. absurd (omega (arith, refusal.0)))
+  err_ends code line status sound refusal answers (inr (is, breaks, idle)) =
+      breaks_ends status is (inr (record { text = line; is_text = inl (refusal_reply code line, answers, refl); breaks = breaks; idle = idle }))
+
+  -- a file couldn't be read
+  fault_ends : (line : List ℕ) (status : ℕ) → IsReadFault words shelf line → WritesTo line err out 9 status → Ends words shelf out err status
+  fault_ends line status fault (inl (is, gains, steady, idle)) = record {
+    answered = λ s. absurd (s.no_read_fault is);
+    read_fault = λ e. record { line = line; fault = fault; gains_err = gains; stays_out = idle.stays };
+    write_fault = λ e. absurd (omega arith);
+    memory = λ e. absurd (omega arith);
+    files = keeps.files;
+    asked = keeps.asked;
+    untaken = keeps.untaken;
+    sound = λ s. absurd (s.no_read_fault is);
+    steady = λ n. record { of_out = idle.steady; of_err = steady };
+    untouched = λ a b. idle.stays;
+    silent = λ e. absurd (omega arith);
+  }
+  fault_ends line status fault (inr (is, breaks, idle)) =
+      breaks_ends status is (inr (record { text = line; is_text = inr fault; breaks = breaks; idle = idle }))
+
+  -- a line that was put ends the call
+  pub line_ends : (reply : Reply) (line : Result Stop AllocError) (status : ℕ) → IsSound shelf → Answers words shelf.before reply
+      → IfOk line (StopsWith (λ r. r ≡ reply)) → LineIsWritten line out err status → Ends words shelf out err status
+  line_ends reply (Ok Memory) status sound answers is written = memory_ends status written.0 written.1 written.2
+  line_ends reply (Ok (Refused code line)) status sound answers is written =
+      err_ends code (string_bytes line) status sound is.0 (subst (Answers words shelf.before) (sym is.1) answers) written
+  line_ends reply (Ok (Unread line)) status sound answers is written = absurd is
+  line_ends reply (Err e) status sound answers is written = memory_ends status written.0 written.1 written.2
+
+  -- what the work ended with, once it was written, ends the call
+  pub found_ends : (names : List (List ℕ)) (found : Result (Vec ℕ Global) Stop) (status : ℕ) → ((word : List ℕ) → Contains names word → IsFileWord words shelf.before word)
+      → ShelfReplies names (Answers words) shelf found → IsWritten found out err status → Ends words shelf out err status
+  found_ends names (Ok text) status file_word says written = out_ends text.items status says.0 says.1 written
+  found_ends names (Err Memory) status file_word says written = memory_ends status written.0 written.1 written.2
+  found_ends names (Err (Refused code line)) status file_word says written = err_ends code (string_bytes line) status says.0 says.1 says.2 written
+  found_ends names (Err (Unread line)) status file_word says written =
+      fault_ends (string_bytes line) status (record {
+        cause = says.cause;
+        word = says.word;
+        of_line = file_word says.word (subst (λ l. Contains l says.word) (sym says.parts) (Contains-append_right says.front (says.word ∷ says.others) says.word (0, omega arith, refl)));
+        last = (says.front, says.last);
+        text = says.text;
+      }) written
+
+-- nothing was done to the shelf
+pub record Untouched (shelf : ShelfChange) : Type 0 where
+  pub files : shelf.now ≡ shelf.before
+  pub faults : IsSound shelf
+  pub bytes : shelf.bytes_now ≡ shelf.bytes_before
+  pub asked : shelf.asked_now ≡ shelf.asked_before
+
+asks_nothing : (names : List (List ℕ)) (shelf : ShelfChange) → Untouched shelf → AsksFront names shelf.asked_before shelf.asked_now
+asks_nothing names shelf same = subst (AsksFront names shelf.asked_before) (sym same.asked) (asks_none names shelf.asked_before)
+
+-- the words are a line
+module _ (words : List (List ℕ)) (ask : Ask) (place : ℕ) (line : Line words ask place) where
+  none_taken : (told : Option Files) → AreFileWords words told [] → taken_words ask (drop place words) ≡ []
+  none_taken told (inl (other, there, again, is)) =
+      let same = one_reading words other ask there place again line in
+      sym (is ∙ ap (λ a. taken_words a (drop there words)) same.0 ∙ ap (λ p. taken_words ask (drop p words)) same.1)
+  none_taken told (inr (outside, is)) = absurd (outside (ask, place, line))
+
+  pub inside_keeps : (shelf : ShelfChange) → shelf.now ≡ shelf.before → AsksFront (taken_words ask (drop place words)) shelf.asked_before shelf.asked_now
+      → (taken_words ask (drop place words) ≡ [] → shelf.bytes_now ≡ shelf.bytes_before) → Keeps words shelf
+  inside_keeps shelf files asked untaken = record {
+    files = files;
+    asked = record { names = taken_words ask (drop place words); are = inl (ask, place, line, refl); front = asked };
+    untaken = λ none. untaken (none_taken shelf.before none);
+    tail = λ reply. inl (ask, place, line, refl);
+  }
+
+  pub inside_replies : (shelf : ShelfChange) (found : Result (Vec ℕ Global) Stop) → ShelfReplies (taken_words ask (drop place words)) (AskAnswers ask (drop place words)) shelf found
+      → ShelfReplies (taken_words ask (drop place words)) (Answers words) shelf found
+  inside_replies shelf (Ok text) says = (says.0, inl (ask, place, line, says.1))
+  inside_replies shelf (Err Memory) says = tt
+  inside_replies shelf (Err (Refused code text)) says = (says.0, says.1, inl (ask, place, line, says.2))
+  inside_replies shelf (Err (Unread text)) says = says
+
+  -- what is asked needs no threads
+  pub not_threaded : (IsThreaded ask → ⊥) → NeedsThreads words → ⊥
+  not_threaded none (other, there, again, threads) =
+      none (subst IsThreaded (one_reading words other ask there place again line).0 threads)
+
+  -- the work on a line, once it was written, ends the call
+  pub work_ends : (shelf : ShelfChange) (out err : SinkChange) (others : List (List ℕ)) (found : Result (Vec ℕ Global) Stop) (status : ℕ) → others ≡ drop place words
+      → shelf.now ≡ shelf.before → AsksFront (taken_words ask others) shelf.asked_before shelf.asked_now
+      → (taken_words ask others ≡ [] → shelf.bytes_now ≡ shelf.bytes_before) → ShelfReplies (taken_words ask others) (AskAnswers ask others) shelf found
+      → IsWritten found out err status → Ends words shelf out err status
+  work_ends shelf out err others found status is files asked untaken says =
+      let after = drop place words in
+      let keeps = inside_keeps shelf files (subst (λ o. AsksFront (taken_words ask o) shelf.asked_before shelf.asked_now) is asked)
+      (subst (λ o. taken_words ask o ≡ [] → shelf.bytes_now ≡ shelf.bytes_before) is untaken) in
+      found_ends words shelf out err keeps (taken_words ask after) found status (λ word here. (ask, place, line, here))
+      (inside_replies shelf found (subst (λ o. ShelfReplies (taken_words ask o) (AskAnswers ask o) shelf found) is says))
+
+-- words outside the grammar
+pub usage_ends : (words : List (List ℕ)) (shelf : ShelfChange) (out err : SinkChange) (line : Result Stop AllocError) (status : ℕ) → (IsInside words → ⊥)
+    → Untouched shelf → IfOk line (StopsWith (λ r. r ≡ usage)) → LineIsWritten line out err status → Ends words shelf out err status
+usage_ends words shelf out err line status outside same =
+    line_ends words shelf out err (record {
+      files = same.files;
+      asked = record { names = []; are = inr (outside, refl); front = asks_nothing [] shelf same };
+      untaken = λ none. same.bytes;
+      tail = λ reply. inr (outside, refl);
+    }) usage line status same.faults (inr (outside, refl))
+
+-- what runs on threads of its own isn't built
+pub threads_end : (words : List (List ℕ)) (shelf : ShelfChange) (out err : SinkChange) (line : Result Stop AllocError) (status : ℕ) → NeedsThreads words
+    → Untouched shelf → IfOk line (StopsWith (λ r. r ≡ not_built)) → LineIsWritten line out err status → Ends words shelf out err status
+threads_end words shelf out err line status (ask, place, is, threads) same =
+    line_ends words shelf out err
+    (inside_keeps words ask place is shelf same.files (asks_nothing (taken_words ask (drop place words)) shelf same) (λ none. same.bytes))
+    not_built line status same.faults (inl (ask, place, is, threads_answer ask (drop place words) shelf.before threads))
+
+-- the texts after the place
+pub texts_after : (words : List (String Global)) (place : ℕ) → map string_bytes (take (length words - place) (drop place words)) ≡ drop place (map string_bytes words)
+texts_after words place =
+    ap (map string_bytes) (take_all (length words - place) (drop place words) (omega (arith, length-drop place words))) ∙ sym (drop-map string_bytes place words)

@@ -1,62 +1,147 @@
--- Files taken in order, up to the first that gives no bytes.
-use Rattle.std.proofs.Common.{◌≡◌, ℕ, suc, ◌<◌, Bool, true, false, nat_le, cond, List, [], ◌∷◌, length, drop, get_or, Option, Some, None, IfSome, Result, Ok, Err, sym, ap, subst, ◌∙◌}
+-- Files taken in order, up to the first that can't be taken.
+use Rattle.std.proofs.Common.{◌≡◌, ℕ, suc, ◌+◌, ◌<◌, take, arith, add-one, List, [], ◌∷◌, ◌++◌, length, drop, get_or, Option, Some, None, Result, Ok, Err, IsErrAnd, Vec, inl, inr, sym, ap, subst, refl, ◌∙◌, string_bytes, append_assoc, append-nil}
 use Rattle.std.specs.Borrow.{Bor}
+use Rattle.std.specs.declared.alloc.Global.{Global}
 use Rattle.std.proofs.Math.Seq.{drop-cons}
-use Rattle.std.proofs.lemmas.List.{get_or-map, length-map}
+use Rattle.std.proofs.lemmas.List.{get_or-map, length-map, take_more, take-append-drop, drop_all, map-append}
 use Rattle.pb_outside.specs.Count.{RoseBy}
-use Rattle.pb_outside.specs.Shelf.{Files, content_of}
+use Rattle.pb_outside.specs.Shelf.{Files, asked_after}
 use Rattle.pb_outside.specs.declared.shelf.TheConstants.{FILE_LIMIT}
-use Rattle.pb_top.specs.Sinks.{ShelfChange}
+use Rattle.pb_top.specs.Sinks.{ShelfChange, AsksFront}
+use Rattle.pb_top.specs.Texts.{read_fault_line}
+use Rattle.pb_top.specs.Reply.{Reply, refusal_reply}
+use Rattle.pb_top.specs.Steps.{TakesFile, Takes}
+use Rattle.pb_top.specs.Answer.{limited}
+use Rattle.pb_top.specs.Working.{IsUnread, ShelfStops, AreTaken, contents_of}
 use Rattle.pb_top.specs.Tokens.{texts_of}
-use Rattle.pb_top.specs.Reply.{Reply, file_too_long}
-use Rattle.pb_top.specs.Answer.{bytes_of_all, bytes_then, and_more}
-use Rattle.pb_top.specs.Working.{IsFetched, IsStop}
-use Rattle.pb_top.specs.declared.answer.Answer.{Answer}
-use Rattle.pb_top.specs.declared.answer.Answer.TheVariants.{Done, Refusal, ReadFault}
-use Rattle.pb_top.specs.declared.files.Fetched.TheVariants.{Other}
+use Rattle.pb_top.specs.declared.reply.Stop.{Stop}
+use Rattle.pb_top.specs.declared.reply.Stop.TheVariants.{Memory, Refused, Unread}
 use Rattle.pb_top.proofs.ProgramLemmas.{no_slice}
 
-long_stops : (fits : Bool) (name bytes : List ℕ) (rest : Result (List (List ℕ)) Reply) (reply : Reply)
-    → cond fits (Ok (bytes ∷ [])) (Err (file_too_long name)) ≡ Err reply → cond fits (and_more (bytes ∷ []) rest) (Err (file_too_long name)) ≡ Err reply
-long_stops true name bytes rest reply is = cc
-long_stops false name bytes rest reply is = is
+-- no name was asked
+pub asks_none : (names : List (List ℕ)) (told : Option (List (List ℕ))) → AsksFront names told told
+asks_none names None = record { front = []; others = names; parts = refl; asked = refl }
+asks_none names (Some before) = record { front = []; others = names; parts = refl; asked = ap Some (sym (append-nil before)) }
 
-took_stops : (name : List ℕ) (found : Option (List ℕ)) (rest : Result (List (List ℕ)) Reply) (reply : Reply) → bytes_then name found (Ok []) ≡ Err reply → bytes_then name found rest ≡ Err reply
-took_stops name None rest reply is = is
-took_stops name (Some bytes) rest reply is = long_stops (nat_le (length bytes) FILE_LIMIT) name bytes rest reply is
+-- the work stops at a file that couldn't be read
+pub fault_stops : (name : List ℕ) (shelf : ShelfChange) (stop : Stop) → RoseBy 1 shelf.faults_before shelf.faults_now
+    → shelf.asked_now ≡ asked_after (name ∷ []) shelf.asked_before → IsUnread (read_fault_line name) stop
+    → ShelfStops (name ∷ []) (λ told r. Takes told (limited (name ∷ [])) (Err r)) shelf stop
+fault_stops name shelf Memory cause last is = absurd is
+fault_stops name shelf (Refused status line) cause last is = absurd is
+fault_stops name shelf (Unread line) cause last is =
+    record { cause = cause; front = []; word = name; others = []; parts = refl; last = last; text = is }
 
--- what has been taken of the files, where the next one stops
-taken_stops : (files : Files) (names : List (Bor (List ℕ))) (i : ℕ) (contents : List (List ℕ)) (reply : Reply) → i < length names
-    → bytes_of_all files (texts_of names) ≡ and_more contents (bytes_of_all files (texts_of (drop i names)))
-    → bytes_of_all files ((get_or names i no_slice).now ∷ []) ≡ Err reply → bytes_of_all files (texts_of names) ≡ Err reply
-taken_stops files names i contents reply some read stop =
-    let name = get_or names i no_slice in
-    let rest = drop (suc i) names in
-    let left = drop-cons names i no_slice some in
-    let next : bytes_of_all files (texts_of (name ∷ rest)) ≡ Err reply = took_stops name.now (content_of files name.now) (bytes_of_all files (texts_of rest)) reply stop in
-    read ∙ ap (λ l. and_more contents (bytes_of_all files (texts_of l))) left ∙ ap (and_more contents) next
+-- what was read, put in front of what the rest gives
+abbrev pub after_contents : List (List ℕ) → Result (List (List ℕ)) Reply → Result (List (List ℕ)) Reply
+after_contents contents (Ok rest) = Ok (contents ++ rest)
+after_contents contents (Err reply) = Err reply
 
-told_stops : (told mid : Option Files) (names : List (Bor (List ℕ))) (i : ℕ) (contents : List (List ℕ)) (reply : Reply) → mid ≡ told → i < length names
-    → IfSome told (λ files. bytes_of_all files (texts_of names) ≡ and_more contents (bytes_of_all files (texts_of (drop i names))))
-    → IfSome mid (λ files. bytes_of_all files ((get_or names i no_slice).now ∷ []) ≡ Err reply) → IfSome told (λ files. bytes_of_all files (texts_of names) ≡ Err reply)
-told_stops None mid names i contents reply same some read stop = tt
-told_stops (Some files) mid names i contents reply same some read stop =
-    let P : Option Files → Type 0 = λ m. IfSome m (λ files. bytes_of_all files ((get_or names i no_slice).now ∷ []) ≡ Err reply) in
-    taken_stops files names i contents reply some read (subst P same stop)
+-- whatever the files from the i-th on give, put after what was read, is what all give
+abbrev pub Reading : Option Files → List (List ℕ) → ℕ → List (List ℕ) → Type 0
+Reading told texts i contents =
+    (rest : Result (List (List ℕ)) Reply) → Takes told (limited (drop i texts)) rest → Takes told (limited texts) (after_contents contents rest)
 
--- the answer of the file that stops is the answer of all
-pub fetch_stops : (whole last : ShelfChange) (names : List (Bor (List ℕ))) (i : ℕ) (contents : List (List ℕ)) (answer : Answer)
-    → last.before ≡ whole.before → last.faults_before ≡ whole.faults_before → last.faults_now ≡ whole.faults_now → i < length names
-    → IfSome whole.before (λ files. bytes_of_all files (texts_of names) ≡ and_more contents (bytes_of_all files (texts_of (drop i names))))
-    → IsFetched (get_or names i no_slice).now last (Other answer) → IsStop (texts_of names) whole answer
-fetch_stops whole last names i contents (Done text) same sound now some read fetched = fetched
-fetch_stops whole last names i contents (Refusal status line) same sound now some read fetched =
-    (sym now ∙ fetched.0 ∙ sound, fetched.1, told_stops whole.before last.before names i contents _ same some read fetched.2)
-fetch_stops whole last names i contents (ReadFault line) same sound now some read fetched =
-    let name = get_or names i no_slice in
-    let text : Bor (List ℕ) → List ℕ = λ s. s.now in (
-      name.now,
-      subst (λ n. RoseBy 1 n whole.faults_now) sound (subst (λ n. RoseBy 1 last.faults_before n) now fetched.0),
-      (i, subst (λ n. i < n) (sym (length-map names text)) some, get_or-map text names i no_slice name.now some),
-      fetched.1,
+-- the i-th text, and those before and after it
+pub record Turn (texts : List (List ℕ)) (i : ℕ) (name : List ℕ) : Type 0 where
+  pub here : drop i texts ≡ name ∷ drop (i + 1) texts
+  pub more : take (i + 1) texts ≡ take i texts ++ (name ∷ [])
+
+pub turn : (names : List (Bor (List ℕ))) (i : ℕ) → i < length names → Turn (texts_of names) i (get_or names i no_slice).now
+turn names i some =
+    let text : Bor (List ℕ) → List ℕ = λ s. s.now in
+    let texts = texts_of names in
+    let at : get_or texts i [] ≡ (get_or names i no_slice).now = get_or-map text names i no_slice [] some in
+    let few : i < length texts = omega (arith, length-map names text) in
+    record {
+      here = drop-cons texts i [] few ∙ ap (λ t. t ∷ drop (suc i) texts) at ∙ ap (λ n. (get_or names i no_slice).now ∷ drop n texts) (sym (add-one i));
+      more = take_more texts i [] few ∙ ap (λ t. take i texts ++ (t ∷ [])) at;
+    }
+
+-- one more file was taken
+file_after : (told : Option Files) (name bytes : List ℕ) (texts : List (List ℕ)) (rest : Result (List (List ℕ)) Reply) → TakesFile told name FILE_LIMIT (Ok bytes)
+    → Takes told (limited texts) rest → Takes told (limited (name ∷ texts)) (after_contents (bytes ∷ []) rest)
+file_after told name bytes texts (Ok rest) one takes = (one, takes)
+file_after told name bytes texts (Err reply) one takes = inr (bytes, one, takes)
+
+both_after : (contents : List (List ℕ)) (bytes : List ℕ) (rest : Result (List (List ℕ)) Reply)
+    → after_contents contents (after_contents (bytes ∷ []) rest) ≡ after_contents (contents ++ (bytes ∷ [])) rest
+both_after contents bytes (Ok rest) = ap Ok (sym (append_assoc contents (bytes ∷ []) rest))
+both_after contents bytes (Err reply) = refl
+
+pub reads_on : (told : Option Files) (texts : List (List ℕ)) (i : ℕ) (name bytes : List ℕ) (contents : List (List ℕ)) → Turn texts i name
+    → TakesFile told name FILE_LIMIT (Ok bytes) → Reading told texts i contents → Reading told texts (i + 1) (contents ++ (bytes ∷ []))
+reads_on told texts i name bytes contents at one read rest takes =
+    subst (Takes told (limited texts)) (both_after contents bytes rest)
+    (read (after_contents (bytes ∷ []) rest)
+    (subst (λ l. Takes told (limited l) (after_contents (bytes ∷ []) rest)) (sym at.here) (file_after told name bytes (drop (i + 1) texts) rest one takes)))
+
+-- names after names
+pub asked_both : (front more : List (List ℕ)) (told : Option (List (List ℕ))) → asked_after more (asked_after front told) ≡ asked_after (front ++ more) told
+asked_both front more None = refl
+asked_both front more (Some before) = ap Some (append_assoc before front more)
+
+-- a part of the i-th text alone, as a part of all
+split_at : (texts : List (List ℕ)) (i : ℕ) (name : List ℕ) (front others : List (List ℕ)) → Turn texts i name → name ∷ [] ≡ front ++ others
+    → texts ≡ (take i texts ++ front) ++ (others ++ drop (i + 1) texts)
+split_at texts i name front others at parts =
+    sym (take-append-drop i texts) ∙ ap (λ t. take i texts ++ t) (at.here ∙ ap (λ t. t ++ drop (i + 1) texts) parts ∙ append_assoc front others (drop (i + 1) texts))
+    ∙ sym (append_assoc (take i texts) front (others ++ drop (i + 1) texts))
+
+pub asks_more : (texts : List (List ℕ)) (i : ℕ) (name : List ℕ) (before mid now : Option (List (List ℕ))) → Turn texts i name
+    → mid ≡ asked_after (take i texts) before → AsksFront (name ∷ []) mid now → AsksFront texts before now
+asks_more texts i name before mid now at first asks = record {
+  front = take i texts ++ asks.front;
+  others = asks.others ++ drop (i + 1) texts;
+  parts = split_at texts i name asks.front asks.others at asks.parts;
+  asked = asks.asked ∙ ap (asked_after asks.front) first ∙ asked_both (take i texts) asks.front before;
+}
+
+stop_first : (told : Option Files) (name : List ℕ) (texts : List (List ℕ)) (reply : Reply) → Takes told (limited (name ∷ [])) (Err reply) → Takes told (limited (name ∷ texts)) (Err reply)
+stop_first told name texts reply (inl stop) = inl stop
+stop_first told name texts reply (inr (bytes, one, none)) = absurd none
+
+-- the file that stops the work stops the work over all
+pub all_stop : (whole last : ShelfChange) (texts : List (List ℕ)) (i : ℕ) (name : List ℕ) (contents : List (List ℕ)) (stop : Stop) → Turn texts i name
+    → last.before ≡ whole.before → last.faults_before ≡ whole.faults_before → last.faults_now ≡ whole.faults_now
+    → last.asked_before ≡ asked_after (take i texts) whole.asked_before → last.asked_now ≡ whole.asked_now → Reading whole.before texts i contents
+    → ShelfStops (name ∷ []) (λ told r. Takes told (limited (name ∷ [])) (Err r)) last stop → ShelfStops texts (λ told r. Takes told (limited texts) (Err r)) whole stop
+all_stop whole last texts i name contents Memory at same sound now first asked read stops = tt
+all_stop whole last texts i name contents (Refused status line) at same sound now first asked read stops =
+    let reply = refusal_reply status (string_bytes line) in (
+      sym now ∙ stops.0 ∙ sound,
+      stops.1,
+      read (Err reply)
+          (subst (λ l. Takes whole.before (limited l) (Err reply)) (sym at.here)
+          (stop_first whole.before name (drop (i + 1) texts) reply (subst (λ told. Takes told (limited (name ∷ [])) (Err reply)) same stops.2))),
     )
+all_stop whole last texts i name contents (Unread line) at same sound now first asked read stops = record {
+  cause = subst (λ n. RoseBy 1 n whole.faults_now) sound (subst (λ n. RoseBy 1 last.faults_before n) now stops.cause);
+  front = take i texts ++ stops.front;
+  word = stops.word;
+  others = stops.others ++ drop (i + 1) texts;
+  parts = split_at texts i name stops.front (stops.word ∷ stops.others) at stops.parts;
+  last = sym asked ∙ stops.last ∙ ap (asked_after (stops.front ++ (stops.word ∷ []))) first
+      ∙ asked_both (take i texts) (stops.front ++ (stops.word ∷ [])) whole.asked_before
+      ∙ ap (λ t. asked_after t whole.asked_before) (sym (append_assoc (take i texts) stops.front (stops.word ∷ [])));
+  text = stops.text;
+}
+
+-- no more names
+pub all_read : (told : Option Files) (names : List (Bor (List ℕ))) (contents : List (List ℕ)) → Reading told (texts_of names) (length names) contents
+    → Takes told (limited (texts_of names)) (Ok contents)
+all_read told names contents read =
+    let text : Bor (List ℕ) → List ℕ = λ s. s.now in
+    let none : drop (length names) (texts_of names) ≡ [] = ap (λ n. drop n (texts_of names)) (sym (length-map names text)) ∙ drop_all (length (texts_of names)) (texts_of names) (omega arith) in
+    subst (λ l. Takes told (limited (texts_of names)) (Ok l)) (append-nil contents) (read (Ok []) (subst (λ l. Takes told (limited l) (Ok [])) (sym none) refl))
+
+-- what `?` hands on
+pub stop_taken : (names : List (List ℕ)) (shelf : ShelfChange) (found : Result (Vec (Vec ℕ Global) Global) Stop) (stop : Stop) → IsErrAnd found (λ e. e ≡ stop)
+    → ShelfStops names (λ told r. Takes told (limited names) (Err r)) shelf stop → AreTaken names shelf found
+stop_taken names shelf (Ok contents) stop is stops = absurd is
+stop_taken names shelf (Err e) stop is stops = subst (ShelfStops names (λ told r. Takes told (limited names) (Err r)) shelf) (sym is) stops
+
+-- the bytes of one more file
+pub contents_more : (contents more : List (Vec ℕ Global)) (bytes : Vec ℕ Global) → more ≡ contents ++ (bytes ∷ [])
+    → contents_of more ≡ contents_of contents ++ (bytes.items ∷ [])
+contents_more contents more bytes is = ap contents_of is ∙ map-append (λ (b : Vec ℕ Global). b.items) contents (bytes ∷ [])

@@ -1,26 +1,36 @@
 -- Words and files have one answer.
-use Rattle.std.proofs.Common.{◌≡◌, ℕ, ◌≤◌, length, arith, List, [], ◌∷◌, map, ℤ, Option, Some, None, Result, Ok, Err, inl, inr, sym, ap, subst, ◌∙◌, refl}
+use Rattle.std.proofs.Common.{◌≡◌, ℕ, ◌≤◌, length, arith, List, [], ◌∷◌, map, drop, ℤ, Option, Some, None, Result, Ok, Err, ◌⊎◌, inl, inr, sym, ap, subst, ◌∙◌, refl}
+use Rattle.std.proofs.lemmas.Bool.{cases_lt}
 use Rattle.pb_outside.specs.Shelf.{Files}
 use Rattle.pb_values.specs.declared.outcome.Kind.{Kind}
 use Rattle.pb_prog.specs.Canonical.{canonical}
-use Rattle.pb_lexer.specs.Lexing.{most_bytes}
+use Rattle.pb_syntax.specs.Trees.{TransformTree}
+use Rattle.pb_syntax.specs.declared.limits.TheConstants.{MOST_BYTES}
 use Rattle.pb_front.specs.Reading.{IsRead}
 use Rattle.pb_front.proofs.CanonicalLemmas.{read_again, its_own}
 use Rattle.pb_front.proofs.ReadLemmas.{one_tree, one_refusal as one_refusal_of, not_both}
+use Rattle.pb_words.specs.declared.ask.Ask.{Ask}
+use Rattle.pb_words.specs.declared.ask.Ask.TheVariants.{Check, Choices, Run, Tune, Demo}
+use Rattle.pb_words.proofs.LineLemmas.{one_reading}
 use Rattle.pb_matrix.specs.Text.{matrix_text}
 use Rattle.pb_matrix.specs.Value.{MatrixValue}
 use Rattle.pb_matrix.specs.Reading.{matrix_read}
 use Rattle.pb_matrix.specs.declared.matrix.MatrixRefusal.{MatrixRefusal}
 use Rattle.pb_matrix.specs.declared.matrix.MatrixRefusal.TheVariants.{BadHeader, BadNumber, TooFew, TooMany, Memory}
+use Rattle.pb_top.specs.declared.reply.Status.TheVariants.{Program}
 use Rattle.pb_top.specs.Reply.{Reply, IsFaultyInput, done_reply, refusal_reply}
+use Rattle.pb_top.specs.Refusals.{refusal_line}
+use Rattle.pb_top.specs.Steps.{Takes, Accepts}
+use Rattle.pb_top.specs.Check.{CheckAnswers}
 use Rattle.pb_top.specs.OneRule.{WritesSums, InputAnswers, RunsOneRule}
 use Rattle.pb_top.specs.Tokens.{tokens_of}
-use Rattle.pb_top.specs.Command.{RunLine, Command, checks, runs, command_of, command_files}
-use Rattle.pb_top.specs.Check.{CheckAnswers}
-use Rattle.pb_top.specs.Refusals.{refusal_line}
-use Rattle.pb_top.specs.Answer.{bytes_of_all, RunAnswers, TextAnswers, CommandAnswers, Follows, LineAnswers, Answers}
+use Rattle.pb_top.specs.Answer.{RunLine, built_run, taken_words, limited, RunAnswers, content_at, WorkAnswers, AskAnswers, Answers}
+use Rattle.pb_top.specs.Sinks.{ShelfChange, SinkChange}
+use Rattle.pb_top.specs.Ends.{Shows, IsAnswered, IsAnswerStatus, OutBreaks, ErrBreaks, Ends, IsFaultless, IsComplete}
 use Rattle.pb_top.specs.declared.program.Sign.{Sign}
 use Rattle.pb_top.proofs.FrameLemmas.{one_form}
+use Rattle.pb_top.proofs.StepLemmas.{then_one, takes_one}
+use Rattle.pb_top.proofs.EndLemmas.{other_status}
 
 abbrev as_sum : ℤ → Result ℤ Kind
 as_sum z = Ok z
@@ -62,47 +72,78 @@ one_run program word file input first second (inl (names, signs, rule, left)) (i
 one_run program word file input first second (inr (none, is)) (inl (names, signs, rule, right)) = absurd (none names signs rule)
 one_run program word file input first second (inr (none, is)) (inr (none_too, other_is)) = is ∙ sym other_is
 
-one_rule_run : (line : RunLine) (contents : List (List ℕ)) (first second : Reply) → RunAnswers line contents first → RunAnswers line contents second → first ≡ second
-one_rule_run line [] first second left right = absurd left
-one_rule_run line (a ∷ []) first second left right = absurd left
-one_rule_run line (a ∷ b ∷ []) first second left right = one_run a line.transform line.input b first second left right
-one_rule_run line (a ∷ b ∷ c ∷ rest) first second left right = absurd left
+accepts_one : (program : List ℕ) (x y : Result (List TransformTree) Reply) → Accepts program x → Accepts program y → x ≡ y
+accepts_one program (Ok tree) (Ok other) read again = ap Ok (one_tree program tree other read again)
+accepts_one program (Ok tree) (Err reply) read (why, refused, is) = absurd (not_both program tree why read refused)
+accepts_one program (Err reply) (Ok tree) (why, refused, is) read = absurd (not_both program tree why read refused)
+accepts_one program (Err reply) (Err other) (why, refused, is) (more, again, other_is) =
+    ap Err (is ∙ ap (λ w. refusal_reply Program (refusal_line w)) (one_refusal_of program why more refused again) ∙ sym other_is)
 
 one_check : (program : List ℕ) (first second : Reply) → CheckAnswers program first → CheckAnswers program second → first ≡ second
-one_check program first second (inl (tree, read, is)) (inl (other, read_too, other_is)) =
-    is ∙ ap (λ t. done_reply (canonical t)) (one_tree program tree other read read_too) ∙ sym other_is
-one_check program first second (inl (tree, read, is)) (inr (why, refused, other_is)) = absurd (not_both program tree why read refused)
-one_check program first second (inr (why, refused, is)) (inl (tree, read, other_is)) = absurd (not_both program tree why read refused)
-one_check program first second (inr (why, refused, is)) (inr (other, refused_too, other_is)) =
-    is ∙ ap (λ w. refusal_reply 3 (refusal_line w)) (one_refusal_of program why other refused refused_too) ∙ sym other_is
+one_check program =
+    then_one (Accepts program) (λ tree reply. reply ≡ done_reply (canonical tree)) (accepts_one program) (λ tree x y is other_is. is ∙ sym other_is)
 
-one_text_checked : (contents : List (List ℕ)) (first second : Reply) → TextAnswers contents first → TextAnswers contents second → first ≡ second
-one_text_checked [] first second left right = absurd left
-one_text_checked (a ∷ []) first second left right = one_check a first second left right
-one_text_checked (a ∷ b ∷ rest) first second left right = absurd left
+one_line : (line : Option RunLine) (contents : List (List ℕ)) (first second : Reply) → RunAnswers line contents first → RunAnswers line contents second → first ≡ second
+one_line (Some line) contents first second left right =
+    one_run (content_at contents 0) line.transform line.input (content_at contents 1) first second left right
+one_line None contents first second left right = left ∙ sym right
 
-one_answer : (command : Command) (contents : List (List ℕ)) (first second : Reply) → CommandAnswers command contents first → CommandAnswers command contents second → first ≡ second
-one_answer (checks file) contents first second left right = one_text_checked contents first second left right
-one_answer (runs line) contents first second left right = one_rule_run line contents first second left right
+one_work : (ask : Ask) (others contents : List (List ℕ)) (first second : Reply) → WorkAnswers ask others contents first → WorkAnswers ask others contents second → first ≡ second
+one_work Check others contents first second left right = one_check (content_at contents 0) first second left right
+one_work Choices others contents first second left right = left ∙ sym right
+one_work (Run workers depth grain pool trace) others contents first second left right = one_line (built_run pool trace others) contents first second left right
+one_work (Tune up_to) others contents first second left right = left ∙ sym right
+one_work (Demo seed size workers) others contents first second left right = left ∙ sym right
 
-one_follows : (command : Command) (read : Result (List (List ℕ)) Reply) (first second : Reply) → Follows command read first → Follows command read second → first ≡ second
-one_follows command (Ok contents) first second left right = one_answer command contents first second left right
-one_follows command (Err stop) first second left right = left ∙ sym right
+one_asked : (ask : Ask) (others : List (List ℕ)) (files : Files) (first second : Reply) → AskAnswers ask others (Some files) first → AskAnswers ask others (Some files) second
+    → first ≡ second
+one_asked ask others files =
+    then_one (Takes (Some files) (limited (taken_words ask others))) (WorkAnswers ask others) (takes_one files (limited (taken_words ask others)))
+    (one_work ask others)
 
-one_line : (command : Option Command) (files : Files) (first second : Reply) → LineAnswers command files first → LineAnswers command files second → first ≡ second
-one_line None files first second left right = left ∙ sym right
-one_line (Some command) files first second left right = one_follows command (bytes_of_all files (command_files (Some command))) first second left right
-
-pub one_reply_lem : (words : List (List ℕ)) (files : Files) (first second : Reply) → Answers words files first → Answers words files second → first ≡ second
-one_reply_lem words files first second (inl (inside, left)) (inl (inside_too, right)) = one_line (command_of words) files first second left right
-one_reply_lem words files first second (inl (inside, left)) (inr (outside, is)) = absurd (outside inside)
-one_reply_lem words files first second (inr (outside, is)) (inl (inside, right)) = absurd (outside inside)
+pub one_reply_lem : (words : List (List ℕ)) (files : Files) (first second : Reply) → Answers words (Some files) first → Answers words (Some files) second → first ≡ second
+one_reply_lem words files first second (inl (ask, place, line, left)) (inl (other, there, again, right)) =
+    let same = one_reading words other ask there place again line in
+    let moved = subst (λ p. AskAnswers ask (drop p words) (Some files) second) same.1 (subst (λ a. AskAnswers a (drop there words) (Some files) second) same.0 right) in
+    one_asked ask (drop place words) files first second left moved
+one_reply_lem words files first second (inl (ask, place, line, left)) (inr (outside, is)) = absurd (outside (ask, place, line))
+one_reply_lem words files first second (inr (outside, is)) (inl (ask, place, line, right)) = absurd (outside (ask, place, line))
 one_reply_lem words files first second (inr (outside, is)) (inr (outside_too, other_is)) = is ∙ sym other_is
 
 -- what is written of a program is written of itself
-pub checked_stays : (program text : List ℕ) → CheckAnswers program (done_reply text) → length text ≤ most_bytes → CheckAnswers text (done_reply text)
+pub checked_stays : (program text : List ℕ) → CheckAnswers program (done_reply text) → length text ≤ MOST_BYTES → CheckAnswers text (done_reply text)
 checked_stays program text (inr (why, refused, is)) short = absurd (omega (arith, ap (λ (r : Reply). r.status) is))
 checked_stays program text (inl (tree, read, is)) short =
     let same : canonical tree ≡ text = sym (ap (λ (r : Reply). r.out) is) in
-    let a = read_again program tree read (subst (λ t. length t ≤ most_bytes) (sym same) short) in
+    let a = read_again program tree read (subst (λ t. length t ≤ MOST_BYTES) (sym same) short) in
     inl (a.0, subst (λ t. IsRead t a.0) same a.1, is ∙ ap done_reply (sym (its_own program tree a.0 read a.1)))
+
+-- a call ends with an answer or with one of three faults
+fault_or_not : (status : ℕ) → IsAnswerStatus status ⊎ (status ≡ 9) ⊎ (status ≡ 10) ⊎ (status ≡ 11)
+fault_or_not status =
+    elim (cases_lt status 9) [
+      | inl few ↦ inl (other_status status status refl (inl few))
+      | inr nine ↦ elim (cases_lt 11 status) [
+        | inl many ↦ inl (other_status status status refl (inr many))
+        | inr eleven ↦ elim (cases_lt status 10) [
+          | inl less ↦ inr (inl (omega arith))
+          | inr ten ↦ elim (cases_lt 10 status) [ inl more ↦ inr (inr (inr (omega arith))) | inr only ↦ inr (inr (inl (omega arith))) ]
+        ]
+      ]
+    ]
+
+broken : {P : Type 0} (words : List (List ℕ)) (shelf : ShelfChange) (out err : SinkChange) → IsFaultless shelf out err → OutBreaks words shelf out err ⊎ ErrBreaks words shelf out err → P
+broken words shelf out err faultless (inl breaks) = absurd (faultless.of_out breaks.breaks.cause)
+broken words shelf out err faultless (inr breaks) = absurd (faultless.of_err breaks.breaks.cause)
+
+-- where no device fails, the call shows the reply, or memory ran out
+pub completes : (words : List (List ℕ)) (files : Files) (shelf : ShelfChange) (out err : SinkChange) (status : ℕ) (reply : Reply) → Ends words shelf out err status
+    → shelf.before ≡ Some files → IsFaultless shelf out err → Answers words (Some files) reply → IsComplete words files out err status reply
+completes words files shelf out err status reply ends told faultless answers =
+    elim (fault_or_not status) [
+      | inl is ↦ (let a = subst (λ t. IsAnswered words t out err status) told (ends.answered is) in
+          inl (subst (Shows words (Some files) out err status) (one_reply_lem words files a.reply reply a.answers answers) a.shows))
+      | inr (inl nine) ↦ absurd (faultless.of_shelf (ends.read_fault nine).fault.cause)
+      | inr (inr (inl ten)) ↦ broken words shelf out err faultless (ends.write_fault ten)
+      | inr (inr (inr eleven)) ↦ inr eleven
+    ]

@@ -3,8 +3,10 @@ pub mod ProgramLemmas
 pub mod FrameLemmas
 pub mod SinkLemmas
 pub mod SumLemmas
-pub mod RunLemmas
+pub mod StepLemmas
 pub mod FileLemmas
-pub mod AnswerLemmas
+pub mod RunLemmas
+pub mod WorkLemmas
 pub mod EndLemmas
 pub mod LawLemmas
+pub mod SomeLemmas

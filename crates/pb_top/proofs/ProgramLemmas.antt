@@ -73,7 +73,7 @@ pub record Steps (source first second : List ℕ) (rest : List (List ℕ)) : Typ
   pub second_is : second ≡ source
   pub rest_are : AreTerms source rest
 
-terms_begin : (source first second : List ℕ) (rest : List (List ℕ)) → AreTerms source (first ∷ second ∷ rest) → Steps source first second rest
+pub terms_begin : (source first second : List ℕ) (rest : List (List ℕ)) → AreTerms source (first ∷ second ∷ rest) → Steps source first second rest
 terms_begin source first second rest ([], is) = cc
 terms_begin source first second rest (sign ∷ signs, is) = record { sign = sign; first_is = cc; second_is = cc; rest_are = (signs, cc) }
 

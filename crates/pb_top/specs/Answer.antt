@@ -1,59 +1,103 @@
 -- What the words of a command line and the files of a shelf have for an answer.
-use Rattle.std.specs.Prelude.{◌≡◌, ℕ, nat_le, List, [], ◌∷◌, ◌++◌, length, Option, Some, None, Result, Ok, Err, ◌⊎◌, if◌then◌else◌}
-use Rattle.pb_outside.specs.Shelf.{Files, content_of}
+use Rattle.std.specs.Prelude.{◌≡◌, ℕ, Bool, true, false, List, [], ◌∷◌, ◌++◌, map, drop, slice_index_or, Option, Some, None, is_some, Contains, codes, bytes_eq, ◌⊎◌, if◌then◌else◌}
+use Rattle.pb_outside.specs.Shelf.{Files}
 use Rattle.pb_outside.specs.declared.shelf.TheConstants.{FILE_LIMIT}
-use Rattle.pb_words.specs.Line.{Line}
+use Rattle.pb_words.specs.Line.{Line, IsInside}
+use Rattle.pb_words.specs.Files.{file_words}
+use Rattle.pb_words.specs.declared.ask.Pool.{Pool}
+use Rattle.pb_words.specs.declared.ask.Pool.TheVariants.{Serial, Locked, Steal}
 use Rattle.pb_words.specs.declared.ask.Ask.{Ask}
-use Rattle.pb_top.specs.Reply.{Reply, no_file, file_too_long, not_built, usage}
-use Rattle.pb_top.specs.Command.{RunLine, Command, checks, runs, command_of, command_files}
+use Rattle.pb_words.specs.declared.ask.Ask.TheVariants.{Check, Choices, Run, Tune, Demo}
+use Rattle.pb_top.specs.Reply.{Reply, not_built, usage}
+use Rattle.pb_top.specs.Steps.{Then, Takes}
 use Rattle.pb_top.specs.Check.{CheckAnswers}
 use Rattle.pb_top.specs.OneRule.{RunsOneRule}
 
--- what the files of a command give, put after what came before them
-abbrev pub and_more : List (List ℕ) → Result (List (List ℕ)) Reply → Result (List (List ℕ)) Reply
-and_more front (Ok rest) = Ok (front ++ rest)
-and_more front (Err reply) = Err reply
+-- the words of a run on one thread, without a configuration and over one input
+pub record RunLine : Type 0 where
+  pub program : List ℕ
+  pub transform : List ℕ
+  pub input : List ℕ
 
--- a file that isn't there or is too long is the answer
-abbrev pub bytes_then : List ℕ → Option (List ℕ) → Result (List (List ℕ)) Reply → Result (List (List ℕ)) Reply
-bytes_then name None rest = Err (no_file name)
-bytes_then name (Some bytes) rest = if nat_le (length bytes) FILE_LIMIT then and_more (bytes ∷ []) rest else Err (file_too_long name)
+-- the runs that are built, among the pools, with a trace or not, over the words after the options
+abbrev pub built_run : Pool → Bool → List (List ℕ) → Option RunLine
+built_run Serial false (program ∷ config ∷ transform ∷ input ∷ []) =
+    if bytes_eq config (codes "-") then Some (record { program = program; transform = transform; input = input }) else None
+built_run pool trace others = None
 
--- the bytes of the files with these names, or the answer that the first faulty one is
-abbrev pub bytes_of_all : Files → List (List ℕ) → Result (List (List ℕ)) Reply
-bytes_of_all files [] = Ok []
-bytes_of_all files (name ∷ names) = bytes_then name (content_of files name) (bytes_of_all files names)
+abbrev pub is_built : Ask → List (List ℕ) → Bool
+is_built Check others = true
+is_built Choices others = false
+is_built (Run workers depth grain pool trace) others = is_some (built_run pool trace others)
+is_built (Tune up_to) others = false
+is_built (Demo seed size workers) others = false
 
--- the answer over the bytes of the run's files
-abbrev pub RunAnswers : RunLine → List (List ℕ) → Reply → Type 0
-RunAnswers line (program ∷ input ∷ []) reply = RunsOneRule program line.transform line.input input reply
-RunAnswers line contents reply = ⊥
+-- the files that a command takes; one that isn't built takes none
+abbrev pub taken_words : Ask → List (List ℕ) → List (List ℕ)
+taken_words ask others = if is_built ask others then file_words ask others else []
 
--- the answer over the bytes of the file to check
-abbrev pub TextAnswers : List (List ℕ) → Reply → Type 0
-TextAnswers (program ∷ []) reply = CheckAnswers program reply
-TextAnswers contents reply = ⊥
+-- files with the limit that each file has
+abbrev pub limited : List (List ℕ) → List (List ℕ × ℕ)
+limited words = map (λ word. (word, FILE_LIMIT)) words
 
--- the answer over the bytes of the command's files
-abbrev pub CommandAnswers : Command → List (List ℕ) → Reply → Type 0
-CommandAnswers (checks file) contents reply = TextAnswers contents reply
-CommandAnswers (runs line) contents reply = RunAnswers line contents reply
+-- the bytes of the file at a place among those that were taken
+abbrev pub content_at : List (List ℕ) → ℕ → List ℕ
+content_at contents place = slice_index_or contents place []
 
--- all files are taken before any is looked at
-abbrev pub Follows : Command → Result (List (List ℕ)) Reply → Reply → Type 0
-Follows command (Ok contents) reply = CommandAnswers command contents reply
-Follows command (Err stop) reply = reply ≡ stop
+-- the answer of a run over the bytes of its program and its input
+abbrev pub RunAnswers : Option RunLine → List (List ℕ) → Reply → Type 0
+RunAnswers (Some line) contents reply = RunsOneRule (content_at contents 0) line.transform line.input (content_at contents 1) reply
+RunAnswers None contents reply = reply ≡ not_built
 
--- the answer to a command line; some commands aren't built
-abbrev pub LineAnswers : Option Command → Files → Reply → Type 0
-LineAnswers (Some command) files reply = Follows command (bytes_of_all files (command_files (Some command))) reply
-LineAnswers None files reply = reply ≡ not_built
+-- the answer to what is asked, over the words after the options and the bytes of the files that it takes
+abbrev pub WorkAnswers : Ask → List (List ℕ) → List (List ℕ) → Reply → Type 0
+WorkAnswers Check others contents reply = CheckAnswers (content_at contents 0) reply
+WorkAnswers Choices others contents reply = reply ≡ not_built
+WorkAnswers (Run workers depth grain pool trace) others contents reply = RunAnswers (built_run pool trace others) contents reply
+WorkAnswers (Tune up_to) others contents reply = reply ≡ not_built
+WorkAnswers (Demo seed size workers) others contents reply = reply ≡ not_built
 
--- the words are in the grammar
-abbrev pub IsInside : List (List ℕ) → Type 0
-IsInside words = (ask : Ask) × (place : ℕ) × Line words ask place
+-- all files of a command are taken before any is looked at
+abbrev pub AskAnswers : Ask → List (List ℕ) → Option Files → Reply → Type 0
+AskAnswers ask others told = Then (Takes told (limited (taken_words ask others))) (WorkAnswers ask others)
 
--- the answer to words, over the files of the shelf
-abbrev pub Answers : List (List ℕ) → Files → Reply → Type 0
-Answers words files reply =
-    (IsInside words × LineAnswers (command_of words) files reply) ⊎ ((IsInside words → ⊥) × (reply ≡ usage))
+-- the answer to words, over what is told of the shelf's files
+abbrev pub Answers : List (List ℕ) → Option Files → Reply → Type 0
+Answers words told reply =
+    ((ask : Ask) × (place : ℕ) × Line words ask place × AskAnswers ask (drop place words) told reply)
+    ⊎ ((IsInside words → ⊥) × (reply ≡ usage))
+
+-- what stands after a reply's text on `out`; no command that is built writes a trace
+abbrev pub IsTail : Ask → List (List ℕ) → Option Files → Reply → List ℕ → Type 0
+IsTail ask others told reply tail = tail ≡ []
+
+-- what stands after the text of the reply to words
+abbrev pub IsTailOf : List (List ℕ) → Option Files → Reply → List ℕ → Type 0
+IsTailOf words told reply tail =
+    ((ask : Ask) × (place : ℕ) × Line words ask place × IsTail ask (drop place words) told reply tail)
+    ⊎ ((IsInside words → ⊥) × (tail ≡ []))
+
+-- all that `out` gains with a reply to words
+abbrev pub IsOut : List (List ℕ) → Option Files → Reply → List ℕ → Type 0
+IsOut words told reply text = (tail : List ℕ) × IsTailOf words told reply tail × (text ≡ reply.out ++ tail)
+
+-- a word that names a file which the command takes
+abbrev pub IsFileWord : List (List ℕ) → Option Files → List ℕ → Type 0
+IsFileWord words told word = (ask : Ask) × (place : ℕ) × Line words ask place × Contains (taken_words ask (drop place words)) word
+
+-- the words that name the files which the command takes, in order; words outside the grammar name none
+abbrev pub AreFileWords : List (List ℕ) → Option Files → List (List ℕ) → Type 0
+AreFileWords words told names =
+    ((ask : Ask) × (place : ℕ) × Line words ask place × (names ≡ taken_words ask (drop place words)))
+    ⊎ ((IsInside words → ⊥) × (names ≡ []))
+
+-- what is asked runs on threads of its own
+abbrev pub IsThreaded : Ask → Type 0
+IsThreaded (Run workers depth grain Locked trace) = Unit {0}
+IsThreaded (Run workers depth grain Steal trace) = Unit {0}
+IsThreaded (Demo seed size workers) = Unit {0}
+IsThreaded other = ⊥
+
+-- the words are in the grammar and ask for `demo`, or for `run` with a pool other than `serial`
+abbrev pub NeedsThreads : List (List ℕ) → Type 0
+NeedsThreads words = (ask : Ask) × (place : ℕ) × Line words ask place × IsThreaded ask

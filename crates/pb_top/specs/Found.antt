@@ -1,4 +1,4 @@
--- What the reader of a program of one rule finds on its way.
+-- For proofs alone: what the reader of a program of one rule finds on its way.
 use Rattle.std.specs.Prelude.{◌≡◌, ℕ, ◌-◌, List, [], ◌∷◌, ◌++◌, length, take, drop, slice_index_or, Option, Some, None, Vec}
 use Rattle.std.specs.declared.alloc.Global.{Global}
 use Rattle.pb_top.specs.Program.{Names, terms_of, head_of, tail_tokens, IsOneRule}

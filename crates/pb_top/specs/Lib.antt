@@ -1,14 +1,16 @@
+-- what a reader of the top call's clause must believe, from the bottom up
 pub mod Sinks
 pub mod Texts
 pub mod Reply
+pub mod Refusals
+pub mod Steps
+pub mod Check
 pub mod Tokens
 pub mod Program
-pub mod Found
 pub mod OneRule
-pub mod Refusals
-pub mod Check
-pub mod Command
 pub mod Answer
 pub mod Ends
+-- what only proofs use: the contracts of the private functions on the way
+pub mod Found
 pub mod Sums
 pub mod Working

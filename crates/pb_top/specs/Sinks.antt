@@ -1,7 +1,7 @@
 -- What a call does to a sink and to a shelf.
-use Rattle.std.specs.Prelude.{◌≡◌, ℕ, ◌<◌, List, length, take, Option, Result, Ok, Err}
+use Rattle.std.specs.Prelude.{◌≡◌, ℕ, ◌<◌, List, [], ◌∷◌, ◌++◌, length, take, Option, Result, Ok, Err}
 use Rattle.pb_outside.specs.Count.{RoseBy}
-use Rattle.pb_outside.specs.Shelf.{Files}
+use Rattle.pb_outside.specs.Shelf.{Files, asked_after}
 use Rattle.pb_outside.specs.Sink.{told_with}
 use Rattle.pb_outside.specs.declared.sink.Refused.{Refused}
 
@@ -12,7 +12,7 @@ pub record SinkChange : Type 0 where
   pub faults_before : ℕ
   pub faults_now : ℕ
 
--- a shelf before and after a call: its files, where they are told, and its counts of faults and of bytes
+-- a shelf before and after a call: its files and the names that it was asked, where they are told, and its counts of faults and of bytes
 pub record ShelfChange : Type 0 where
   pub before : Option Files
   pub now : Option Files
@@ -20,6 +20,8 @@ pub record ShelfChange : Type 0 where
   pub faults_now : ℕ
   pub bytes_before : ℕ
   pub bytes_now : ℕ
+  pub asked_before : Option (List (List ℕ))
+  pub asked_now : Option (List (List ℕ))
 
 -- the change of a sink whose type has these meanings
 abbrev pub sink_change : {S : Type 0} → (S → Option (List ℕ)) → (S → ℕ) → S → S → SinkChange
@@ -27,15 +29,32 @@ sink_change written faults old new =
     record { before = written old; now = written new; faults_before = faults old; faults_now = faults new }
 
 -- the change of a shelf whose type has these meanings
-abbrev pub shelf_change : {S : Type 0} → (S → Option Files) → (S → ℕ) → (S → ℕ) → S → S → ShelfChange
-shelf_change files faults bytes old new = record {
+abbrev pub shelf_change : {S : Type 0} → (S → Option Files) → (S → ℕ) → (S → ℕ) → (S → Option (List (List ℕ))) → S → S → ShelfChange
+shelf_change files faults bytes asked old new = record {
   before = files old;
   now = files new;
   faults_before = faults old;
   faults_now = faults new;
   bytes_before = bytes old;
   bytes_now = bytes new;
+  asked_before = asked old;
+  asked_now = asked new;
 }
+
+-- the shelf met no fault
+abbrev pub IsSound : ShelfChange → Type 0
+IsSound shelf = shelf.faults_now ≡ shelf.faults_before
+
+-- the first of these names were asked, in their order, and no other
+pub record AsksFront (names : List (List ℕ)) (before now : Option (List (List ℕ))) : Type 0 where
+  pub front : List (List ℕ)
+  pub others : List (List ℕ)
+  pub parts : names ≡ front ++ others
+  pub asked : now ≡ asked_after front before
+
+-- a name was the last that was asked
+abbrev pub AsksLast : List ℕ → Option (List (List ℕ)) → Option (List (List ℕ)) → Type 0
+AsksLast word before now = (front : List (List ℕ)) × (now ≡ asked_after (front ++ (word ∷ [])) before)
 
 -- the sink gained just this text
 abbrev pub Gains : List ℕ → SinkChange → Type 0

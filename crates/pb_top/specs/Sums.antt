@@ -1,4 +1,4 @@
--- What the sums of a matrix's cells are found to be.
+-- For proofs alone: what the sums of a matrix's cells are found to be.
 use Rattle.std.specs.Prelude.{◌≡◌, ℕ, List, map, ℤ, Option, Some, None, Ok, Vec}
 use Rattle.std.specs.declared.alloc.Global.{Global}
 use Rattle.pb_matrix.specs.Value.{MatrixValue}

@@ -1,122 +1,84 @@
--- What the steps of a command give, before anything is written.
-use Rattle.std.specs.Prelude.{◌≡◌, ℕ, ◌<◌, List, [], ◌∷◌, map, length, Contains, Some, IfSome, Ok, Err, Vec, ◌⊎◌, string_bytes}
-use Rattle.pb_outside.specs.Count.{RoseBy}
+-- For proofs alone: what the private steps of a command give, before anything is written.
+use Rattle.std.specs.Prelude.{◌≡◌, ℕ, ◌<◌, List, [], ◌∷◌, ◌++◌, map, Option, Some, None, Result, Ok, Err, Vec, ◌⊎◌, string_bytes}
 use Rattle.std.specs.declared.alloc.Global.{Global}
-use Rattle.pb_top.specs.Sinks.{ShelfChange, SinkChange, Gains, IsSteady, IsIdle, Breaks}
+use Rattle.std.specs.declared.alloc.AllocError.{AllocError}
+use Rattle.pb_outside.specs.Count.{RoseBy}
+use Rattle.pb_outside.specs.Shelf.{Files, asked_after}
+use Rattle.pb_top.specs.Sinks.{ShelfChange, SinkChange, IsSound, Gains, IsSteady, IsIdle, Breaks}
 use Rattle.pb_top.specs.Texts.{read_fault_line}
-use Rattle.pb_top.specs.Reply.{Reply, IsFaultyInput, done_reply, refusal_reply, not_built, usage}
-use Rattle.pb_top.specs.OneRule.{InputAnswers, RunsOneRule}
-use Rattle.pb_matrix.specs.Reading.{matrix_read}
-use Rattle.pb_matrix.specs.declared.matrix.MatrixRefusal.{MatrixRefusal}
-use Rattle.pb_top.specs.declared.program.Sign.{Sign}
-use Rattle.pb_top.specs.Check.{CheckAnswers}
-use Rattle.pb_top.specs.Command.{RunLine, Command, checks, runs, command_files}
-use Rattle.pb_top.specs.Answer.{Answers, RunAnswers, Follows, bytes_of_all}
-use Rattle.pb_top.specs.Ends.{IsSound, IsReadFault}
-use Rattle.pb_top.specs.declared.answer.Answer.{Answer}
-use Rattle.pb_top.specs.declared.answer.Answer.TheVariants.{Done, Refusal, ReadFault}
-use Rattle.pb_top.specs.declared.files.Fetched.{Fetched}
-use Rattle.pb_top.specs.declared.files.Fetched.TheVariants.{Bytes, Other}
-use Rattle.pb_top.specs.declared.files.FetchedAll.{FetchedAll}
-use Rattle.pb_top.specs.declared.files.FetchedAll.TheVariants.{All, Stop}
-use Rattle.pb_top.specs.declared.line.Command.{Command as Words}
-use Rattle.pb_top.specs.declared.line.Command.TheVariants.{Check, Run}
+use Rattle.pb_top.specs.Reply.{Reply, status_code, done_reply, refusal_reply}
+use Rattle.pb_top.specs.Steps.{Takes}
+use Rattle.pb_top.specs.Answer.{RunLine, limited}
+use Rattle.pb_top.specs.declared.reply.Status.{Status}
+use Rattle.pb_top.specs.declared.reply.Stop.{Stop}
+use Rattle.pb_top.specs.declared.reply.Stop.TheVariants.{Memory, Refused, Unread}
 
--- the command that a line is
-abbrev pub command_in : Words → Command
-command_in (Check program) = checks program.now
-command_in (Run line) = runs line
+-- a status with a line on `err` that no device's fault gives
+abbrev pub IsRefusal : Status → Type 0
+IsRefusal status = (0 < status_code status) × ((status_code status < 9) ⊎ (11 < status_code status))
 
--- a status that no fault has: neither Ok nor a failed read, a failed write or want of memory
-abbrev pub IsRefusal : ℕ → Type 0
-IsRefusal status = (0 < status) × ((status < 9) ⊎ (11 < status))
+-- the work stops with a reply that the relation says, or memory ran out
+abbrev pub StopsWith : (Reply → Type 0) → Stop → Type 0
+StopsWith Says Memory = Unit {0}
+StopsWith Says (Refused status line) = IsRefusal status × Says (refusal_reply status (string_bytes line))
+StopsWith Says (Unread line) = ⊥
 
--- the reply that an answer is
-abbrev pub reply_of : Answer → Reply
-reply_of (Done text) = done_reply text.items
-reply_of (Refusal status line) = refusal_reply status (string_bytes line)
-reply_of (ReadFault line) = refusal_reply 9 (string_bytes line)
+-- the line of a file that couldn't be read
+abbrev pub IsUnread : List ℕ → Stop → Type 0
+IsUnread text Memory = ⊥
+IsUnread text (Refused status line) = ⊥
+IsUnread text (Unread line) = string_bytes line ≡ text
 
--- an answer that no fault makes
-abbrev pub IsPlain : Answer → Type 0
-IsPlain (Done text) = Unit {0}
-IsPlain (Refusal status line) = IsRefusal status
-IsPlain (ReadFault line) = ⊥
+-- a step gives what its relation says, or stops
+abbrev pub Gives : {T A : Type 0} → (T → A) → (Result A Reply → Type 0) → Result T Stop → Type 0
+Gives view Step (Ok x) = Step (Ok (view x))
+Gives view Step (Err stop) = StopsWith (λ reply. Step (Err reply)) stop
 
--- the bytes of the files that these texts name
+-- the work ends with a text for `out` that the relation says, or stops
+abbrev pub Replies : (Reply → Type 0) → Result (Vec ℕ Global) Stop → Type 0
+Replies Says (Ok text) = Says (done_reply text.items)
+Replies Says (Err stop) = StopsWith Says stop
+
+-- the bytes of files
 abbrev pub contents_of : List (Vec ℕ Global) → List (List ℕ)
 contents_of contents = map (λ bytes. bytes.items) contents
 
--- a word among these, in the line of a file that couldn't be read
-abbrev pub NamesFault : List (List ℕ) → ShelfChange → List ℕ → Type 0
-NamesFault names shelf line = (word : List ℕ) × RoseBy 1 shelf.faults_before shelf.faults_now × Contains names word × (line ≡ read_fault_line word)
+-- a name among these, the last that was asked, in the line of a file that couldn't be read
+pub record NamesFault (names : List (List ℕ)) (shelf : ShelfChange) (line : List ℕ) : Type 0 where
+  pub cause : RoseBy 1 shelf.faults_before shelf.faults_now
+  pub front : List (List ℕ)
+  pub word : List ℕ
+  pub others : List (List ℕ)
+  pub parts : names ≡ front ++ (word ∷ others)
+  pub last : shelf.asked_now ≡ asked_after (front ++ (word ∷ [])) shelf.asked_before
+  pub text : line ≡ read_fault_line word
 
--- the answer in place of these files' bytes
-abbrev pub IsStop : List (List ℕ) → ShelfChange → Answer → Type 0
-IsStop names shelf (Done text) = ⊥
-IsStop names shelf (Refusal status line) =
-    IsSound shelf × IsRefusal status × IfSome shelf.before (λ files. bytes_of_all files names ≡ Err (refusal_reply status (string_bytes line)))
-IsStop names shelf (ReadFault line) = NamesFault names shelf (string_bytes line)
+-- the work stops over the files with these names
+abbrev pub ShelfStops : List (List ℕ) → (Option Files → Reply → Type 0) → ShelfChange → Stop → Type 0
+ShelfStops names Says shelf Memory = Unit {0}
+ShelfStops names Says shelf (Refused status line) = IsSound shelf × IsRefusal status × Says shelf.before (refusal_reply status (string_bytes line))
+ShelfStops names Says shelf (Unread line) = NamesFault names shelf (string_bytes line)
 
--- the bytes of a file, or the answer in their place
-abbrev pub IsFetched : List ℕ → ShelfChange → Fetched → Type 0
-IsFetched name shelf (Bytes bytes) = IsSound shelf × IfSome shelf.before (λ files. bytes_of_all files (name ∷ []) ≡ Ok (bytes.items ∷ []))
-IsFetched name shelf (Other (Done text)) = ⊥
-IsFetched name shelf (Other (Refusal status line)) =
-    IsSound shelf × IsRefusal status × IfSome shelf.before (λ files. bytes_of_all files (name ∷ []) ≡ Err (refusal_reply status (string_bytes line)))
-IsFetched name shelf (Other (ReadFault line)) = RoseBy 1 shelf.faults_before shelf.faults_now × (string_bytes line ≡ read_fault_line name)
+-- the bytes of the files with these names, or the work stops
+abbrev pub AreTaken : List (List ℕ) → ShelfChange → Result (Vec (Vec ℕ Global) Global) Stop → Type 0
+AreTaken names shelf (Ok contents) = IsSound shelf × Takes shelf.before (limited names) (Ok (contents_of contents.items))
+AreTaken names shelf (Err stop) = ShelfStops names (λ told reply. Takes told (limited names) (Err reply)) shelf stop
 
--- the bytes of the files, or the answer in their place
-abbrev pub AreFetched : List (List ℕ) → ShelfChange → FetchedAll → Type 0
-AreFetched names shelf (All contents) =
-    (length contents.items ≡ length names) × IsSound shelf × IfSome shelf.before (λ files. bytes_of_all files names ≡ Ok (contents_of contents.items))
-AreFetched names shelf (Stop answer) = IsStop names shelf answer
+-- the bytes of a file, or the work stops
+abbrev pub IsTaken : List ℕ → ShelfChange → Result (Vec ℕ Global) Stop → Type 0
+IsTaken name shelf (Ok bytes) =
+    IsSound shelf × Takes shelf.before (limited (name ∷ [])) (Ok (bytes.items ∷ [])) × (shelf.asked_now ≡ asked_after (name ∷ []) shelf.asked_before)
+IsTaken name shelf (Err stop) = ShelfStops (name ∷ []) (λ told reply. Takes told (limited (name ∷ [])) (Err reply)) shelf stop
 
--- the answer to what isn't built
-abbrev pub IsNotBuilt : Answer → Type 0
-IsNotBuilt answer = IsPlain answer × (reply_of answer ≡ not_built)
+-- the work over the files with these names ends with a text for `out` that the relation says, or stops
+abbrev pub ShelfReplies : List (List ℕ) → (Option Files → Reply → Type 0) → ShelfChange → Result (Vec ℕ Global) Stop → Type 0
+ShelfReplies names Says shelf (Ok text) = IsSound shelf × Says shelf.before (done_reply text.items)
+ShelfReplies names Says shelf (Err stop) = ShelfStops names Says shelf stop
 
--- the answer to an input that is no matrix
-abbrev pub IsFaultyRun : List ℕ → MatrixRefusal → Answer → Type 0
-IsFaultyRun file refusal answer = IsPlain answer × IsFaultyInput file refusal (reply_of answer)
-
--- the answer to an input, over the signs of a program of one rule
-abbrev pub IsInputRun : List Sign → List ℕ → List ℕ → Answer → Type 0
-IsInputRun signs file input answer = IsPlain answer × InputAnswers signs file (matrix_read input) (reply_of answer)
-
--- the answer to a program of one rule
-abbrev pub IsRuleRun : List ℕ → List ℕ → List ℕ → List ℕ → Answer → Type 0
-IsRuleRun program word file input answer = IsPlain answer × RunsOneRule program word file input (reply_of answer)
-
--- the answer to words that are no command line
-abbrev pub IsUsage : Answer → Type 0
-IsUsage answer = IsPlain answer × (reply_of answer ≡ usage)
-
--- the answer to a line over the bytes of its files
-abbrev pub IsRun : RunLine → List (List ℕ) → Answer → Type 0
-IsRun line contents answer = IsPlain answer × RunAnswers line contents (reply_of answer)
-
--- the answer to a program to check
-abbrev pub IsChecked : List ℕ → Answer → Type 0
-IsChecked program answer = IsPlain answer × CheckAnswers program (reply_of answer)
-
--- the reply follows from the command's files
-abbrev pub FollowsFiles : Command → ShelfChange → Reply → Type 0
-FollowsFiles command shelf reply =
-    IsSound shelf × IfSome shelf.before (λ files. Follows command (bytes_of_all files (command_files (Some command))) reply)
-
--- the answer to a command, or the line of a file that couldn't be read
-abbrev pub IsCommandAnswer : Command → ShelfChange → Answer → Type 0
-IsCommandAnswer command shelf (Done text) = FollowsFiles command shelf (done_reply text.items)
-IsCommandAnswer command shelf (Refusal status line) = IsRefusal status × FollowsFiles command shelf (refusal_reply status (string_bytes line))
-IsCommandAnswer command shelf (ReadFault line) = NamesFault (command_files (Some command)) shelf (string_bytes line)
-
--- the answer to a command line, or the line of a file that couldn't be read
-abbrev pub IsAnswer : List (List ℕ) → ShelfChange → Answer → Type 0
-IsAnswer words shelf (Done text) = IsSound shelf × IfSome shelf.before (λ files. Answers words files (done_reply text.items))
-IsAnswer words shelf (Refusal status line) =
-    IsSound shelf × IsRefusal status × IfSome shelf.before (λ files. Answers words files (refusal_reply status (string_bytes line)))
-IsAnswer words shelf (ReadFault line) = IsReadFault words shelf (string_bytes line)
+-- the files of a run that is built
+abbrev pub line_files : Option RunLine → List (List ℕ)
+line_files (Some line) = line.program ∷ line.input ∷ []
+line_files None = []
 
 -- the text went to one sink, whole or up to a put that was refused, and nothing to the other
 abbrev pub WritesTo : List ℕ → SinkChange → SinkChange → ℕ → ℕ → Type 0
@@ -124,8 +86,18 @@ WritesTo text sink other good status =
     ((status ≡ good) × Gains text sink × IsSteady sink × IsIdle other)
     ⊎ ((status ≡ 10) × Breaks text sink × IsIdle other)
 
--- how an answer is written
-abbrev pub IsWritten : Answer → SinkChange → SinkChange → ℕ → Type 0
-IsWritten (Done text) out err status = WritesTo text.items out err 0 status
-IsWritten (Refusal code line) out err status = WritesTo (string_bytes line) err out code status
-IsWritten (ReadFault line) out err status = WritesTo (string_bytes line) err out 9 status
+-- how what stops the work is written
+abbrev pub StopIsWritten : Stop → SinkChange → SinkChange → ℕ → Type 0
+StopIsWritten Memory out err status = (status ≡ 11) × IsIdle out × IsIdle err
+StopIsWritten (Refused code line) out err status = WritesTo (string_bytes line) err out (status_code code) status
+StopIsWritten (Unread line) out err status = WritesTo (string_bytes line) err out 9 status
+
+-- how what the work ended with is written
+abbrev pub IsWritten : Result (Vec ℕ Global) Stop → SinkChange → SinkChange → ℕ → Type 0
+IsWritten (Ok text) out err status = WritesTo text.items out err 0 status
+IsWritten (Err stop) out err status = StopIsWritten stop out err status
+
+-- how a line of what stops the work is written, if there was memory for it
+abbrev pub LineIsWritten : Result Stop AllocError → SinkChange → SinkChange → ℕ → Type 0
+LineIsWritten (Ok stop) out err status = StopIsWritten stop out err status
+LineIsWritten (Err e) out err status = (status ≡ 11) × IsIdle out × IsIdle err

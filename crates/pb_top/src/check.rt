@@ -1,40 +1,33 @@
-ghost use Rattle.std.specs.Prelude.{◌≡◌, IfOk};
-ghost use Rattle.pb_top.specs.Sinks.{shelf_change};
-ghost use Rattle.pb_top.specs.Command.{checks};
-ghost use Rattle.pb_top.specs.Working.{IsChecked, IsCommandAnswer};
+ghost use Rattle.std.specs.Prelude.{◌≡◌};
+ghost use Rattle.pb_syntax.specs.Trees.{bare_text};
+ghost use Rattle.pb_top.specs.Steps.{Accepts};
+ghost use Rattle.pb_top.specs.Check.{CheckAnswers};
+ghost use Rattle.pb_top.specs.Working.{Gives, Replies};
 
-use crate::answer::Answer;
-use crate::files::{Fetched, fetch};
 use crate::refusal::refusal_line;
+use crate::reply::{Status, Stop};
 use pb_front::read_text;
-use pb_outside::Shelf;
-use pb_prog::{Refusal, print_text};
-use std::alloc::{AllocError, Global};
+use pb_prog::{Refusal, Text, print_text};
+use std::alloc::Global;
 
-const PROGRAM_REFUSED: u8 = 3;
-
-// The answer to the bytes of a program: its canonical text, or why it is refused.
-fn check_text(alloc: Global, program: &[u8]) -> Result<Answer, AllocError>
-    ensures { IfOk result (IsChecked program.now) }
+// The tree of a program.
+fn accept(alloc: Global, program: &[u8]) -> Result<Text, Stop>
+    ensures { Gives bare_text (Accepts program.now) result }
 {
     match read_text(alloc, program) {
-        Ok(tree) => Ok(Answer::Done(print_text(alloc, &tree)?)),
-        Err(Refusal::Memory) => Err(AllocError),
+        Ok(tree) => Ok(tree),
+        Err(Refusal::Memory) => Err(Stop::Memory),
         Err(refusal) => {
             let line = refusal_line(alloc, &refusal)?;
-            Ok(Answer::Refusal(PROGRAM_REFUSED, line))
+            Err(Stop::Refused(Status::Program, line))
         }
     }
 }
 
-/// The answer to `check` of a file.
-#[tactic(auto, using(crate::proofs::AnswerLemmas::check_done, crate::proofs::AnswerLemmas::other_done))]
-pub fn check<S: Shelf>(alloc: Global, file: &str, shelf: &mut S) -> Result<Answer, AllocError>
-    ensures answer { IfOk result (IsCommandAnswer (checks file.now) (shelf_change S.files S.faults S.taken shelf.old shelf.new)) }
-    ensures stays { S.files shelf.new ≡ S.files shelf.old }
+/// The canonical text of a program.
+pub fn check(alloc: Global, program: &[u8]) -> Result<Vec<u8>, Stop>
+    ensures { Replies (CheckAnswers program.now) result }
 {
-    match fetch(alloc, shelf, file)? {
-        Fetched::Bytes(program) => check_text(alloc, &program),
-        Fetched::Other(answer) => Ok(answer),
-    }
+    let tree = accept(alloc, program)?;
+    Ok(print_text(alloc, &tree)?)
 }

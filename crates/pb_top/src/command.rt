@@ -1,46 +1,75 @@
-ghost use Rattle.std.specs.Prelude.{◌≡◌, map, IsSome, IfSome, string_bytes, if◌then◌else◌, is_ok};
+ghost use Rattle.std.specs.Prelude.{◌≡◌, map, IfSome, IfNone, string_bytes, if◌then◌else◌, is_ok, IsTrue, ◌↔◌};
 ghost use Rattle.pb_top.specs.Sinks.{shelf_change, sink_change};
-ghost use Rattle.pb_top.specs.Working.{IsWritten};
+ghost use Rattle.pb_top.specs.Reply.{status_code};
+ghost use Rattle.pb_top.specs.Answer.{IsThreaded, NeedsThreads};
+ghost use Rattle.pb_top.specs.Working.{IsWritten, StopIsWritten, LineIsWritten};
 ghost use Rattle.pb_top.specs.Ends.{Ends};
 
-use crate::answer::{Answer, work};
 use crate::put::put_all;
+use crate::reply::{Status, Stop, not_built, usage};
+use crate::work::work;
 use pb_outside::{Refused, Shelf, Sink};
-use std::alloc::Global;
+use pb_words::{Ask, Pool, read_words};
+use std::alloc::{AllocError, Global};
 use std::sync::Wait;
 use std::thread::Threads;
 
-const WRITE_FAULT: u8 = 10;
-
-const READ_FAULT: u8 = 9;
-
-const NO_MEMORY: u8 = 11;
-
 // The status of an answer whose text was put, or of the put that was refused.
-fn status_of(put: Result<(), Refused>, status: u8) -> u8
-    ensures { result ≡ (if is_ok put then status else WRITE_FAULT) }
+fn status_of(put: Result<(), Refused>, status: Status) -> u8
+    ensures { result ≡ (if is_ok put then status_code status else 10) }
 {
     match put {
-        Ok(()) => status,
-        Err(Refused) => WRITE_FAULT,
+        Ok(()) => status.code(),
+        Err(Refused) => Status::WriteFault.code(),
     }
 }
 
-// Puts an answer's text on its sink.
-fn write_answer<O: Sink, E: Sink>(answer: &Answer, out: &mut O, err: &mut E) -> u8
-    ensures { IsWritten answer.now (sink_change O.written O.faults out.old out.new) (sink_change E.written E.faults err.old err.new) result }
+// Puts the line of what stopped a command on `err`.
+fn write_stop<O: Sink, E: Sink>(stop: &Stop, out: &mut O, err: &mut E) -> u8
+    ensures { StopIsWritten stop.now (sink_change O.written O.faults out.old out.new) (sink_change E.written E.faults err.old err.new) result }
 {
-    match answer {
-        Answer::Done(text) => status_of(put_all(out, text), 0),
-        Answer::Refusal(status, line) => status_of(put_all(err, line.as_bytes()), *status),
-        Answer::ReadFault(line) => status_of(put_all(err, line.as_bytes()), READ_FAULT),
+    match stop {
+        Stop::Memory => Status::NoMemory.code(),
+        Stop::Refused(status, line) => status_of(put_all(err, line.as_bytes()), *status),
+        Stop::Unread(line) => status_of(put_all(err, line.as_bytes()), Status::ReadFault),
+    }
+}
+
+// Puts what a command ended with on its sink.
+fn write<O: Sink, E: Sink>(found: &Result<Vec<u8>, Stop>, out: &mut O, err: &mut E) -> u8
+    ensures { IsWritten found.now (sink_change O.written O.faults out.old out.new) (sink_change E.written E.faults err.old err.new) result }
+{
+    match found {
+        Ok(text) => status_of(put_all(out, text), Status::Done),
+        Err(stop) => write_stop(stop, out, err),
+    }
+}
+
+// Puts the line of what stopped a command on `err`, if there was memory for it.
+fn write_line<O: Sink, E: Sink>(line: Result<Stop, AllocError>, out: &mut O, err: &mut E) -> u8
+    ensures { LineIsWritten line (sink_change O.written O.faults out.old out.new) (sink_change E.written E.faults err.old err.new) result }
+{
+    match line {
+        Ok(stop) => write_stop(&stop, out, err),
+        Err(_) => Status::NoMemory.code(),
+    }
+}
+
+// Whether what is asked runs on threads of its own.
+fn is_threaded(ask: Ask) -> bool
+    ensures { IsTrue result ↔ IsThreaded ask }
+{
+    match ask {
+        Ask::Run { pool, .. } => !matches!(pool, Pool::Serial),
+        Ask::Demo { .. } => true,
+        Ask::Check | Ask::Choices | Ask::Tune { .. } => false,
     }
 }
 
 /// Does a command that needs no thread, and answers its status: 0 with a text on `out`, another with a line
-/// on `err`, 9 and 10 for a file that couldn't be read and a sink that refused, 11 for want of memory. `words`
-/// are those after the program's name. It waits for nobody; None would ask for threads.
-#[tactic(auto, using(crate::proofs::EndLemmas::answer_ends, crate::proofs::EndLemmas::memory_ends))]
+/// on `err`, 9 and 10 for a file that couldn't be read and a sink that refused, 11 where memory ran out. `words`
+/// are those after the program's name. It waits for nobody. None, with nothing done, exactly where the words ask for
+/// `demo`, or for `run` with a pool other than `serial`.
 pub fn pb_alone<S: Shelf, O: Sink, E: Sink>(
     alloc: Global,
     words: &[String],
@@ -48,18 +77,24 @@ pub fn pb_alone<S: Shelf, O: Sink, E: Sink>(
     out: &mut O,
     err: &mut E,
 ) -> Option<u8>
-    ensures some { IsSome result }
-    ensures ends { IfSome result (Ends (map string_bytes words.now) (shelf_change S.files S.faults S.taken shelf.old shelf.new)
+    ensures none { IfNone result (NeedsThreads (map string_bytes words.now)) }
+    ensures some { IfSome result (λ status. NeedsThreads (map string_bytes words.now) → ⊥) }
+    ensures idle { IfNone result ((shelf.new ≡ shelf.old) × (out.new ≡ out.old) × (err.new ≡ err.old)) }
+    ensures ends { IfSome result (Ends (map string_bytes words.now) (shelf_change S.files S.faults S.taken S.asked shelf.old shelf.new)
         (sink_change O.written O.faults out.old out.new) (sink_change E.written E.faults err.old err.new)) }
 {
-    match work(alloc, words, shelf) {
-        Ok(answer) => Some(write_answer(&answer, out, err)),
-        Err(_) => Some(NO_MEMORY),
+    let Some((ask, place)) = read_words(words) else {
+        return Some(write_line(usage(alloc), out, err));
+    };
+    if is_threaded(ask) {
+        return None;
     }
+    let found = work(alloc, ask, &words[place..], shelf);
+    Some(write(&found, out, err))
 }
 
 /// Does all that the program does, and answers its status, as `pb_alone` says. `rt` starts the threads of the
-/// commands that need them, of which there are none yet.
+/// commands that need them, of which none is built.
 pub fn pb_command<R: Threads + Wait + Sync, S: Shelf, O: Sink, E: Sink>(
     _rt: &R,
     alloc: Global,
@@ -68,8 +103,11 @@ pub fn pb_command<R: Threads + Wait + Sync, S: Shelf, O: Sink, E: Sink>(
     out: &mut O,
     err: &mut E,
 ) -> u8
-    ensures ends { Ends (map string_bytes words.now) (shelf_change S.files S.faults S.taken shelf.old shelf.new)
+    ensures ends { Ends (map string_bytes words.now) (shelf_change S.files S.faults S.taken S.asked shelf.old shelf.new)
         (sink_change O.written O.faults out.old out.new) (sink_change E.written E.faults err.old err.new) result }
 {
-    pb_alone(alloc, words, shelf, out, err).unwrap()
+    match pb_alone(alloc, words, shelf, out, err) {
+        Some(status) => status,
+        None => write_line(not_built(alloc), out, err),
+    }
 }

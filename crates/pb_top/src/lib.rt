@@ -1,23 +1,24 @@
 //! The top call: from the words of the command line and the files of a shelf to the bytes on two sinks.
 //!
 //! In: words, a shelf, two sinks. Out: the status, and the text of the answer on one of the sinks. The one
-//! theorem is the clause `ends` of `pb_command`, and `pb_alone` has the same: `specs/Ends.antt` says how a call
-//! ends, over `specs/Answer.antt`, which says what words and files have for an answer. `check` and one form of
-//! `run` are built.
+//! theorem is the clause `ends` of `pb_command`, and `pb_alone` has the same where it answers: `specs/Ends.antt` says how
+//! a call ends, over `specs/Answer.antt`, which says what words and files have for an answer, by the steps of
+//! `specs/Steps.antt`. `check` and one form of `run` are built. `reply` names the statuses and the lines on `err`, `work`
+//! dispatches, `command` writes.
 #![tactic(auto)]
 
-mod answer;
 mod check;
 mod command;
 mod files;
 mod laws;
-mod line;
 mod one_rule;
 mod program;
 mod put;
 mod refusal;
+mod reply;
 mod run;
 mod tokens;
+mod work;
 
 pub use command::{pb_alone, pb_command};
-pub use laws::{a_checked_text_stays, one_reply};
+pub use laws::{a_checked_text_stays, faultless_calls_answer, one_reply};

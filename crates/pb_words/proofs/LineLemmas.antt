@@ -1,11 +1,11 @@
 -- What is read from a line is what the grammar says of it.
-use Rattle.std.proofs.Common.{◌≡◌, ℕ, suc, ◌+◌, ◌-◌, ◌≤◌, List, [], ◌∷◌, ◌++◌, length, Option, Some, None, option_and_then, option_map, refl, sym, ◌∙◌, ap, arith, length-append}
+use Rattle.std.proofs.Common.{◌≡◌, ℕ, suc, ◌+◌, ◌-◌, ◌≤◌, ◌⊎◌, inl, inr, List, [], ◌∷◌, ◌++◌, length, Option, Some, None, option_and_then, option_map, refl, sym, ◌∙◌, ap, arith, length-append}
 use Rattle.std.proofs.lemmas.Option.{none-some, some_pair_parts}
 use Rattle.pb_words.specs.declared.ask.Ask.{Ask}
 use Rattle.pb_words.specs.declared.options.Settings.{Settings}
 use Rattle.pb_words.specs.Options.{no_settings}
 use Rattle.pb_words.specs.Reading.{options_read, asked}
-use Rattle.pb_words.specs.Line.{Asks, check, choices, run, tune, demo, Line, least_others}
+use Rattle.pb_words.specs.Line.{Asks, check, choices, run, tune, demo, Line, IsInside, least_others}
 use Rattle.pb_words.proofs.OptionLemmas.{options_found, options_are_read}
 use Rattle.pb_words.proofs.AskLemmas.{asks_found, asks_are_read}
 
@@ -74,3 +74,20 @@ no_line words command after read split is none ask place line =
 pub one_reading : (words : List (List ℕ)) (first second : Ask) (place other : ℕ) → Line words first place → Line words second other
     → (first ≡ second) × (place ≡ other)
 one_reading words first second place other one two = some_pair_parts first second place other (sym (line_is_read one) ∙ line_is_read two)
+
+asked_or_not : (command : List ℕ) (after : List (List ℕ)) (s : Settings) (others : List (List ℕ)) (found : Option Ask)
+    → options_read no_settings None after ≡ Some (s, others) → asked command s others ≡ found → IsInside (command ∷ after) ⊎ (IsInside (command ∷ after) → ⊥)
+asked_or_not command after s others (Some ask) e asks =
+    inl (ask, suc (length after) - length others, line_found (command ∷ after) (suc (length after)) command after s others ask refl refl e asks)
+asked_or_not command after s others None e asks =
+    inr (λ inside. no_line (command ∷ after) command after (Some (s, others)) refl e (ap (option_map (λ a. (a, suc (length after) - length others))) asks)
+    inside.0 inside.1 inside.2)
+
+read_or_not : (command : List ℕ) (after : List (List ℕ)) (read : Option (Settings × List (List ℕ))) → options_read no_settings None after ≡ read
+    → IsInside (command ∷ after) ⊎ (IsInside (command ∷ after) → ⊥)
+read_or_not command after None e = inr (λ inside. no_line (command ∷ after) command after None refl e refl inside.0 inside.1 inside.2)
+read_or_not command after (Some (s, others)) e = asked_or_not command after s others (asked command s others) e refl
+
+pub inside_or_not : (words : List (List ℕ)) → IsInside words ⊎ (IsInside words → ⊥)
+inside_or_not [] = inr (λ inside. none-some (inside.0, inside.1) (line_is_read inside.2))
+inside_or_not (command ∷ after) = read_or_not command after (options_read no_settings None after) refl

@@ -40,6 +40,10 @@ pub record Line (words : List (List ℕ)) (ask : Ask) (place : ℕ) : Type 0 whe
   pub asks : Asks command settings others ask
   pub placed : place ≡ suc (length option_words)
 
+-- the words are a line of the grammar
+abbrev pub IsInside : List (List ℕ) → Type 0
+IsInside words = (ask : Ask) × (place : ℕ) × Line words ask place
+
 -- how many other words a command has at least
 abbrev pub least_others : Ask → ℕ
 least_others Check = 1

@@ -1,12 +1,30 @@
-use Rattle.std.proofs.Common.{map, string_bytes}
+use Rattle.std.proofs.Common.{map, string_bytes, refl}
 use Rattle.pb_top.specs.Sinks.{shelf_change, sink_change}
-use Rattle.pb_top.proofs.EndLemmas.{answer_ends}
+use Rattle.pb_top.proofs.ProgramLemmas.{false_true}
+use Rattle.pb_top.proofs.EndLemmas.{usage_ends, work_ends, not_threaded, texts_after}
 use Rattle.pb_top.proofs.command.pb_alone.Goals as goal
 
-pub returns-in-Ok-clause-ends : goal.returns-in-Ok-clause-ends
-returns-in-Ok-clause-ends g c =
-    answer_ends (map string_bytes c.args.words.now) (shelf_change g.S.Shelf.files g.S.Shelf.faults g.S.Shelf.taken c.args.shelf.now c.work.new.shelf)
-    (sink_change g.O.Sink.written g.O.Sink.faults c.args.out.now c.write_answer.new.out)
-    (sink_change g.E.Sink.written g.E.Sink.faults c.args.err.now c.write_answer.new.err)
-    c.in-Ok.answer c.write_answer.result (record { files = c.work.ensures.stays; untaken = c.work.ensures.untaken })
-    c.in-Ok.ensures.answer c.write_answer.ensures
+pub returns-in_default-clause-some : goal.returns-in_default-clause-some
+returns-in_default-clause-some g c = λ threads. c.in_default.ensures.none threads.0 threads.1 threads.2
+
+pub returns-in_default-clause-ends : goal.returns-in_default-clause-ends
+returns-in_default-clause-ends g c =
+    usage_ends (map string_bytes c.args.words.now) (shelf_change g.S.Shelf.files g.S.Shelf.faults g.S.Shelf.taken g.S.Shelf.asked c.args.shelf.now c.args.shelf.now)
+    (sink_change g.O.Sink.written g.O.Sink.faults c.args.out.now c.write_line.new.out)
+    (sink_change g.E.Sink.written g.E.Sink.faults c.args.err.now c.write_line.new.err)
+    c.usage.result c.write_line.result (λ inside. c.in_default.ensures.none inside.0 inside.1 inside.2)
+    (record { files = refl; faults = refl; bytes = refl; asked = refl }) c.usage.ensures c.write_line.ensures
+
+pub returns-clause-some : goal.returns-clause-some
+returns-clause-some g c =
+    not_threaded (map string_bytes c.args.words.now) c.in-Some.ask c.in-Some.place c.in-Some.ensures.found
+    (λ threads. false_true (c.if-is_threaded.ensures.1 threads))
+
+pub returns-clause-ends : goal.returns-clause-ends
+returns-clause-ends g c =
+    work_ends (map string_bytes c.args.words.now) c.in-Some.ask c.in-Some.place c.in-Some.ensures.found
+    (shelf_change g.S.Shelf.files g.S.Shelf.faults g.S.Shelf.taken g.S.Shelf.asked c.args.shelf.now c.work-found.new.shelf)
+    (sink_change g.O.Sink.written g.O.Sink.faults c.args.out.now c.write.new.out)
+    (sink_change g.E.Sink.written g.E.Sink.faults c.args.err.now c.write.new.err)
+    _ c.work-found.result c.write.result (texts_after c.args.words.now c.in-Some.place) c.work-found.ensures.stays c.work-found.ensures.asked
+    c.work-found.ensures.untaken c.work-found.ensures.answer c.write.ensures

@@ -1,0 +1,81 @@
+use crate::first_path::DOUBLE;
+use pb_outside::{MemShelf, MemSink, NotingShelf};
+use pb_top::pb_alone;
+use std::alloc::{AllocError, Global};
+use std::test::Fail;
+
+// A call of `pb_alone`: what it answered, how many bytes the sinks hold then, and the names that the shelf was asked.
+#[derive(Drop)]
+struct Call {
+    status: Option<u8>,
+    written: usize,
+    names: Vec<String>,
+}
+
+fn texts(alloc: Global, words: &str) -> Result<Vec<String>, AllocError> {
+    let mut texts = Vec::new(alloc);
+    for word in words.split(' ') {
+        texts.push(String::from_str(alloc, word)?)?;
+    }
+    Ok(texts)
+}
+
+// The files p, a program of one rule, and a, its input.
+fn files(alloc: Global) -> Result<MemShelf, AllocError> {
+    let mut entries = Vec::new(alloc);
+    let program = Vec::from_slice(alloc, DOUBLE.as_bytes())?;
+    entries.push((String::from_str(alloc, "p")?, program))?;
+    let input = Vec::from_slice(alloc, b"matrix 3\n1 2 3\n")?;
+    entries.push((String::from_str(alloc, "a")?, input))?;
+    Ok(MemShelf::new(entries, Vec::new(alloc)))
+}
+
+fn alone(alloc: Global, words: &str) -> Result<Call, AllocError> {
+    let mut shelf = NotingShelf {
+        inner: files(alloc)?,
+        names: Vec::new(alloc),
+    };
+    let mut out = MemSink::new(alloc, 4096, 4096, Vec::new(alloc))?;
+    let mut err = MemSink::new(alloc, 4096, 4096, Vec::new(alloc))?;
+    let status = pb_alone(alloc, &texts(alloc, words)?, &mut shelf, &mut out, &mut err);
+    Ok(Call {
+        status,
+        written: out.written().len() + err.written().len(),
+        names: shelf.names,
+    })
+}
+
+#[test]
+fn what_asks_for_threads_is_not_done_alone(rt: HostRuntime) -> Result<(), Fail> {
+    for words in [
+        "demo 1 96 4",
+        "run p - Double a",
+        "run --pool locked p - Double a",
+        "run --pool steal --workers 2 p - Double a",
+    ] {
+        let call = alone(rt.alloc(), words)?;
+        assert!(rt; call.status.is_none(), "{words}");
+        assert_eq!(rt; (call.written, call.names.len()), (0, 0), "{words}");
+    }
+    Ok(())
+}
+
+#[test]
+fn what_one_thread_does_takes_its_files_in_order(rt: HostRuntime) -> Result<(), Fail> {
+    let rows: [(&str, u8, &[&str]); 5] = [
+        ("check p", 0, &["p"]),
+        ("run --pool serial p - Double a", 0, &["p", "a"]),
+        ("run --pool serial q - Double a", 14, &["q"]),
+        ("choices p", 12, &[]),
+        ("check", 2, &[]),
+    ];
+    for (words, status, names) in rows {
+        let call = alone(rt.alloc(), words)?;
+        assert_eq!(rt; call.status, Some(status), "{words}");
+        assert_eq!(rt; call.names.len(), names.len(), "{words}");
+        for (name, wanted) in call.names.iter().zip(names) {
+            assert!(rt; name.as_str() == *wanted, "{words}");
+        }
+    }
+    Ok(())
+}
