@@ -13,8 +13,8 @@ pub struct Sizes {
     pub ghost zero_past_count: { IsTrue (is_zero_from count of) },
 }
 
-/// The least size of each variable; the greatest is `SIZE_TOP`. A call that takes ranges asks for a
-/// count of at most 8, and for least sizes of at most `SIZE_TOP`.
+/// The least size of each variable; the greatest is `SIZE_TOP`. A call that looks for greatest values
+/// asks for a count of at most 8, and for least sizes of at most `SIZE_TOP`.
 #[derive(Clone, Copy, PartialEq, Eq, Debug)]
 pub struct Ranges {
     pub count: u8,
