@@ -14,7 +14,7 @@ pub fn one_reply()
         → Answers words (Some files) first → Answers words (Some files) second → first ≡ second }
 {}
 
-/// A law: a call in which no device fails, over files that are told, ends with the status and the bytes of the answer, or for want
+/// A law: a call in which no device fails, over files that are told, ends with the status and the bytes of the answer, or runs out
 /// of memory.
 pub fn faultless_calls_answer()
     ensures { (words : List (List ℕ)) (files : Files) (shelf : ShelfChange) (out err : SinkChange) (status : ℕ) (reply : Reply)
