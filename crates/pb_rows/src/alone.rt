@@ -4,12 +4,13 @@ use pb_top::pb_alone;
 use std::alloc::{AllocError, Global};
 use std::test::Fail;
 
-// A call of `pb_alone`: what it answered, how many bytes the sinks hold then, and the names that the shelf was asked.
+// A call of `pb_alone`: what it answered, how many bytes the sinks hold then, and the names that the shelf was asked, each
+// with a blank after it.
 #[derive(Drop)]
 struct Call {
     status: Option<u8>,
     written: usize,
-    names: Vec<String>,
+    names: String,
 }
 
 fn texts(alloc: Global, words: &str) -> Result<Vec<String>, AllocError> {
@@ -30,6 +31,15 @@ fn files(alloc: Global) -> Result<MemShelf, AllocError> {
     Ok(MemShelf::new(entries, Vec::new(alloc)))
 }
 
+fn listed(alloc: Global, names: &[String]) -> Result<String, AllocError> {
+    let mut text = String::new(alloc);
+    for name in names {
+        text.push_str(name.as_str())?;
+        text.push_str(" ")?;
+    }
+    Ok(text)
+}
+
 fn alone(alloc: Global, words: &str) -> Result<Call, AllocError> {
     let mut shelf = NotingShelf {
         inner: files(alloc)?,
@@ -41,7 +51,7 @@ fn alone(alloc: Global, words: &str) -> Result<Call, AllocError> {
     Ok(Call {
         status,
         written: out.written().len() + err.written().len(),
-        names: shelf.names,
+        names: listed(alloc, &shelf.names)?,
     })
 }
 
@@ -60,22 +70,20 @@ fn what_asks_for_threads_is_not_done_alone(rt: HostRuntime) -> Result<(), Fail> 
     Ok(())
 }
 
+const ALONE: &[(&str, u8, &str)] = &[
+    ("check p", 0, "p "),
+    ("run --pool serial p - Double a", 0, "p a "),
+    ("run --pool serial q - Double a", 14, "q "),
+    ("choices p", 12, ""),
+    ("check", 2, ""),
+];
+
 #[test]
 fn what_one_thread_does_takes_its_files_in_order(rt: HostRuntime) -> Result<(), Fail> {
-    let rows: [(&str, u8, &[&str]); 5] = [
-        ("check p", 0, &["p"]),
-        ("run --pool serial p - Double a", 0, &["p", "a"]),
-        ("run --pool serial q - Double a", 14, &["q"]),
-        ("choices p", 12, &[]),
-        ("check", 2, &[]),
-    ];
-    for (words, status, names) in rows {
+    for (words, status, names) in ALONE {
         let call = alone(rt.alloc(), words)?;
-        assert_eq!(rt; call.status, Some(status), "{words}");
-        assert_eq!(rt; call.names.len(), names.len(), "{words}");
-        for (name, wanted) in call.names.iter().zip(names) {
-            assert!(rt; name.as_str() == *wanted, "{words}");
-        }
+        assert_eq!(rt; call.status, Some(*status), "{words}");
+        assert_eq!(rt; call.names.as_bytes(), names.as_bytes(), "{words}");
     }
     Ok(())
 }

@@ -40,7 +40,7 @@ is_out words shelf keeps reply = ([], keeps.tail reply, sym (append-nil reply.ou
 -- a status that no fault has is an answer's
 pub other_status : (status n : ℕ) → status ≡ n → (n < 9) ⊎ (11 < n) → IsAnswerStatus status
 other_status status n is other =
-    record { no_read_fault = λ e. absurd (omega arith); no_write_fault = λ e. absurd (omega arith); no_want = λ e. absurd (omega arith) }
+    record { no_read_fault = λ e. absurd (omega arith); no_write_fault = λ e. absurd (omega arith); in_memory = λ e. absurd (omega arith) }
 
 module _ (words : List (List ℕ)) (shelf : ShelfChange) (out err : SinkChange) (keeps : Keeps words shelf) where
   -- the text of a reply was put whole
@@ -54,7 +54,7 @@ module _ (words : List (List ℕ)) (shelf : ShelfChange) (out err : SinkChange) 
         answered = λ s. record { reply = reply; answers = answers; shows = shows };
         read_fault = λ e. absurd (plain.no_read_fault e);
         write_fault = λ e. absurd (plain.no_write_fault e);
-        memory = λ e. absurd (plain.no_want e);
+        memory = λ e. absurd (plain.in_memory e);
         files = keeps.files;
         asked = keeps.asked;
         untaken = keeps.untaken;
@@ -83,14 +83,14 @@ module _ (words : List (List ℕ)) (shelf : ShelfChange) (out err : SinkChange) 
   -- memory ran out before anything was put
   memory_ends : (status : ℕ) → status ≡ 11 → IsIdle out → IsIdle err → Ends words shelf out err status
   memory_ends status is idle_out idle_err = record {
-    answered = λ s. absurd (s.no_want is);
+    answered = λ s. absurd (s.in_memory is);
     read_fault = λ e. absurd (omega arith);
     write_fault = λ e. absurd (omega arith);
     memory = λ e. (idle_out.stays, idle_err.stays);
     files = keeps.files;
     asked = keeps.asked;
     untaken = keeps.untaken;
-    sound = λ s. absurd (s.no_want is);
+    sound = λ s. absurd (s.in_memory is);
     steady = λ n. record { of_out = idle_out.steady; of_err = idle_err.steady };
     untouched = λ a b. idle_out.stays;
     silent = λ e. absurd (omega arith);

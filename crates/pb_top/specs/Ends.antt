@@ -68,11 +68,11 @@ pub record AreSteady (out err : SinkChange) : Type 0 where
   pub of_out : IsSteady out
   pub of_err : IsSteady err
 
--- a status that an answer has: neither a failed read, a failed write nor memory that ran out
+-- a status that an answer has: neither a failed read, a failed write nor out of memory
 pub record IsAnswerStatus (status : ℕ) : Type 0 where
   pub no_read_fault : status ≢ 9
   pub no_write_fault : status ≢ 10
-  pub no_want : status ≢ 11
+  pub in_memory : status ≢ 11
 
 -- status 9 is a file that couldn't be read, 10 a sink that refused, 11 that memory ran out, and any other the answer's
 pub record Ends (words : List (List ℕ)) (shelf : ShelfChange) (out err : SinkChange) (status : ℕ) : Type 0 where

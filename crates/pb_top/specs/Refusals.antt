@@ -34,7 +34,7 @@ HasLine (BadSyntax at) = Unit {0}
 HasLine (OverLimit what at) = Unit {0}
 HasLine other = ⊥
 
--- a code with its name, and where the fault is; the line of a later phase comes with the phase, and memory that ran out has none
+-- a code with its name, and where the fault is; the line of a later phase comes with the phase, and out of memory has none
 abbrev pub refusal_line : Refusal → List ℕ
 refusal_line TooLong = codes "P1 TooLong\n"
 refusal_line (BadToken at) = codes "P2 BadToken: " ++ at_byte at

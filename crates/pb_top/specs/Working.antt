@@ -17,7 +17,7 @@ use Rattle.pb_top.specs.declared.reply.Stop.TheVariants.{Memory, Refused, Unread
 abbrev pub IsRefusal : Status → Type 0
 IsRefusal status = (0 < status_code status) × ((status_code status < 9) ⊎ (11 < status_code status))
 
--- the work stops with a reply that the relation says, or memory ran out
+-- the work stops with a reply that the relation says, or out of memory
 abbrev pub StopsWith : (Reply → Type 0) → Stop → Type 0
 StopsWith Says Memory = Unit {0}
 StopsWith Says (Refused status line) = IsRefusal status × Says (refusal_reply status (string_bytes line))
