@@ -1,3 +1,4 @@
 pub mod CanonicalExample
+pub mod FormLemmas
 pub mod TreeLemmas
 pub mod WriterLemmas

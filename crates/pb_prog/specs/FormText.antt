@@ -12,23 +12,25 @@ abbrev pub multiple_text : ℕ → List ℕ → List ℕ → List ℕ
 multiple_text k alone grouped = if k == 1 then alone else decimal k ++ (codes "*" ++ grouped)
 
 -- a part with its sign; nothing where its number is 0
-abbrev pub part_text : ℤ → List ℕ → List ℕ → List ℕ
+unfoldable pub part_text : ℤ → List ℕ → List ℕ → List ℕ
 part_text k alone grouped = if unsigned_abs k == 0 then [] else sign_text k ++ multiple_text (unsigned_abs k) alone grouped
 
 -- `n/2` and the like
-abbrev pub share_text : ℤ → List ℕ → List ℕ → List ℕ
+unfoldable pub share_text : ℤ → List ℕ → List ℕ → List ℕ
 share_text k name share = part_text k (name ++ share) (codes "(" ++ ((name ++ share) ++ codes ")"))
 
 abbrev pub coefficient_at : List ℤ → ℕ → ℤ
 coefficient_at ks i = slice_index_or ks i (pos 0)
 
 -- a size variable's own part, its half, its third and its quarter
-abbrev pub variable_text : Form → ℕ → List ℕ → List ℕ
+abbrev pub parts_text : ℤ → ℤ → ℤ → ℤ → List ℕ → List ℕ
+parts_text whole half third quarter name =
+    part_text whole name name
+    ++ (share_text half name (codes "/2") ++ (share_text third name (codes "/3") ++ share_text quarter name (codes "/4")))
+
+unfoldable pub variable_text : Form → ℕ → List ℕ → List ℕ
 variable_text f i name =
-    part_text (coefficient_at f.whole i) name name
-    ++ (share_text (coefficient_at f.half i) name (codes "/2")
-    ++ (share_text (coefficient_at f.third i) name (codes "/3")
-    ++ share_text (coefficient_at f.quarter i) name (codes "/4")))
+    parts_text (coefficient_at f.whole i) (coefficient_at f.half i) (coefficient_at f.third i) (coefficient_at f.quarter i) name
 
 -- the parts of the variables from a number on, with these names
 abbrev pub variables_text : Form → ℕ → List NameValue → List ℕ

@@ -1,3 +1,4 @@
 pub mod Canonical
+pub mod FormText
 pub mod Spelling
 pub mod Writing

@@ -1,5 +1,5 @@
 ghost use Rattle.std.specs.Prelude.{◌≡◌, ◌++◌, ◌≤◌, ◌<◌, length, codes, decimal, IfOk, OnOk};
-ghost use Rattle.pb_prog.specs.FormText.{sign_text, multiple_text, part_text, share_text, variable_text, variables_text, constant_text, tidied, form_text};
+ghost use Rattle.pb_prog.specs.FormText.{sign_text, multiple_text, part_text, share_text, parts_text, coefficient_at, variable_text, variables_text, constant_text, tidied, form_text};
 
 use itoa::Buffer;
 use pb_linear::Form;
@@ -13,10 +13,10 @@ fn write_number(text: &mut Vec<u8>, value: u64) -> Result<(), AllocError>
     text.extend_from_slice(buffer.format(value).as_bytes())
 }
 
-fn write_sign(text: &mut Vec<u8>, factor: i64) -> Result<(), AllocError>
-    ensures { OnOk result (text.new.items ≡ text.old.items ++ sign_text factor) }
+fn write_sign(text: &mut Vec<u8>, factor: &i64) -> Result<(), AllocError>
+    ensures { OnOk result (text.new.items ≡ text.old.items ++ sign_text factor.now) }
 {
-    if factor < 0 {
+    if *factor < 0 {
         text.extend_from_slice(b"-")
     } else {
         text.extend_from_slice(b"+")
@@ -40,15 +40,16 @@ fn write_multiple(
 }
 
 // A part with its sign, unless it is 0.
+#[tactic(auto, unfolding(crate::specs::FormText::part_text))]
 fn write_part(
     text: &mut Vec<u8>,
-    factor: i64,
+    factor: &i64,
     alone: &[u8],
     grouped: &[u8],
 ) -> Result<(), AllocError>
-    ensures { OnOk result (text.new.items ≡ text.old.items ++ part_text factor alone.now grouped.now) }
+    ensures { OnOk result (text.new.items ≡ text.old.items ++ part_text factor.now alone.now grouped.now) }
 {
-    if factor == 0 {
+    if *factor == 0 {
         return Ok(());
     }
     write_sign(text, factor)?;
@@ -56,14 +57,15 @@ fn write_part(
 }
 
 // A part of a variable's half, third or quarter.
+#[tactic(auto, unfolding(crate::specs::FormText::share_text))]
 fn write_share(
     alloc: Global,
     text: &mut Vec<u8>,
-    factor: i64,
+    factor: &i64,
     name: &[u8],
     share: &[u8],
 ) -> Result<(), AllocError>
-    ensures { OnOk result (text.new.items ≡ text.old.items ++ share_text factor name.now share.now) }
+    ensures { OnOk result (text.new.items ≡ text.old.items ++ share_text factor.now name.now share.now) }
 {
     let mut alone = Vec::new(alloc);
     alone.extend_from_slice(name)?;
@@ -75,7 +77,33 @@ fn write_share(
     write_part(text, factor, &alone, &grouped)
 }
 
+// The parts of a variable.
+fn write_parts(
+    alloc: Global,
+    text: &mut Vec<u8>,
+    whole: &i64,
+    half: &i64,
+    third: &i64,
+    quarter: &i64,
+    name: &[u8],
+) -> Result<(), AllocError>
+    ensures { OnOk result (text.new.items ≡ text.old.items ++ parts_text whole.now half.now third.now quarter.now name.now) }
+{
+    write_part(text, whole, name, name)?;
+    write_share(alloc, text, half, name, b"/2")?;
+    write_share(alloc, text, third, name, b"/3")?;
+    write_share(alloc, text, quarter, name, b"/4")
+}
+
+fn coefficient(row: &[i64; 8], i: usize) -> &i64
+    requires { i < 8 }
+    ensures { result.now ≡ coefficient_at row.now i }
+{
+    &row[i]
+}
+
 // The parts of the variable `i`.
+#[tactic(auto, unfolding(crate::specs::FormText::variable_text))]
 fn write_variable(
     alloc: Global,
     text: &mut Vec<u8>,
@@ -86,10 +114,11 @@ fn write_variable(
     requires { i < 8 }
     ensures { OnOk result (text.new.items ≡ text.old.items ++ variable_text form.now i name.now) }
 {
-    write_part(text, form.whole[i], name, name)?;
-    write_share(alloc, text, form.half[i], name, b"/2")?;
-    write_share(alloc, text, form.third[i], name, b"/3")?;
-    write_share(alloc, text, form.quarter[i], name, b"/4")
+    let whole = coefficient(&form.whole, i);
+    let half = coefficient(&form.half, i);
+    let third = coefficient(&form.third, i);
+    let quarter = coefficient(&form.quarter, i);
+    write_parts(alloc, text, whole, half, third, quarter, name)
 }
 
 #[tactic(auto, using(crate::proofs::FormLemmas::variable_more))]
@@ -108,10 +137,10 @@ fn write_variables(
     Ok(())
 }
 
-fn write_constant(text: &mut Vec<u8>, constant: i64) -> Result<(), AllocError>
-    ensures { OnOk result (text.new.items ≡ text.old.items ++ constant_text constant) }
+fn write_constant(text: &mut Vec<u8>, constant: &i64) -> Result<(), AllocError>
+    ensures { OnOk result (text.new.items ≡ text.old.items ++ constant_text constant.now) }
 {
-    if constant == 0 {
+    if *constant == 0 {
         return Ok(());
     }
     write_sign(text, constant)?;
@@ -136,6 +165,6 @@ pub fn print_form(alloc: Global, form: &Form, names: &[Name]) -> Result<Vec<u8>,
 {
     let mut text = Vec::new(alloc);
     write_variables(alloc, &mut text, form, names)?;
-    write_constant(&mut text, form.constant)?;
+    write_constant(&mut text, &form.constant)?;
     tidy(alloc, &text)
 }

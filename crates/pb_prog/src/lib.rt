@@ -4,6 +4,7 @@
 //! `specs/Spelling.antt` says which tokens a tree has, `specs/Canonical.antt` how tokens are laid out.
 #![tactic(auto)]
 
+mod form;
 mod print;
 
 pub use pb_syntax::{
@@ -11,4 +12,5 @@ pub use pb_syntax::{
     Relation, RuleText, StmtText, TermText, Text, Token, TokenKind, TokenWhat, TransformText,
     UnarySign, UseText, ViewText, kind_of, signs_are_those_listed,
 };
+pub use form::print_form;
 pub use print::print_text;

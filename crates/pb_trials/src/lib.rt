@@ -2,6 +2,8 @@
 #![tactic(auto)]
 
 #[cfg(test)]
+mod forms;
+#[cfg(test)]
 mod linear;
 #[cfg(test)]
 mod matrix;
@@ -9,5 +11,7 @@ mod matrix;
 mod programs;
 #[cfg(test)]
 mod tokens;
+#[cfg(test)]
+mod values;
 #[cfg(test)]
 mod words;
