@@ -7,10 +7,10 @@
 mod form;
 mod print;
 
+pub use form::print_form;
 pub use pb_syntax::{
     CondText, DeclText, ExprText, FormText, Item, Level, MarkText, Name, Operator, Refusal,
     Relation, RuleText, StmtText, TermText, Text, Token, TokenKind, TokenWhat, TransformText,
     UnarySign, UseText, ViewText, kind_of, signs_are_those_listed,
 };
-pub use form::print_form;
 pub use print::print_text;
