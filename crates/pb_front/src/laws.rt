@@ -3,6 +3,7 @@ ghost use Rattle.pb_syntax.specs.declared.refusal.Refusal.{Refusal};
 ghost use Rattle.pb_syntax.specs.Trees.{TransformTree};
 ghost use Rattle.pb_prog.specs.Canonical.{canonical};
 ghost use Rattle.pb_syntax.specs.Places.{unplaced};
+ghost use Rattle.pb_syntax.specs.WithinLimits.{IsWithinLimits};
 ghost use Rattle.pb_front.specs.Reading.{IsRead, IsRefused};
 
 use pb_syntax::MOST_BYTES;
@@ -21,4 +22,9 @@ pub fn a_canonical_text_is_read()
     ensures read { (text : List ℕ) (tree : List TransformTree) → IsRead text tree → length (canonical tree) ≤ MOST_BYTES
         → (again : List TransformTree) × IsRead (canonical tree) again × (unplaced again ≡ unplaced tree) }
     ensures its_own { (text : List ℕ) (tree again : List TransformTree) → IsRead text tree → IsRead (canonical tree) again → canonical again ≡ canonical tree }
+{}
+
+/// A law: a tree that a text is read as is within the limits.
+pub fn a_tree_that_is_read_is_within_limits()
+    ensures { (text : List ℕ) (tree : List TransformTree) → IsRead text tree → IsWithinLimits tree }
 {}

@@ -7,5 +7,7 @@
 mod laws;
 mod read;
 
-pub use laws::{a_canonical_text_is_read, a_text_has_one_reading};
+pub use laws::{
+    a_canonical_text_is_read, a_text_has_one_reading, a_tree_that_is_read_is_within_limits,
+};
 pub use read::read_text;

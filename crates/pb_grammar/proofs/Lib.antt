@@ -10,4 +10,4 @@ mod Steps
 mod StmtLaws
 mod Taken
 mod ViewLaws
-mod Within
+pub mod Within

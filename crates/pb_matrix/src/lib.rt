@@ -13,7 +13,7 @@ mod words;
 mod write;
 
 pub use header::MAX_CELLS;
-pub use laws::written_is_read;
+pub use laws::{the_limit_of_cells_is_this, written_is_read};
 pub use matrix::{Matrix, MatrixRefusal};
 pub use read::read_matrix;
 pub use write::write_matrix;

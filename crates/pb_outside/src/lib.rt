@@ -18,6 +18,6 @@ pub use file_shelf::FileShelf;
 pub use mem_shelf::MemShelf;
 pub use mem_sink::MemSink;
 pub use noting_shelf::NotingShelf;
-pub use shelf::{FILE_LIMIT, Shelf, Take};
+pub use shelf::{FILE_LIMIT, Shelf, Take, the_limit_of_files_is_this};
 pub use sink::{Refused, Sink};
 pub use std_sink::StdSink;

@@ -42,3 +42,8 @@ pub trait Shelf {
         ensures asked { AsksName name.now result (asked self.old) (asked self.new) }
         ensures stays { files self.new ≡ files self.old };
 }
+
+/// A law: a file has at most 96 MiB.
+pub fn the_limit_of_files_is_this()
+    ensures { FILE_LIMIT ≡ 100663296 }
+{}

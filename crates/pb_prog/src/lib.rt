@@ -1,6 +1,7 @@
-//! A program's data, and its canonical text.
+//! A program's data, its canonical text, and the text of forms.
 //!
-//! In: a program's tree, data of `pb_syntax`, which is named again here. Out: the bytes of its canonical text.
+//! In: a program's tree, data of `pb_syntax`, which is named again here; a form over sizes. Out: the bytes of the
+//! canonical text; the form as refusals print it.
 //! `specs/Spelling.antt` says which tokens a tree has, `specs/Canonical.antt` how tokens are laid out.
 #![tactic(auto)]
 

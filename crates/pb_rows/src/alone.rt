@@ -55,26 +55,16 @@ fn alone(alloc: Global, words: &str) -> Result<Call, AllocError> {
     })
 }
 
-#[test]
-fn what_asks_for_threads_is_not_done_alone(rt: HostRuntime) -> Result<(), Fail> {
-    for words in [
-        "demo 1 96 4",
-        "run p - Double a",
-        "run --pool locked p - Double a",
-        "run --pool steal --workers 2 p - Double a",
-    ] {
-        let call = alone(rt.alloc(), words)?;
-        assert!(rt; call.status.is_none(), "{words}");
-        assert_eq!(rt; (call.written, call.names.len()), (0, 0), "{words}");
-    }
-    Ok(())
-}
-
 const ALONE: &[(&str, u8, &str)] = &[
     ("check p", 0, "p "),
     ("run --pool serial p - Double a", 0, "p a "),
     ("run --pool serial q - Double a", 14, "q "),
     ("choices p", 12, ""),
+    ("demo 1 96 4", 12, ""),
+    ("run p - Double a", 12, ""),
+    ("run --pool locked p - Double a", 12, ""),
+    ("run --workers 1 --pool serial p - Double a", 12, ""),
+    ("run --pool serial p - Double", 12, ""),
     ("check", 2, ""),
 ];
 

@@ -43,12 +43,6 @@ fn written_rows() -> [Row; 4] {
             &[("double.pb", DOUBLE), ("a", "matrix 3\n1 2 3\n")],
             "matrix 3\n2 4 6\n",
         ),
-        // Options that don't change what one thread writes.
-        done(
-            "run --workers 4 --depth 0 --pool serial --grain 1 double.pb - Double a",
-            &[("double.pb", DOUBLE), ("a", "matrix 3\n1 2 3\n")],
-            "matrix 3\n2 4 6\n",
-        ),
         done(
             "run --pool serial double.pb - Double a",
             &[

@@ -13,7 +13,7 @@ mod token;
 mod tree;
 
 pub use kind::{TokenKind, is_kind, kind_of, word_kind};
-pub use laws::signs_are_those_listed;
+pub use laws::{signs_are_those_listed, the_limits_are_these};
 pub use limits::{
     MOST_ARGUMENTS, MOST_BYTES, MOST_CONDITIONS, MOST_MATRICES, MOST_MINIMUMS, MOST_NESTING,
     MOST_NUMBER, MOST_RULES, MOST_SIZES, MOST_STATEMENTS, MOST_TARGETS, MOST_TERMS,

@@ -11,14 +11,13 @@ use Rattle.pb_words.specs.declared.ask.Ask.{Ask}
 use Rattle.pb_words.proofs.LineLemmas.{one_reading}
 use Rattle.pb_top.specs.Sinks.{ShelfChange, SinkChange, IsSound, AsksFront, Gains, Stays, IsIdle}
 use Rattle.pb_top.specs.Reply.{Reply, status_code, done_reply, refusal_reply, usage, not_built}
-use Rattle.pb_top.specs.Answer.{taken_words, AskAnswers, Answers, IsTailOf, IsOut, IsFileWord, AreFileWords, IsThreaded, NeedsThreads}
+use Rattle.pb_top.specs.Answer.{taken_words, AskAnswers, Answers, IsTailOf, IsOut, IsFileWord, AreFileWords}
 use Rattle.pb_top.specs.Ends.{IsReadFault, Shows, IsAnswerStatus, AreSteady, AsksInOrder, OutBreaks, ErrBreaks, Ends}
 use Rattle.pb_top.specs.Working.{IsRefusal, StopsWith, ShelfReplies, WritesTo, IsWritten, LineIsWritten}
 use Rattle.pb_top.specs.declared.reply.Status.{Status}
 use Rattle.pb_top.specs.declared.reply.Stop.{Stop}
 use Rattle.pb_top.specs.declared.reply.Stop.TheVariants.{Memory, Refused, Unread}
 use Rattle.pb_top.proofs.FileLemmas.{asks_none}
-use Rattle.pb_top.proofs.WorkLemmas.{threads_answer}
 
 no_bytes : (told : Option (List ℕ)) → told ≡ told_with [] told
 no_bytes None = refl
@@ -168,44 +167,39 @@ asks_nothing names shelf same = subst (AsksFront names shelf.asked_before) (sym 
 
 -- the words are a line
 module _ (words : List (List ℕ)) (ask : Ask) (place : ℕ) (line : Line words ask place) where
-  none_taken : (told : Option Files) → AreFileWords words told [] → taken_words ask (drop place words) ≡ []
+  none_taken : (told : Option Files) → AreFileWords words told [] → taken_words ask place (drop place words) ≡ []
   none_taken told (inl (other, there, again, is)) =
       let same = one_reading words other ask there place again line in
-      sym (is ∙ ap (λ a. taken_words a (drop there words)) same.0 ∙ ap (λ p. taken_words ask (drop p words)) same.1)
+      sym (is ∙ ap (λ a. taken_words a there (drop there words)) same.0 ∙ ap (λ p. taken_words ask p (drop p words)) same.1)
   none_taken told (inr (outside, is)) = absurd (outside (ask, place, line))
 
-  pub inside_keeps : (shelf : ShelfChange) → shelf.now ≡ shelf.before → AsksFront (taken_words ask (drop place words)) shelf.asked_before shelf.asked_now
-      → (taken_words ask (drop place words) ≡ [] → shelf.bytes_now ≡ shelf.bytes_before) → Keeps words shelf
+  pub inside_keeps : (shelf : ShelfChange) → shelf.now ≡ shelf.before → AsksFront (taken_words ask place (drop place words)) shelf.asked_before shelf.asked_now
+      → (taken_words ask place (drop place words) ≡ [] → shelf.bytes_now ≡ shelf.bytes_before) → Keeps words shelf
   inside_keeps shelf files asked untaken = record {
     files = files;
-    asked = record { names = taken_words ask (drop place words); are = inl (ask, place, line, refl); front = asked };
+    asked = record { names = taken_words ask place (drop place words); are = inl (ask, place, line, refl); front = asked };
     untaken = λ none. untaken (none_taken shelf.before none);
     tail = λ reply. inl (ask, place, line, refl);
   }
 
-  pub inside_replies : (shelf : ShelfChange) (found : Result (Vec ℕ Global) Stop) → ShelfReplies (taken_words ask (drop place words)) (AskAnswers ask (drop place words)) shelf found
-      → ShelfReplies (taken_words ask (drop place words)) (Answers words) shelf found
+  pub inside_replies : (shelf : ShelfChange) (found : Result (Vec ℕ Global) Stop) → ShelfReplies (taken_words ask place (drop place words)) (AskAnswers ask place (drop place words)) shelf found
+      → ShelfReplies (taken_words ask place (drop place words)) (Answers words) shelf found
   inside_replies shelf (Ok text) says = (says.0, inl (ask, place, line, says.1))
   inside_replies shelf (Err Memory) says = tt
   inside_replies shelf (Err (Refused code text)) says = (says.0, says.1, inl (ask, place, line, says.2))
   inside_replies shelf (Err (Unread text)) says = says
 
-  -- what is asked needs no threads
-  pub not_threaded : (IsThreaded ask → ⊥) → NeedsThreads words → ⊥
-  not_threaded none (other, there, again, threads) =
-      none (subst IsThreaded (one_reading words other ask there place again line).0 threads)
-
   -- the work on a line, once it was written, ends the call
   pub work_ends : (shelf : ShelfChange) (out err : SinkChange) (others : List (List ℕ)) (found : Result (Vec ℕ Global) Stop) (status : ℕ) → others ≡ drop place words
-      → shelf.now ≡ shelf.before → AsksFront (taken_words ask others) shelf.asked_before shelf.asked_now
-      → (taken_words ask others ≡ [] → shelf.bytes_now ≡ shelf.bytes_before) → ShelfReplies (taken_words ask others) (AskAnswers ask others) shelf found
+      → shelf.now ≡ shelf.before → AsksFront (taken_words ask place others) shelf.asked_before shelf.asked_now
+      → (taken_words ask place others ≡ [] → shelf.bytes_now ≡ shelf.bytes_before) → ShelfReplies (taken_words ask place others) (AskAnswers ask place others) shelf found
       → IsWritten found out err status → Ends words shelf out err status
   work_ends shelf out err others found status is files asked untaken says =
       let after = drop place words in
-      let keeps = inside_keeps shelf files (subst (λ o. AsksFront (taken_words ask o) shelf.asked_before shelf.asked_now) is asked)
-      (subst (λ o. taken_words ask o ≡ [] → shelf.bytes_now ≡ shelf.bytes_before) is untaken) in
-      found_ends words shelf out err keeps (taken_words ask after) found status (λ word here. (ask, place, line, here))
-      (inside_replies shelf found (subst (λ o. ShelfReplies (taken_words ask o) (AskAnswers ask o) shelf found) is says))
+      let keeps = inside_keeps shelf files (subst (λ o. AsksFront (taken_words ask place o) shelf.asked_before shelf.asked_now) is asked)
+      (subst (λ o. taken_words ask place o ≡ [] → shelf.bytes_now ≡ shelf.bytes_before) is untaken) in
+      found_ends words shelf out err keeps (taken_words ask place after) found status (λ word here. (ask, place, line, here))
+      (inside_replies shelf found (subst (λ o. ShelfReplies (taken_words ask place o) (AskAnswers ask place o) shelf found) is says))
 
 -- words outside the grammar
 pub usage_ends : (words : List (List ℕ)) (shelf : ShelfChange) (out err : SinkChange) (line : Result Stop AllocError) (status : ℕ) → (IsInside words → ⊥)
@@ -217,14 +211,6 @@ usage_ends words shelf out err line status outside same =
       untaken = λ none. same.bytes;
       tail = λ reply. inr (outside, refl);
     }) usage line status same.faults (inr (outside, refl))
-
--- what runs on threads of its own isn't built
-pub threads_end : (words : List (List ℕ)) (shelf : ShelfChange) (out err : SinkChange) (line : Result Stop AllocError) (status : ℕ) → NeedsThreads words
-    → Untouched shelf → IfOk line (StopsWith (λ r. r ≡ not_built)) → LineIsWritten line out err status → Ends words shelf out err status
-threads_end words shelf out err line status (ask, place, is, threads) same =
-    line_ends words shelf out err
-    (inside_keeps words ask place is shelf same.files (asks_nothing (taken_words ask (drop place words)) shelf same) (λ none. same.bytes))
-    not_built line status same.faults (inl (ask, place, is, threads_answer ask (drop place words) shelf.before threads))
 
 -- the texts after the place
 pub texts_after : (words : List (String Global)) (place : ℕ) → map string_bytes (take (length words - place) (drop place words)) ≡ drop place (map string_bytes words)

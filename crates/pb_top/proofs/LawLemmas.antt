@@ -88,24 +88,24 @@ one_line (Some line) contents first second left right =
     one_run (content_at contents 0) line.transform line.input (content_at contents 1) first second left right
 one_line None contents first second left right = left ∙ sym right
 
-one_work : (ask : Ask) (others contents : List (List ℕ)) (first second : Reply) → WorkAnswers ask others contents first → WorkAnswers ask others contents second → first ≡ second
-one_work Check others contents first second left right = one_check (content_at contents 0) first second left right
-one_work Choices others contents first second left right = left ∙ sym right
-one_work (Run workers depth grain pool trace) others contents first second left right = one_line (built_run pool trace others) contents first second left right
-one_work (Tune up_to) others contents first second left right = left ∙ sym right
-one_work (Demo seed size workers) others contents first second left right = left ∙ sym right
+one_work : (ask : Ask) (place : ℕ) (others contents : List (List ℕ)) (first second : Reply) → WorkAnswers ask place others contents first → WorkAnswers ask place others contents second → first ≡ second
+one_work Check place others contents first second left right = one_check (content_at contents 0) first second left right
+one_work Choices place others contents first second left right = left ∙ sym right
+one_work (Run workers depth grain pool trace) place others contents first second left right = one_line (built_run place pool trace others) contents first second left right
+one_work (Tune up_to) place others contents first second left right = left ∙ sym right
+one_work (Demo seed size workers) place others contents first second left right = left ∙ sym right
 
-one_asked : (ask : Ask) (others : List (List ℕ)) (files : Files) (first second : Reply) → AskAnswers ask others (Some files) first → AskAnswers ask others (Some files) second
+one_asked : (ask : Ask) (place : ℕ) (others : List (List ℕ)) (files : Files) (first second : Reply) → AskAnswers ask place others (Some files) first → AskAnswers ask place others (Some files) second
     → first ≡ second
-one_asked ask others files =
-    then_one (Takes (Some files) (limited (taken_words ask others))) (WorkAnswers ask others) (takes_one files (limited (taken_words ask others)))
-    (one_work ask others)
+one_asked ask place others files =
+    then_one (Takes (Some files) (limited (taken_words ask place others))) (WorkAnswers ask place others) (takes_one files (limited (taken_words ask place others)))
+    (one_work ask place others)
 
 pub one_reply_lem : (words : List (List ℕ)) (files : Files) (first second : Reply) → Answers words (Some files) first → Answers words (Some files) second → first ≡ second
 one_reply_lem words files first second (inl (ask, place, line, left)) (inl (other, there, again, right)) =
     let same = one_reading words other ask there place again line in
-    let moved = subst (λ p. AskAnswers ask (drop p words) (Some files) second) same.1 (subst (λ a. AskAnswers a (drop there words) (Some files) second) same.0 right) in
-    one_asked ask (drop place words) files first second left moved
+    let moved = subst (λ p. AskAnswers ask p (drop p words) (Some files) second) same.1 (subst (λ a. AskAnswers a there (drop there words) (Some files) second) same.0 right) in
+    one_asked ask place (drop place words) files first second left moved
 one_reply_lem words files first second (inl (ask, place, line, left)) (inr (outside, is)) = absurd (outside (ask, place, line))
 one_reply_lem words files first second (inr (outside, is)) (inl (ask, place, line, right)) = absurd (outside (ask, place, line))
 one_reply_lem words files first second (inr (outside, is)) (inr (outside_too, other_is)) = is ∙ sym other_is

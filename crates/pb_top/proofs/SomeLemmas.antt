@@ -228,20 +228,20 @@ accepts_by : (program : List ℕ) → ((tree : List TransformTree) × IsRead pro
 accepts_by program (inl (tree, read)) = (Ok tree, read)
 accepts_by program (inr (why, refused)) = (Err (refusal_reply Program (refusal_line why)), (why, refused, refl))
 
-work_some : (ask : Ask) (others contents : List (List ℕ)) → (reply : Reply) × WorkAnswers ask others contents reply
-work_some Check others contents =
+work_some : (ask : Ask) (place : ℕ) (others contents : List (List ℕ)) → (reply : Reply) × WorkAnswers ask place others contents reply
+work_some Check place others contents =
     then_some (Accepts (content_at contents 0)) (λ tree reply. reply ≡ done_reply (canonical tree)) (accepts_by (content_at contents 0) (some_reading (content_at contents 0)))
     (λ tree. (done_reply (canonical tree), refl))
-work_some Choices others contents = (not_built, refl)
-work_some (Run workers depth grain pool trace) others contents = line_some (built_run pool trace others) contents
-work_some (Tune up_to) others contents = (not_built, refl)
-work_some (Demo seed size workers) others contents = (not_built, refl)
+work_some Choices place others contents = (not_built, refl)
+work_some (Run workers depth grain pool trace) place others contents = line_some (built_run place pool trace others) contents
+work_some (Tune up_to) place others contents = (not_built, refl)
+work_some (Demo seed size workers) place others contents = (not_built, refl)
 
 answer_by : (words : List (List ℕ)) (files : Files) → Decided (IsInside words) → (reply : Reply) × Answers words (Some files) reply
 answer_by words files (inl (ask, place, line)) =
     let others = drop place words in
-    let some = then_some (Takes (Some files) (limited (taken_words ask others))) (WorkAnswers ask others) (takes_some files (limited (taken_words ask others)))
-    (work_some ask others) in
+    let some = then_some (Takes (Some files) (limited (taken_words ask place others))) (WorkAnswers ask place others) (takes_some files (limited (taken_words ask place others)))
+    (work_some ask place others) in
     (some.0, inl (ask, place, line, some.1))
 answer_by words files (inr outside) = (usage, inr (outside, refl))
 

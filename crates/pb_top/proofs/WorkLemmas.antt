@@ -1,14 +1,10 @@
 -- From the files of a command to its answer.
-use Rattle.std.proofs.Common.{ℕ, List, [], Option, Result, Ok, Err, Vec, inl, refl}
+use Rattle.std.proofs.Common.{ℕ, List, Result, Ok, Err, Vec, inl}
 use Rattle.std.specs.declared.alloc.Global.{Global}
-use Rattle.pb_outside.specs.Shelf.{Files}
-use Rattle.pb_words.specs.declared.ask.Ask.{Ask}
-use Rattle.pb_words.specs.declared.ask.Ask.TheVariants.{Run, Demo}
-use Rattle.pb_words.specs.declared.ask.Pool.TheVariants.{Locked, Steal}
 use Rattle.pb_top.specs.Sinks.{ShelfChange, IsSound}
-use Rattle.pb_top.specs.Reply.{Reply, not_built}
+use Rattle.pb_top.specs.Reply.{Reply}
 use Rattle.pb_top.specs.Steps.{Then, Takes}
-use Rattle.pb_top.specs.Answer.{limited, AskAnswers, IsThreaded}
+use Rattle.pb_top.specs.Answer.{limited}
 use Rattle.pb_top.specs.Working.{Replies, ShelfReplies}
 use Rattle.pb_top.specs.declared.reply.Stop.{Stop}
 use Rattle.pb_top.specs.declared.reply.Stop.TheVariants.{Memory, Refused, Unread}
@@ -20,10 +16,3 @@ files_answer names contents Works shelf (Ok text) sound takes says = (sound, inl
 files_answer names contents Works shelf (Err Memory) sound takes says = tt
 files_answer names contents Works shelf (Err (Refused status line)) sound takes says = (sound, says.0, inl (contents, takes, says.1))
 files_answer names contents Works shelf (Err (Unread line)) sound takes says = absurd says
-
--- what runs on threads of its own isn't built
-pub threads_answer : (ask : Ask) (others : List (List ℕ)) (told : Option Files) → IsThreaded ask → AskAnswers ask others told not_built
-threads_answer (Run workers depth grain Locked trace) others told threads = inl ([], refl, refl)
-threads_answer (Run workers depth grain Steal trace) others told threads = inl ([], refl, refl)
-threads_answer (Demo seed size workers) others told threads = inl ([], refl, refl)
-threads_answer _ others told threads = absurd threads

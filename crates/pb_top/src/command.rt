@@ -1,15 +1,14 @@
-ghost use Rattle.std.specs.Prelude.{◌≡◌, map, IfSome, IfNone, string_bytes, if◌then◌else◌, is_ok, IsTrue, ◌↔◌};
+ghost use Rattle.std.specs.Prelude.{◌≡◌, map, IsSome, IfSome, string_bytes, if◌then◌else◌, is_ok};
 ghost use Rattle.pb_top.specs.Sinks.{shelf_change, sink_change};
 ghost use Rattle.pb_top.specs.Reply.{status_code};
-ghost use Rattle.pb_top.specs.Answer.{IsThreaded, NeedsThreads};
 ghost use Rattle.pb_top.specs.Working.{IsWritten, StopIsWritten, LineIsWritten};
 ghost use Rattle.pb_top.specs.Ends.{Ends};
 
 use crate::put::put_all;
-use crate::reply::{Status, Stop, not_built, usage};
+use crate::reply::{Status, Stop, usage};
 use crate::work::work;
 use pb_outside::{Refused, Shelf, Sink};
-use pb_words::{Ask, Pool, read_words};
+use pb_words::read_words;
 use std::alloc::{AllocError, Global};
 use std::sync::Wait;
 use std::thread::Threads;
@@ -55,21 +54,10 @@ fn write_line<O: Sink, E: Sink>(line: Result<Stop, AllocError>, out: &mut O, err
     }
 }
 
-// Whether what is asked runs on threads of its own.
-fn is_threaded(ask: Ask) -> bool
-    ensures { IsTrue result ↔ IsThreaded ask }
-{
-    match ask {
-        Ask::Run { pool, .. } => !matches!(pool, Pool::Serial),
-        Ask::Demo { .. } => true,
-        Ask::Check | Ask::Choices | Ask::Tune { .. } => false,
-    }
-}
-
 /// Does a command that needs no thread, and answers its status: 0 with a text on `out`, another with a line
 /// on `err`, 9 and 10 for a file that couldn't be read and a sink that refused, 11 where memory ran out. `words`
-/// are those after the program's name. It waits for nobody. None, with nothing done, exactly where the words ask for
-/// `demo`, or for `run` with a pool other than `serial`.
+/// are those after the program's name. It waits for nobody. None would ask for threads, which no command that is built
+/// needs.
 pub fn pb_alone<S: Shelf, O: Sink, E: Sink>(
     alloc: Global,
     words: &[String],
@@ -77,19 +65,14 @@ pub fn pb_alone<S: Shelf, O: Sink, E: Sink>(
     out: &mut O,
     err: &mut E,
 ) -> Option<u8>
-    ensures none { IfNone result (NeedsThreads (map string_bytes words.now)) }
-    ensures some { IfSome result (λ status. NeedsThreads (map string_bytes words.now) → ⊥) }
-    ensures idle { IfNone result ((shelf.new ≡ shelf.old) × (out.new ≡ out.old) × (err.new ≡ err.old)) }
+    ensures some { IsSome result }
     ensures ends { IfSome result (Ends (map string_bytes words.now) (shelf_change S.files S.faults S.taken S.asked shelf.old shelf.new)
         (sink_change O.written O.faults out.old out.new) (sink_change E.written E.faults err.old err.new)) }
 {
     let Some((ask, place)) = read_words(words) else {
         return Some(write_line(usage(alloc), out, err));
     };
-    if is_threaded(ask) {
-        return None;
-    }
-    let found = work(alloc, ask, &words[place..], shelf);
+    let found = work(alloc, ask, place, &words[place..], shelf);
     Some(write(&found, out, err))
 }
 
@@ -106,8 +89,5 @@ pub fn pb_command<R: Threads + Wait + Sync, S: Shelf, O: Sink, E: Sink>(
     ensures ends { Ends (map string_bytes words.now) (shelf_change S.files S.faults S.taken S.asked shelf.old shelf.new)
         (sink_change O.written O.faults out.old out.new) (sink_change E.written E.faults err.old err.new) result }
 {
-    match pb_alone(alloc, words, shelf, out, err) {
-        Some(status) => status,
-        None => write_line(not_built(alloc), out, err),
-    }
+    pb_alone(alloc, words, shelf, out, err).unwrap()
 }

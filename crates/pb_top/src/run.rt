@@ -12,6 +12,9 @@ use pb_words::Pool;
 use std::alloc::Global;
 use std::marker::Model;
 
+// The place of the words after `run --pool serial`.
+const OTHERS_AFTER_POOL: usize = 3;
+
 /// The words of a run on one thread, without a configuration and over one input.
 #[derive(Drop)]
 pub struct RunLine<'a> {
@@ -28,11 +31,11 @@ impl<'a> Model for RunLine<'a> {
     ghost view = { λ line. record { program = line.program.now; transform = line.transform.now; input = line.input.now } };
 }
 
-/// The words of a run that is built, of the words after the options.
-pub fn read_run(pool: Pool, trace: bool, others: &[String]) -> Option<RunLine<'_>>
-    ensures { result ≡ built_run pool trace (map string_bytes others.now) }
+/// The words of a run that is built, of the words after the options, from their place on.
+pub fn read_run(place: usize, pool: Pool, trace: bool, others: &[String]) -> Option<RunLine<'_>>
+    ensures { result ≡ built_run place pool trace (map string_bytes others.now) }
 {
-    if trace || !matches!(pool, Pool::Serial) {
+    if place != OTHERS_AFTER_POOL || trace || !matches!(pool, Pool::Serial) {
         return None;
     }
     match others {

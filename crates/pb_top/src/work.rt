@@ -34,12 +34,17 @@ fn run_names<'a>(alloc: Global, line: &Option<RunLine<'a>>) -> Result<Vec<&'a st
 }
 
 // The words that name the files of what is asked, in order; what isn't built takes none.
-fn file_names<'a>(alloc: Global, ask: Ask, others: &'a [String]) -> Result<Vec<&'a str>, AllocError>
-    ensures { IfOk result (λ names. texts_of names.items ≡ taken_words ask (map string_bytes others.now)) }
+fn file_names<'a>(
+    alloc: Global,
+    ask: Ask,
+    place: usize,
+    others: &'a [String],
+) -> Result<Vec<&'a str>, AllocError>
+    ensures { IfOk result (λ names. texts_of names.items ≡ taken_words ask place (map string_bytes others.now)) }
 {
     match ask {
         Ask::Check => first_name(alloc, others),
-        Ask::Run { pool, trace, .. } => run_names(alloc, &read_run(pool, trace, others)),
+        Ask::Run { pool, trace, .. } => run_names(alloc, &read_run(place, pool, trace, others)),
         Ask::Choices | Ask::Tune { .. } | Ask::Demo { .. } => Ok(Vec::new(alloc)),
     }
 }
@@ -62,34 +67,41 @@ fn run(alloc: Global, line: &Option<RunLine<'_>>, contents: &[Vec<u8>]) -> Resul
 }
 
 // The answer to what is asked over the bytes of its files.
-fn answer(alloc: Global, ask: Ask, others: &[String], contents: &[Vec<u8>]) -> Result<Vec<u8>, Stop>
+fn answer(
+    alloc: Global,
+    ask: Ask,
+    place: usize,
+    others: &[String],
+    contents: &[Vec<u8>],
+) -> Result<Vec<u8>, Stop>
     requires enough { least_others ask ≤ length others.now }
-    requires all { length contents.now ≡ length (taken_words ask (map string_bytes others.now)) }
-    ensures { Replies (WorkAnswers ask (map string_bytes others.now) (contents_of contents.now)) result }
+    requires all { length contents.now ≡ length (taken_words ask place (map string_bytes others.now)) }
+    ensures { Replies (WorkAnswers ask place (map string_bytes others.now) (contents_of contents.now)) result }
 {
     match ask {
         Ask::Check => check(alloc, &contents[0]),
-        Ask::Run { pool, trace, .. } => run(alloc, &read_run(pool, trace, others), contents),
+        Ask::Run { pool, trace, .. } => run(alloc, &read_run(place, pool, trace, others), contents),
         Ask::Choices | Ask::Tune { .. } | Ask::Demo { .. } => Err(not_built(alloc)?),
     }
 }
 
-/// The work of what is asked, over the words after the options and the files of a shelf: a text for `out`, or why there is
+/// The work of what is asked, over the words after the options, from their place on, and the files of a shelf: a text for `out`, or why there is
 /// none.
 pub fn work<S: Shelf>(
     alloc: Global,
     ask: Ask,
+    place: usize,
     others: &[String],
     shelf: &mut S,
 ) -> Result<Vec<u8>, Stop>
     requires { least_others ask ≤ length others.now }
-    ensures answer { ShelfReplies (taken_words ask (map string_bytes others.now)) (AskAnswers ask (map string_bytes others.now))
+    ensures answer { ShelfReplies (taken_words ask place (map string_bytes others.now)) (AskAnswers ask place (map string_bytes others.now))
         (shelf_change S.files S.faults S.taken S.asked shelf.old shelf.new) result }
     ensures stays { S.files shelf.new ≡ S.files shelf.old }
-    ensures asked { AsksFront (taken_words ask (map string_bytes others.now)) (S.asked shelf.old) (S.asked shelf.new) }
-    ensures untaken { taken_words ask (map string_bytes others.now) ≡ [] → S.taken shelf.new ≡ S.taken shelf.old }
+    ensures asked { AsksFront (taken_words ask place (map string_bytes others.now)) (S.asked shelf.old) (S.asked shelf.new) }
+    ensures untaken { taken_words ask place (map string_bytes others.now) ≡ [] → S.taken shelf.new ≡ S.taken shelf.old }
 {
-    let names = file_names(alloc, ask, others)?;
+    let names = file_names(alloc, ask, place, others)?;
     let contents = fetch_all(alloc, shelf, &names)?;
-    answer(alloc, ask, others, &contents)
+    answer(alloc, ask, place, others, &contents)
 }

@@ -1,11 +1,7 @@
 use Rattle.std.proofs.Common.{map, string_bytes, refl}
 use Rattle.pb_top.specs.Sinks.{shelf_change, sink_change}
-use Rattle.pb_top.proofs.ProgramLemmas.{false_true}
-use Rattle.pb_top.proofs.EndLemmas.{usage_ends, work_ends, not_threaded, texts_after}
+use Rattle.pb_top.proofs.EndLemmas.{usage_ends, work_ends, texts_after}
 use Rattle.pb_top.proofs.command.pb_alone.Goals as goal
-
-pub returns-in_default-clause-some : goal.returns-in_default-clause-some
-returns-in_default-clause-some g c = λ threads. c.in_default.ensures.none threads.0 threads.1 threads.2
 
 pub returns-in_default-clause-ends : goal.returns-in_default-clause-ends
 returns-in_default-clause-ends g c =
@@ -14,11 +10,6 @@ returns-in_default-clause-ends g c =
     (sink_change g.E.Sink.written g.E.Sink.faults c.args.err.now c.write_line.new.err)
     c.usage.result c.write_line.result (λ inside. c.in_default.ensures.none inside.0 inside.1 inside.2)
     (record { files = refl; faults = refl; bytes = refl; asked = refl }) c.usage.ensures c.write_line.ensures
-
-pub returns-clause-some : goal.returns-clause-some
-returns-clause-some g c =
-    not_threaded (map string_bytes c.args.words.now) c.in-Some.ask c.in-Some.place c.in-Some.ensures.found
-    (λ threads. false_true (c.if-is_threaded.ensures.1 threads))
 
 pub returns-clause-ends : goal.returns-clause-ends
 returns-clause-ends g c =

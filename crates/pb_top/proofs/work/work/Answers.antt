@@ -12,7 +12,7 @@ returns-clause-answer g c =
     let others = map string_bytes c.args.others.now in
     let contents = contents_of c.in_ok-contents.contents.items in
     let taken = c.in_ok-contents.ensures.taken in
-    files_answer (taken_words c.args.ask others) contents (WorkAnswers c.args.ask others)
+    files_answer (taken_words c.args.ask c.args.place others) contents (WorkAnswers c.args.ask c.args.place others)
     (shelf_change g.S.Shelf.files g.S.Shelf.faults g.S.Shelf.taken g.S.Shelf.asked c.args.shelf.now c.fetch_all.new.shelf) c.answer.result taken.0
     (subst (λ names. Takes (g.S.Shelf.files c.args.shelf.now) (limited names) (Ok contents)) (ap texts_of c.deref.ensures.value ∙ c.in_ok-names.ensures) taken.1)
-    (subst (λ items. Replies (WorkAnswers c.args.ask others (contents_of items)) c.answer.result) c.deref-2.ensures.value c.answer.ensures)
+    (subst (λ items. Replies (WorkAnswers c.args.ask c.args.place others (contents_of items)) c.answer.result) c.deref-2.ensures.value c.answer.ensures)
