@@ -36,7 +36,7 @@ fn unbuilt(words: &'static str, files: &'static [(&'static str, &'static str)]) 
     }
 }
 
-fn written_rows() -> [Row; 4] {
+fn written_rows() -> [Row; 3] {
     [
         done(
             "run --pool serial double.pb - Double a",
