@@ -10,7 +10,7 @@ use Rattle.pb_words.specs.Line.{Line, IsInside}
 use Rattle.pb_words.specs.declared.ask.Ask.{Ask}
 use Rattle.pb_words.proofs.LineLemmas.{one_reading}
 use Rattle.pb_top.specs.Sinks.{ShelfChange, SinkChange, IsSound, AsksFront, Gains, Stays, IsIdle}
-use Rattle.pb_top.specs.Reply.{Reply, status_code, done_reply, refusal_reply, usage, not_built}
+use Rattle.pb_top.specs.Reply.{Reply, status_code, done_reply, refusal_reply, usage}
 use Rattle.pb_top.specs.Answer.{taken_words, AskAnswers, Answers, IsTailOf, IsOut, IsFileWord, AreFileWords}
 use Rattle.pb_top.specs.Ends.{IsReadFault, Shows, IsAnswerStatus, AreSteady, AsksInOrder, OutBreaks, ErrBreaks, Ends}
 use Rattle.pb_top.specs.Working.{IsRefusal, StopsWith, ShelfReplies, WritesTo, IsWritten, LineIsWritten}
