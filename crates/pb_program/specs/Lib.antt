@@ -5,3 +5,6 @@ pub mod Plans
 pub mod Rules
 pub mod Transforms
 pub mod Trees
+pub mod Conditions
+pub mod Areas
+pub mod WellFormed

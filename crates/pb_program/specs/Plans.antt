@@ -1,7 +1,17 @@
--- What contracts see of plans.
-use Rattle.std.specs.Prelude.{ℕ, List}
+-- What contracts see of plans, and which statements a plan has.
+use Rattle.std.specs.Prelude.{ℕ, List, [], ◌∷◌, Option, Some, None}
+use Rattle.pb_program.specs.declared.meaning.Meaning.{Meaning}
+use Rattle.pb_program.specs.declared.meaning.Meaning.TheVariants as meaning
+use Rattle.pb_program.specs.declared.meaning.Named.{Named}
+use Rattle.pb_program.specs.declared.meaning.Callee.{Callee}
+use Rattle.pb_program.specs.declared.meaning.Callee.TheVariants as callee
 use Rattle.pb_program.specs.declared.plan.Slot.{Slot}
-use Rattle.pb_program.specs.declared.transform.Decl.{Decl}
+use Rattle.pb_program.specs.declared.plan.Slot.TheVariants as slot
+use Rattle.pb_program.specs.Exprs.{ExprValue, ExprValues, no_exprs, an_expr}
+use Rattle.pb_program.specs.Exprs as e
+use Rattle.pb_program.specs.Stmts.{StmtValue}
+use Rattle.pb_program.specs.Stmts as s
+use Rattle.pb_program.specs.Forms.{DeclValue}
 
 pub record PlanCallValue : Type 0 where
   pub transform : ℕ
@@ -9,5 +19,63 @@ pub record PlanCallValue : Type 0 where
   pub arguments : List Slot
 
 pub record PlanValue : Type 0 where
-  pub locals : List Decl
+  pub locals : List DeclValue
   pub calls : List PlanCallValue
+
+-- the matrix that a name names
+abbrev pub slot_of : Meaning → Option Slot
+slot_of (meaning.Output k) = Some (slot.Out k)
+slot_of (meaning.Read k) = Some (slot.Read k)
+slot_of (meaning.Matrix k) = Some (slot.Local k)
+slot_of _ = None
+
+-- the matrix that an argument names, if it is a name
+abbrev pub argument_slot : ExprValue → Option Slot
+argument_slot (e.name n) = slot_of n.what
+argument_slot _ = None
+
+-- all of them, if each is there
+abbrev pub put_slot : Option Slot → Option (List Slot) → Option (List Slot)
+put_slot (Some x) (Some rest) = Some (x ∷ rest)
+put_slot _ _ = None
+
+abbrev pub target_slots : List Named → Option (List Slot)
+target_slots [] = Some []
+target_slots (n ∷ rest) = put_slot (slot_of n.what) (target_slots rest)
+
+abbrev pub argument_slots : List ExprValue → Option (List Slot)
+argument_slots [] = Some []
+argument_slots (x ∷ rest) = put_slot (argument_slot x) (argument_slots rest)
+
+abbrev pub items : ExprValues → List ExprValue
+items no_exprs = []
+items (an_expr x rest) = x ∷ items rest
+
+abbrev pub call_by : ℕ → Option (List Slot) → Option (List Slot) → Option PlanCallValue
+call_by t (Some targets) (Some arguments) = Some (record { transform = t; targets = targets; arguments = arguments })
+call_by t _ _ = None
+
+abbrev pub transform_call : Callee → Option (List Slot) → Option (List Slot) → Option PlanCallValue
+transform_call (callee.Transform t) targets arguments = call_by t targets arguments
+transform_call (callee.Function f) targets arguments = None
+
+-- the call of a transform that an expression is
+abbrev pub called_by : Named → ExprValue → Option PlanCallValue
+called_by target (e.call c xs) = transform_call c.what (target_slots (target ∷ [])) (argument_slots (items xs))
+called_by target _ = None
+
+-- the call that a statement is
+abbrev pub call_of : StmtValue → Option PlanCallValue
+call_of (s.assign target x) = called_by target x
+call_of (s.call_stmt targets c xs) = transform_call c.what (target_slots targets) (argument_slots xs)
+call_of _ = None
+
+-- the calls, if each statement is a call of a transform or declares a matrix
+abbrev pub put_call : Option PlanCallValue → Option (List PlanCallValue) → Option (List PlanCallValue)
+put_call (Some c) (Some rest) = Some (c ∷ rest)
+put_call _ _ = None
+
+abbrev pub calls_of : List StmtValue → Option (List PlanCallValue)
+calls_of [] = Some []
+calls_of (s.let_matrix at n dims ∷ rest) = calls_of rest
+calls_of (x ∷ rest) = put_call (call_of x) (calls_of rest)

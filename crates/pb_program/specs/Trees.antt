@@ -3,7 +3,7 @@ use Rattle.std.specs.Prelude.{ℕ, List, Option, map}
 use Rattle.pb_linear.specs.declared.sizes.Ranges.{Ranges}
 use Rattle.pb_values.specs.Name.{NameValue}
 use Rattle.pb_program.specs.declared.rule.RuleKind.{RuleKind}
-use Rattle.pb_program.specs.declared.transform.Decl.{Decl}
+use Rattle.pb_program.specs.Forms.{DeclValue}
 use Rattle.pb_program.specs.declared.view.Cond.{Cond}
 use Rattle.pb_program.specs.declared.view.Read.{Read}
 use Rattle.pb_program.specs.Plans.{PlanValue}
@@ -24,7 +24,7 @@ pub record ProgTransform : Type 0 where
   pub name : NameValue
   pub ranges : Ranges
   pub sizes : List NameValue
-  pub matrices : List Decl
+  pub matrices : List DeclValue
   pub inputs : ℕ
   pub middles : ℕ
   pub rules : List ProgRule

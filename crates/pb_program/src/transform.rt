@@ -13,6 +13,15 @@ pub struct Decl {
     pub h: Form,
 }
 
+impl Model for Decl {
+    ghost use Rattle.pb_linear.specs.Form.{numbers};
+    ghost use Rattle.pb_program.specs.Forms.{DeclValue};
+
+    ghost Value = { DeclValue };
+
+    ghost view = { λ d. record { name = d.name; dims = d.dims; w = numbers d.w; h = numbers d.h } };
+}
+
 /// A transform: the names of its size variables with their ranges; its matrices, of which the first `inputs` are given,
 /// the next `middles` are kept and the others are its results; and its rules.
 #[derive(Drop)]
