@@ -1,0 +1,4 @@
+pub mod NamesLemmas
+pub mod FaultLemmas
+pub mod ListLemmas
+pub mod ScopeLemmas

@@ -1,0 +1,11 @@
+//! Names of a program, each with what it names.
+#![tactic(auto)]
+
+mod expression;
+mod fault;
+mod local;
+mod make;
+mod make_statement;
+mod names;
+mod scope;
+mod statement;
