@@ -1,6 +1,7 @@
 -- The first fault of what is read in several steps.
 use Rattle.std.proofs.Common.{◌≡◌, ℕ, ◌+◌, ◌<◌, List, [], ◌∷◌, ◌++◌, length, get_or, drop, map, refl, ap, subst, ◌∙◌, sym, arith, add-one, append_assoc}
 use Rattle.std.proofs.lemmas.List.{map-append}
+use Rattle.std.proofs.lemmas.Grind.{flat_map-append}
 use Rattle.std.specs.List.{flat_map}
 use Rattle.std.proofs.Math.Seq.{drop-cons}
 use Rattle.pb_resolve.specs.declared.fault.Fault.{Fault}
@@ -41,3 +42,17 @@ built_next seen made old new y xs i x before same put within here =
   where
     left : map made (drop i xs) ≡ made x ∷ map made (drop (i + 1) xs)
     left = rw (add-one, drop-cons xs i x) (rw (← here) refl)
+
+-- the faults of four parts, two by two
+module _ {A : Type 0} (faults : A → List Fault) (a b c d : A) where
+  four : flat_map faults (a ∷ b ∷ c ∷ d ∷ []) ≡ flat_map faults (a ∷ b ∷ []) ++ flat_map faults (c ∷ d ∷ [])
+  four = flat_map-append faults (a ∷ b ∷ []) (c ∷ d ∷ [])
+
+  pub four_first : (f : Fault) → Fails f (flat_map faults (a ∷ b ∷ [])) → Fails f (flat_map faults (a ∷ b ∷ c ∷ d ∷ []))
+  four_first f h = subst (Fails f) (sym four) (fails_left f (flat_map faults (a ∷ b ∷ [])) (flat_map faults (c ∷ d ∷ [])) h)
+
+  pub four_second : (f : Fault) → flat_map faults (a ∷ b ∷ []) ≡ [] → Fails f (flat_map faults (c ∷ d ∷ [])) → Fails f (flat_map faults (a ∷ b ∷ c ∷ d ∷ []))
+  four_second f none h = subst (Fails f) (sym four) (fails_right f (flat_map faults (a ∷ b ∷ [])) (flat_map faults (c ∷ d ∷ [])) none h)
+
+  pub four_faultless : flat_map faults (a ∷ b ∷ []) ≡ [] → flat_map faults (c ∷ d ∷ []) ≡ [] → flat_map faults (a ∷ b ∷ c ∷ d ∷ []) ≡ []
+  four_faultless none others = four ∙ ap (λ l. l ++ flat_map faults (c ∷ d ∷ [])) none ∙ others

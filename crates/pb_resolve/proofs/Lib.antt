@@ -2,3 +2,4 @@ pub mod NamesLemmas
 pub mod FaultLemmas
 pub mod ListLemmas
 pub mod ScopeLemmas
+pub mod SumLemmas

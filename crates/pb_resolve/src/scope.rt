@@ -79,6 +79,13 @@ impl<'t, 'p> Scope<'t, 'p> {
     ghost use Rattle.pb_resolve.specs.Names.{look};
     ghost use Rattle.pb_resolve.specs.Bodies.{named, called, use_faults, called_faults, declared_faults};
 
+    /// What a name names, if it is visible.
+    pub(crate) fn meaning(&self, name: &Name) -> Option<Meaning>
+        ensures { result ≡ look name.now.bytes self.now.names }
+    {
+        self.names.find(name.bytes())
+    }
+
     /// What a name names.
     pub(crate) fn named(&self, name: &Name) -> Result<Named, Fault>
         ensures found { IfOk result (λ n. n ≡ named self.now name.now) }
