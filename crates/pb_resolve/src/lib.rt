@@ -8,6 +8,7 @@ mod make;
 mod matrices;
 mod make_statement;
 mod names;
+mod reads;
 mod scope;
 mod statement;
 mod sum;

@@ -1,6 +1,47 @@
+use crate::names::Names;
+use std::marker::Model;
+
 /// A declared matrix: its number, from 0, and its number of dimensions.
 #[derive(Clone, Copy)]
 pub struct Matrix {
     pub number: u32,
     pub dims: u8,
+}
+
+/// The matrices of a transform by their names; the first `inputs` are given.
+#[derive(Drop)]
+pub(crate) struct Matrices<'t> {
+    names: Names<'t, Matrix>,
+    inputs: u32,
+}
+
+impl<'t> Model for Matrices<'t> {
+    ghost use Rattle.pb_resolve.specs.Views.{Matrices as Known};
+
+    ghost Value = { Known };
+
+    ghost view = { λ m. record { names = m.names; inputs = m.inputs } };
+}
+
+impl<'t> Matrices<'t> {
+    ghost use Rattle.std.specs.Prelude.{◌≡◌};
+    ghost use Rattle.pb_resolve.specs.Names.{look};
+    ghost use Rattle.pb_resolve.specs.Views.{is_given};
+
+    /// The matrix of this name.
+    pub(crate) fn find(&self, name: &[u8]) -> Option<Matrix>
+        ensures { result ≡ look name.now self.now.names }
+    {
+        self.names.find(name)
+    }
+
+    /// Whether a matrix is given to the transform.
+    pub(crate) fn is_given(&self, matrix: Option<Matrix>) -> bool
+        ensures { result ≡ is_given self.now matrix }
+    {
+        match matrix {
+            Some(matrix) => matrix.number < self.inputs,
+            None => false,
+        }
+    }
 }

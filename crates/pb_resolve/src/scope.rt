@@ -76,6 +76,7 @@ fn function_of(name: &[u8]) -> Option<Function>
 impl<'t, 'p> Scope<'t, 'p> {
     ghost use Rattle.std.specs.Prelude.{◌+◌, [], ◌∷◌, ◌++◌, None, IfErr, OnOk, take, length};
     ghost use Rattle.pb_resolve.specs.Faults.{Fails};
+    ghost use Rattle.pb_resolve.specs.declared.fault.Fault.TheVariants.{Memory};
     ghost use Rattle.pb_resolve.specs.Names.{look};
     ghost use Rattle.pb_resolve.specs.Bodies.{named, called, use_faults, called_faults, declared_faults};
 
@@ -145,6 +146,17 @@ impl<'t, 'p> Scope<'t, 'p> {
         ensures { result ≡ self.now.locals }
     {
         self.locals
+    }
+
+    /// Adds a name that isn't visible.
+    pub(crate) fn add(&mut self, name: &'t Name, what: Meaning) -> Result<(), Fault>
+        requires { look name.now.bytes self.old.names ≡ None }
+        ensures added { OnOk result (self.new ≡ record { transforms = self.old.transforms;
+            names = self.old.names ++ (name.now.bytes, what) ∷ []; locals = self.old.locals }) }
+        ensures refused { IfErr result (λ f. f ≡ Memory) }
+    {
+        self.names.add(name.bytes(), what)?;
+        Ok(())
     }
 
     /// Adds a local.

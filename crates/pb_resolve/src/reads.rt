@@ -1,0 +1,159 @@
+ghost use Rattle.std.specs.Prelude.{◌≡◌, ◌+◌, ◌^◌, ◌≤◌, ◌<◌, [], ◌∷◌, ◌++◌, IfOk, IfErr, OnOk, length};
+ghost use Rattle.std.specs.List.{AllByRecursion};
+ghost use Rattle.pb_program.specs.Forms.{nothing};
+ghost use Rattle.pb_syntax.specs.WithinLimits.{CondWithin, UseWithin, ViewWithin};
+ghost use Rattle.pb_resolve.specs.Faults.{Fails};
+ghost use Rattle.pb_resolve.specs.Views.{bind, bound_faults, cond_faults, cond_of, is_matrix, read_faults, read_of, view_of};
+
+use crate::fault::Fault;
+use crate::matrices::{Matrices, Matrix};
+use crate::scope::{Scope, copy_name};
+use crate::sum::Sum;
+use pb_linear::{Form, VForm};
+use pb_program::{Cond, Coordinate, Meaning, Read, ReadView};
+use pb_syntax::{CondText, UseText, ViewText};
+use pb_values::Name;
+
+/// A coordinate that a view doesn't have.
+fn nothing() -> Coordinate
+    ensures { result ≡ nothing }
+{
+    Sum::new().into_coordinate()
+}
+
+impl<'t, 'p> Scope<'t, 'p> {
+    /// Adds a name of a view or a rule variable.
+    #[tactic(auto, using(crate::proofs::FaultLemmas::fails_memory))]
+    pub(crate) fn bind(
+        &mut self,
+        matrices: &Matrices<'t>,
+        name: &'t Name,
+        what: Meaning,
+    ) -> Result<(), Fault>
+        ensures bound { OnOk result (self.new ≡ bind self.old name.now what) }
+        ensures faultless { OnOk result (bound_faults matrices.now self.old name.now ≡ []) }
+        ensures refused { IfErr result (λ f. Fails f (bound_faults matrices.now self.old name.now)) }
+    {
+        if matrices.find(name.bytes()).is_some() {
+            return Err(Fault::Duplicate(copy_name(self.alloc, name)?));
+        }
+        if self.meaning(name).is_some() {
+            return Err(Fault::Duplicate(copy_name(self.alloc, name)?));
+        }
+        self.add(name, what)
+    }
+
+    /// The view of a matrix.
+    pub(crate) fn view_of(&self, matrix: Matrix, u: &UseText) -> Read
+        requires { ViewWithin u.now.view }
+        ensures { result ≡ view_of self.now.names matrix u.now }
+    {
+        let at = u.matrix.at();
+        match &u.view {
+            ViewText::Whole => Read {
+                matrix: matrix.number,
+                at,
+                view: ReadView::Whole,
+                dims: matrix.dims,
+                x0: nothing(),
+                y0: nothing(),
+                x1: nothing(),
+                y1: nothing(),
+            },
+            ViewText::Cell { x, y: None } => Read {
+                matrix: matrix.number,
+                at,
+                view: ReadView::Cell,
+                dims: 1,
+                x0: self.collected(x),
+                y0: nothing(),
+                x1: nothing(),
+                y1: nothing(),
+            },
+            ViewText::Cell { x, y: Some(y) } => Read {
+                matrix: matrix.number,
+                at,
+                view: ReadView::Cell,
+                dims: 2,
+                x0: self.collected(x),
+                y0: self.collected(y),
+                x1: nothing(),
+                y1: nothing(),
+            },
+            ViewText::Row(y) => Read {
+                matrix: matrix.number,
+                at,
+                view: ReadView::Row,
+                dims: 2,
+                x0: nothing(),
+                y0: self.collected(y),
+                x1: nothing(),
+                y1: nothing(),
+            },
+            ViewText::Column(x) => Read {
+                matrix: matrix.number,
+                at,
+                view: ReadView::Column,
+                dims: 2,
+                x0: self.collected(x),
+                y0: nothing(),
+                x1: nothing(),
+                y1: nothing(),
+            },
+            ViewText::Between { low, high } => Read {
+                matrix: matrix.number,
+                at,
+                view: ReadView::Region,
+                dims: 1,
+                x0: self.collected(low),
+                y0: nothing(),
+                x1: self.collected(high),
+                y1: nothing(),
+            },
+            ViewText::Region { x0, y0, x1, y1 } => Read {
+                matrix: matrix.number,
+                at,
+                view: ReadView::Region,
+                dims: 2,
+                x0: self.collected(x0),
+                y0: self.collected(y0),
+                x1: self.collected(x1),
+                y1: self.collected(y1),
+            },
+        }
+    }
+
+    /// Resolves a view that is read.
+    #[tactic(auto, using(crate::proofs::FaultLemmas::fails_left, crate::proofs::FaultLemmas::fails_right, crate::proofs::FaultLemmas::fails_memory))]
+    fn read(&self, matrices: &Matrices<'t>, u: &UseText) -> Result<Read, Fault>
+        requires { ViewWithin u.now.view }
+        ensures found { IfOk result (λ r. r ≡ read_of matrices.now self.now u.now) }
+        ensures faultless { OnOk result (read_faults matrices.now self.now u.now ≡ []) }
+        ensures refused { IfErr result (λ f. Fails f (read_faults matrices.now self.now u.now)) }
+    {
+        match matrices.find(u.matrix.bytes()) {
+            Some(matrix) => {
+                self.view_forms(&u.view)?;
+                Ok(self.view_of(matrix, u))
+            }
+            None => Err(Fault::Unknown(copy_name(self.alloc, &u.matrix)?)),
+        }
+    }
+
+    /// Resolves a condition.
+    #[tactic(auto, using(crate::proofs::FaultLemmas::fails_left, crate::proofs::FaultLemmas::fails_right))]
+    fn condition(&self, c: &CondText) -> Result<Cond, Fault>
+        requires { CondWithin c.now }
+        ensures found { IfOk result (λ r. r ≡ cond_of self.now c.now) }
+        ensures faultless { OnOk result (cond_faults self.now c.now ≡ []) }
+        ensures refused { IfErr result (λ f. Fails f (cond_faults self.now c.now)) }
+    {
+        self.view_form(&c.left)?;
+        self.view_form(&c.right)?;
+        Ok(Cond {
+            left: self.collected(&c.left),
+            relation: c.relation,
+            right: self.collected(&c.right),
+        })
+    }
+}
