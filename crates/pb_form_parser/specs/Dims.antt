@@ -3,13 +3,13 @@ use Rattle.std.specs.Prelude.{◌≡◌, ℕ, List, map, Vec, Option, Some, None
 use Rattle.std.specs.Borrow.{Bor}
 use Rattle.std.specs.declared.alloc.Global.{Global}
 use Rattle.pb_values.specs.Name.{NameValue}
-use Rattle.pb_body_parser.specs.declared.fault.Fault.{Fault}
-use Rattle.pb_body_parser.specs.declared.fault.Fault.TheVariants.{OverLimit}
+use Rattle.pb_form_parser.specs.declared.fault.Fault.{Fault}
+use Rattle.pb_form_parser.specs.declared.fault.Fault.TheVariants.{OverLimit}
 use Rattle.pb_syntax.specs.Forms.{FormValue}
 use Rattle.pb_syntax.specs.Trees.{TransformTree}
 use Rattle.pb_syntax.specs.Limits.{SizeNames, after_form, sizes_in}
 use Rattle.pb_syntax.specs.Limits.{Excess, excess_of}
-use Rattle.pb_body_parser.specs.Leads.{Fails}
+use Rattle.pb_form_parser.specs.Leads.{Fails}
 
 abbrev pub names_of : List NameValue → List (List ℕ)
 names_of ns = map (λ (n : NameValue). n.bytes) ns

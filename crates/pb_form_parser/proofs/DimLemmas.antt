@@ -10,8 +10,8 @@ use Rattle.pb_grammar.specs.Want.{Want, form, after_dim, last_dim}
 use Rattle.pb_syntax.specs.Limits.{SizeNames, after_form}
 use Rattle.pb_grammar.specs.Reading.{Step, Verdict, take, step, on, read}
 use Rattle.pb_syntax.specs.Limits.{Excess, excess_of}
-use Rattle.pb_body_parser.specs.Dims.{excess_told}
-use Rattle.pb_body_parser.specs.Leads.{told}
+use Rattle.pb_form_parser.specs.Dims.{excess_told}
+use Rattle.pb_form_parser.specs.Leads.{told}
 
 dim_step : (t : Token) (known : SizeNames) (e : FormValue) (f : List FormValue → Want) (kind : TokenKind) → kind ≢ Comma
     → step (after_dim known e f) kind t ≡ step (last_dim known e (f (e ∷ []))) kind t

@@ -2,10 +2,10 @@ ghost use Rattle.std.specs.Prelude.{◌≡◌, ◌≢◌, ◌↔◌, ◌∷◌, 
 ghost use Rattle.std.specs.Str.{bytes_eq};
 ghost use Rattle.pb_syntax.specs.Kinds.{kind_of, name_in, number_in};
 ghost use Rattle.pb_syntax.specs.declared.kind.TokenKind.TheVariants.{End};
-ghost use Rattle.pb_body_parser.specs.declared.fault.Fault.TheVariants.{BadSyntax, OverLimit, Memory};
+ghost use Rattle.pb_form_parser.specs.declared.fault.Fault.TheVariants.{BadSyntax, OverLimit, Memory};
 ghost use Rattle.pb_grammar.specs.Next.{next_kind, next_place, word_is, next_is, Sees};
 ghost use Rattle.pb_grammar.specs.Want.{token};
-ghost use Rattle.pb_body_parser.specs.Leads.{Leads, Shortens};
+ghost use Rattle.pb_form_parser.specs.Leads.{Leads, Shortens};
 
 use crate::fault::Fault;
 use pb_syntax::{Item, Name, Token, TokenKind, TokenWhat, is_kind, kind_of};
@@ -98,7 +98,7 @@ impl<'a> Cursor<'a> {
     }
 
     /// Consumes the next token, which must be of this kind.
-    #[tactic(auto, using(crate::proofs::ReadLemmas::bad_kind, crate::proofs::ReadLemmas::seen_kind, crate::proofs::ReadLemmas::seen_next))]
+    #[tactic(auto, using(crate::proofs::NextLemmas::bad_kind, crate::proofs::NextLemmas::seen_kind, crate::proofs::NextLemmas::seen_next))]
     pub fn expect(&mut self, kind: TokenKind) -> Result<&'a Token, Fault>
         requires { kind ≢ End }
         ensures leads { Leads (λ t. t.now) result (token kind) self.old self.new }

@@ -1,9 +1,9 @@
 ghost use Rattle.std.specs.Prelude.{◌≡◌, ◌<◌, ◌≤◌, length, None, OnOk, IfOk, IfErr};
-ghost use Rattle.pb_body_parser.specs.declared.fault.Fault.TheVariants.{Memory};
+ghost use Rattle.pb_form_parser.specs.declared.fault.Fault.TheVariants.{Memory};
 ghost use Rattle.pb_grammar.specs.Want.{form, dims_known, after_dim, last_dim};
 ghost use Rattle.pb_syntax.specs.Limits.{after_form, alone, is_known};
-ghost use Rattle.pb_body_parser.specs.Dims.{name_seen, names_of, sizes_known, after_dims, Counts};
-ghost use Rattle.pb_body_parser.specs.Leads.{Leads, LeadsOn, Shortens};
+ghost use Rattle.pb_form_parser.specs.Dims.{name_seen, names_of, sizes_known, after_dims, Counts};
+ghost use Rattle.pb_form_parser.specs.Leads.{Leads, LeadsOn, Shortens};
 
 use crate::cursor::Cursor;
 use crate::fault::Fault;

@@ -2,7 +2,7 @@ ghost use Rattle.std.specs.Prelude.{◌<◌, length, OnOk};
 ghost use Rattle.pb_syntax.specs.declared.kind.TokenKind.TheVariants.{Name};
 ghost use Rattle.pb_grammar.specs.Want.{token, begin};
 ghost use Rattle.pb_syntax.specs.Limits.{limited};
-ghost use Rattle.pb_body_parser.specs.Leads.{Leads, Shortens};
+ghost use Rattle.pb_form_parser.specs.Leads.{Leads, Shortens};
 
 use crate::cursor::Cursor;
 use crate::fault::Fault;

@@ -2,7 +2,7 @@ use Rattle.std.proofs.Common.{◌≡◌, ◌≤◌, List, [], ◌∷◌, length}
 use Rattle.pb_syntax.specs.declared.tree.form.TermText.{TermText}
 use Rattle.pb_grammar.specs.Want.{Want, more_terms}
 use Rattle.pb_grammar.specs.Reading.{read}
-use Rattle.pb_body_parser.proofs.forms.more_terms.Given as goal
+use Rattle.pb_form_parser.proofs.forms.more_terms.Given as goal
 
 abbrev pub invariant-loop-terms : goal.invariant-loop-terms
 invariant-loop-terms l =

@@ -3,7 +3,7 @@ ghost use Rattle.pb_syntax.specs.declared.refusal.Item.TheVariants.{Terms};
 ghost use Rattle.pb_grammar.specs.Want.{small, divisor, times, quotient, term, more_terms, form, begin};
 ghost use Rattle.pb_syntax.specs.Limits.{over};
 ghost use Rattle.pb_grammar.specs.Reading.{signed_form};
-ghost use Rattle.pb_body_parser.specs.Leads.{Leads, Shortens, NeverGrows};
+ghost use Rattle.pb_form_parser.specs.Leads.{Leads, Shortens, NeverGrows};
 
 use crate::cursor::{Cursor, name_in, number_in};
 use crate::fault::Fault;
