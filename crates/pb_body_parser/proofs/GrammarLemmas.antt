@@ -7,7 +7,7 @@ use Rattle.pb_syntax.specs.declared.kind.TokenKind.TheVariants as k
 use Rattle.pb_syntax.specs.declared.tree.expression.Level.{Level}
 use Rattle.pb_syntax.specs.declared.tree.expression.Level.TheVariants as level
 use Rattle.pb_syntax.specs.declared.refusal.Item.TheVariants as item
-use Rattle.pb_body_parser.specs.declared.fault.Fault.TheVariants.{BadSyntax}
+use Rattle.pb_form_parser.specs.declared.fault.Fault.TheVariants.{BadSyntax}
 use Rattle.pb_syntax.specs.Kinds.{kind_of}
 use Rattle.pb_syntax.specs.Stmts.{StmtTree}
 use Rattle.pb_syntax.specs.Exprs.{ExprTree, call, cell, width, height, parentheses, exprs}
@@ -15,8 +15,8 @@ use Rattle.pb_grammar.specs.Next.{next_kind, next_place, next_is, word_is}
 use Rattle.pb_grammar.specs.Want.{Want, statements, statement, more_targets, called, begin, product, total, compared, conjunction, expression, line, operand, more_operands, coordinates, after_coordinate, some_arguments, arguments, more_arguments, factor, primary, after_name, member, bracket, a_sign}
 use Rattle.pb_syntax.specs.Limits.{over}
 use Rattle.pb_grammar.specs.Reading.{take, refuse, read, step}
-use Rattle.pb_body_parser.specs.Leads.{told, from}
-use Rattle.pb_body_parser.specs.declared.cursor.Cursor.{Cursor}
+use Rattle.pb_form_parser.specs.Leads.{told, from}
+use Rattle.pb_form_parser.specs.declared.cursor.Cursor.{Cursor}
 use Rattle.pb_body_parser.proofs.ReadLemmas.{same_step}
 
 pub line_is : (end : ℕ) (ts : List Token) (l : Level) (d : ℕ) (f : ExprTree → Want) →

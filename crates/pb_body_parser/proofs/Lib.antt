@@ -1,6 +1,2 @@
-pub mod BeginLemmas
-mod DimLemmas
-mod FormLemmas
 mod GrammarLemmas
-mod NextLemmas
-pub mod ReadLemmas
+mod ReadLemmas

@@ -1,39 +1,28 @@
 -- How reading goes on after a mark, and what a refusal says.
 use denote.Enum.Bare.{true_same, false_same}
 use Rattle.pb_syntax.specs.contracts.kind.TokenKind.{the_type}
-use Rattle.std.proofs.Common.{◌≡◌, ◌≢◌, ℕ, true, false, ◌≤◌, ◌<◌, List, [], ◌∷◌, length, Some, None, Result, Ok, Err, Option, refl, sym, subst, ap, ◌∙◌, arith}
+use Rattle.std.proofs.Common.{◌≡◌, ◌≢◌, ℕ, true, false, ◌≤◌, List, [], ◌∷◌, length, Some, None, Result, Ok, Err, Option, refl, sym, ap, ◌∙◌, arith}
 use Rattle.std.proofs.lemmas.Bool.Decides.{nat_tests}
 use Rattle.pb_syntax.specs.declared.token.Token.{Token}
 use Rattle.pb_syntax.specs.declared.kind.TokenKind.{TokenKind}
 use Rattle.pb_syntax.specs.declared.kind.TokenKind.TheVariants as k
 use Rattle.pb_syntax.specs.declared.refusal.Item.{Item}
-use Rattle.pb_body_parser.specs.declared.fault.Fault.{Fault}
-use Rattle.pb_body_parser.specs.declared.fault.Fault.TheVariants.{BadSyntax, OverLimit, Memory}
+use Rattle.pb_form_parser.specs.declared.fault.Fault.{Fault}
+use Rattle.pb_form_parser.specs.declared.fault.Fault.TheVariants.{BadSyntax, OverLimit, Memory}
 use Rattle.pb_syntax.specs.Kinds.{kind_of}
 use Rattle.pb_grammar.specs.Next.{next_kind, next_place, next_is, word_is, Sees}
 use Rattle.pb_grammar.specs.Want.{Want, begin, token, word}
 use Rattle.pb_syntax.specs.Limits.{limited}
 use Rattle.pb_grammar.specs.Reading.{Step, take, refuse, read, step, on, taken_if}
-use Rattle.pb_body_parser.specs.Leads.{Fails, Leads, from, told}
-use Rattle.pb_body_parser.specs.declared.cursor.Cursor.{Cursor}
+use Rattle.pb_form_parser.specs.Leads.{Fails, Leads, from, told}
+use Rattle.pb_form_parser.specs.declared.cursor.Cursor.{Cursor}
 
 pub fails_then : (e : Fault) {P Q : Type 0} → Fails e P → (P → Q) → Fails e Q
 fails_then Memory p f = tt
 fails_then _ p f = f p
 
-pub is_none : (most before : ℕ) (what : Item) → before < most → limited most before what ≡ None
-is_none most before what l = grind (arith, nat_tests)
-
 pub is_some : (most before : ℕ) (what : Item) → most ≤ before → limited most before what ≡ Some what
 is_some most before what l = grind (arith, nat_tests)
-
-unmarked : (end : ℕ) (ts : List Token) (w : Want) → read end ts (begin None w) ≡ read end ts w
-unmarked end [] w = refl
-unmarked end (t ∷ ts) w = refl
-
-pub unlimited : (end : ℕ) (ts : List Token) (most before : ℕ) (what : Item) (w : Want) → before < most →
-    read end ts (begin (limited most before what) w) ≡ read end ts w
-unlimited end ts most before what w l = rw (is_none most before what l) (unmarked end ts w)
 
 pub over_token : (end : ℕ) (ts : List Token) (most before : ℕ) (what : Item) (kind : TokenKind) (f : Token → Want) → most ≤ before →
     Sees kind ts → told (read end ts (begin (limited most before what) (token kind f))) ≡ Err (OverLimit what (next_place end ts))
@@ -45,21 +34,6 @@ pub bad_token : (end : ℕ) (ts : List Token) (m : Option Item) (kind : TokenKin
 bad_token end [] m kind f s = refl
 bad_token end (t ∷ ts) None kind f s = rw (false_same the_type tt kind (kind_of t) (λ e. s (sym e))) refl
 bad_token end (t ∷ ts) (Some what) kind f s = rw (false_same the_type tt kind (kind_of t) (λ e. s (sym e))) refl
-
-pub bad_kind : (end : ℕ) (ts : List Token) (kind : TokenKind) (f : Token → Want) →
-    ¬ Sees kind ts → told (read end ts (token kind f)) ≡ Err (BadSyntax (next_place end ts))
-bad_kind end [] kind f s = refl
-bad_kind end (t ∷ ts) kind f s = rw (false_same the_type tt kind (kind_of t) (λ e. s (sym e))) refl
-
-pub seen_kind : (end : ℕ) (ts rest : List Token) (t : Token) (kind : TokenKind) (f : Token → Want) →
-    Sees kind ts → ts ≡ t ∷ rest → read end ts (token kind f) ≡ read end rest (f t)
-seen_kind end ts rest t kind f s e =
-    let seen : kind_of t ≡ kind = subst (Sees kind) e s in
-    rw e (rw (true_same the_type kind (kind_of t) (sym seen)) refl)
-
-pub seen_next : (kind : TokenKind) (ts : List Token) → Sees kind ts → kind ≢ k.End → next_kind ts ≢ k.End
-seen_next kind [] s h = absurd s
-seen_next kind (t ∷ ts) s h = λ e. h (sym s ∙ e)
 
 -- what is wanted from here on is what is wanted from further on
 pub leads_on : {A B : Type 0} (view : A → B) (r : Result A Fault) (want later : (B → Want) → Want) (before middle after : Cursor) →

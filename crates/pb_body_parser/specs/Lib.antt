@@ -1,3 +1,2 @@
 pub mod Bare
-pub mod Dims
-pub mod Leads
+pub mod Bodies

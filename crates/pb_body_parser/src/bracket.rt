@@ -3,16 +3,15 @@ ghost use Rattle.pb_syntax.specs.Kinds.{name_in};
 ghost use Rattle.pb_syntax.specs.declared.kind.TokenKind.TheVariants as k;
 ghost use Rattle.pb_grammar.specs.Next.{next_kind, next_place};
 ghost use Rattle.pb_grammar.specs.Want.{name_token, bracket, word};
-ghost use Rattle.pb_body_parser.specs.Leads.{Leads, LeadsOn, Shortens};
+ghost use Rattle.pb_form_parser.specs.Leads.{Leads, LeadsOn, Shortens};
 
-use crate::cursor::{Cursor, name_in};
-use crate::fault::Fault;
+use pb_form_parser::{Cursor, Fault, name_in};
 use pb_syntax::{Item, MOST_NESTING, Name, TokenKind};
 use std::alloc::Global;
 
 /// Consumes a bracket of this kind where `depth` are open, and answers how many are open then; `OverLimit` if that is too
 /// many.
-#[tactic(auto, using(crate::proofs::ReadLemmas::fails_then, crate::proofs::ReadLemmas::unlimited, crate::proofs::ReadLemmas::over_token, crate::proofs::ReadLemmas::bad_token))]
+#[tactic(auto, using(crate::proofs::ReadLemmas::fails_then, pb_form_parser::proofs::BeginLemmas::begin_within, crate::proofs::ReadLemmas::over_token, crate::proofs::ReadLemmas::bad_token))]
 pub fn open(cursor: &mut Cursor<'_>, kind: TokenKind, depth: u32) -> Result<u32, Fault>
     requires known { kind ≢ k.End }
     requires nested { depth ≤ MOST_NESTING }

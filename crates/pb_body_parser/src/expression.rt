@@ -9,14 +9,14 @@ ghost use Rattle.pb_grammar.specs.Next.{next_kind, next_place};
 ghost use Rattle.pb_body_parser.specs.Bare.{bares, bare_operands};
 ghost use Rattle.pb_grammar.specs.Want.{Want, begin, primary, after_name, member, arguments, more_arguments, coordinates, after_coordinate, factor, operand, compared, expression, line, some_arguments, bracket, a_sign};
 ghost use Rattle.pb_syntax.specs.Limits.{over};
-ghost use Rattle.pb_body_parser.specs.Leads.{Leads, LeadsOn, Fails, told, from, Operators, Relations, Members, Shortens, NeverGrows};
+ghost use Rattle.pb_form_parser.specs.Leads.{Leads, LeadsOn, Fails, told, from, Shortens, NeverGrows};
+ghost use Rattle.pb_body_parser.specs.Bodies.{Operators, Relations, Members};
 
 use crate::bracket::{name, open};
-use crate::cursor::{Cursor, name_in, number_in};
-use crate::fault::Fault;
 use crate::make::{
     call, cell, chained, compared, height, named, number, one, parentheses, signed, two, width,
 };
+use pb_form_parser::{Cursor, Fault, name_in, number_in};
 use pb_syntax::{
     ExprText, Item, Level, MOST_ARGUMENTS, MOST_NESTING, Name, Operator, Relation, TokenKind,
     UnarySign,
@@ -263,7 +263,7 @@ fn too_many(cursor: &Cursor<'_>) -> Fault
 
 /// The next argument, after its `,`; `OverLimit` if there are as many as may be.
 #[cycle(expression)]
-#[tactic(auto, using(crate::proofs::ReadLemmas::fails_then, crate::proofs::ReadLemmas::unlimited, crate::proofs::ReadLemmas::is_some))]
+#[tactic(auto, using(crate::proofs::ReadLemmas::fails_then, pb_form_parser::proofs::BeginLemmas::begin_within, crate::proofs::ReadLemmas::is_some))]
 fn next_argument(
     alloc: Global,
     cursor: &mut Cursor<'_>,

@@ -1,22 +1,14 @@
-//! The parser of forms and rule bodies, over a cursor of tokens.
+//! The parser of rule bodies: expressions and statements.
 //!
-//! In: the tokens that are left. Out: forms, expressions and statements, or a fault. Each function promises `Leads`
-//! (`specs/Leads.antt`): whatever is wanted afterwards, reading from where it began is reading from where it ended.
+//! In: a cursor over the tokens that are left. Out: the statements of a body, or a fault. Each function promises `Leads`, as
+//! those of `pb_form_parser` do: whatever is wanted afterwards, reading from where it began is reading from where it ended.
+//! Where statements are read, their number so far is told too (`LeadsCounted` in `specs/Bodies.antt`).
 #![tactic(auto)]
 
-mod begin;
 mod bracket;
-mod cursor;
-mod dims;
 mod expression;
-mod fault;
-mod forms;
 mod make;
 mod statement;
 
-pub use begin::begin_name;
-pub use cursor::{Cursor, name_in};
-pub use dims::counted_dims;
-pub use fault::Fault;
-pub use forms::{form, small};
+pub use pb_form_parser::{Cursor, Fault, begin_name, counted_dims, form, name_in, small};
 pub use statement::statements;

@@ -1,11 +1,11 @@
 ghost use Rattle.std.specs.Prelude.{◌≡◌, [], ◌∷◌, IfOk, IfErr, map, Some, None};
 ghost use Rattle.pb_syntax.specs.Exprs.{bare, number, name, call, parentheses, cell, width, height, signed, compare, exprs};
 ghost use Rattle.pb_syntax.specs.Stmts.{bare_stmt, stmts, if_stmt, if_else, for_stmt, let_number, let_matrix, assign, assign_cell, call_stmt};
-ghost use Rattle.pb_body_parser.specs.declared.fault.Fault.TheVariants.{Memory};
+ghost use Rattle.pb_form_parser.specs.declared.fault.Fault.TheVariants.{Memory};
 ghost use Rattle.pb_syntax.specs.Exprs.{chained};
 ghost use Rattle.pb_body_parser.specs.Bare.{bares, bare_operands, bare_stmts};
 
-use crate::fault::Fault;
+use pb_form_parser::Fault;
 use pb_syntax::{ExprText, FormText, Level, Name, Operator, Relation, StmtText, UnarySign};
 use std::alloc::Global;
 

@@ -1,23 +1,22 @@
 ghost use Rattle.std.specs.Prelude.{◌≡◌, ◌≤◌, ◌<◌, ◌+◌, [], ◌∷◌, ℕ, length, Err, Some, OnOk, IfOk, IfErr};
 ghost use Rattle.pb_syntax.specs.declared.kind.TokenKind.TheVariants as k;
 ghost use Rattle.pb_syntax.specs.declared.refusal.Item.TheVariants.{Statements, Targets};
-ghost use Rattle.pb_body_parser.specs.declared.fault.Fault.TheVariants.{Memory};
+ghost use Rattle.pb_form_parser.specs.declared.fault.Fault.TheVariants.{Memory};
 ghost use Rattle.pb_syntax.specs.Exprs.{bare};
 ghost use Rattle.pb_syntax.specs.Stmts.{StmtTree, bare_stmt};
 ghost use Rattle.pb_grammar.specs.Starts.{begins_statement};
 ghost use Rattle.pb_body_parser.specs.Bare.{bares, bare_stmts};
 ghost use Rattle.pb_grammar.specs.Want.{Want, begin, name_token, statements, statement, block, after_let, after_target, more_targets, called, after_dot, after_if, after_for, otherwise, dimensions};
 ghost use Rattle.pb_syntax.specs.Limits.{over};
-ghost use Rattle.pb_body_parser.specs.Leads.{Leads, LeadsCounted, Fails, told, from, Shortens, NeverGrows};
+ghost use Rattle.pb_form_parser.specs.Leads.{Leads, Fails, told, from, Shortens, NeverGrows};
+ghost use Rattle.pb_body_parser.specs.Bodies.{LeadsCounted};
 
 use crate::bracket::{name, open, word};
-use crate::cursor::{Cursor, name_in};
-use crate::dims::dims;
 use crate::expression::{coordinates, expression, some_arguments};
-use crate::fault::Fault;
 use crate::make::{
     assign, assign_cell, call_statement, for_each, if_holds, if_or_else, let_matrix, let_number,
 };
+use pb_form_parser::{Cursor, Fault, dims, name_in};
 use pb_syntax::{
     ExprText, FormText, Item, MOST_NESTING, MOST_STATEMENTS, MOST_TARGETS, Name, StmtText,
     TokenKind,
@@ -136,7 +135,7 @@ fn after_dot(
 }
 
 /// The next target, after its `,`; `OverLimit` if there are as many as may be.
-#[tactic(auto, using(crate::proofs::ReadLemmas::unlimited, crate::proofs::ReadLemmas::over_token, crate::proofs::ReadLemmas::bad_token, crate::proofs::ReadLemmas::leads_on), unfolding(pb_grammar::specs::Want::name_token))]
+#[tactic(auto, using(pb_form_parser::proofs::BeginLemmas::begin_within, crate::proofs::ReadLemmas::over_token, crate::proofs::ReadLemmas::bad_token, crate::proofs::ReadLemmas::leads_on), unfolding(pb_grammar::specs::Want::name_token))]
 fn next_target(alloc: Global, cursor: &mut Cursor<'_>, before: usize) -> Result<Name, Fault>
     ensures leads { Leads (λ n. n) result (λ f. begin (over Targets before) (name_token f)) cursor.old cursor.new }
     ensures shorter { Shortens result cursor.old cursor.new }
@@ -345,7 +344,7 @@ fn too_many(cursor: &Cursor<'_>) -> Fault
 
 /// The next statement; `OverLimit` if as many of the body began as may.
 #[cycle(statements)]
-#[tactic(auto, using(crate::proofs::ReadLemmas::fails_then, crate::proofs::ReadLemmas::unlimited, crate::proofs::ReadLemmas::is_some))]
+#[tactic(auto, using(crate::proofs::ReadLemmas::fails_then, pb_form_parser::proofs::BeginLemmas::begin_within, crate::proofs::ReadLemmas::is_some))]
 fn next_statement(
     alloc: Global,
     cursor: &mut Cursor<'_>,

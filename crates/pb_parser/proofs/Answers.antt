@@ -10,9 +10,9 @@ use Rattle.pb_grammar.specs.Want.{program}
 use Rattle.pb_grammar.specs.Reading.{Verdict, accepted, bad, too_many, read}
 use Rattle.pb_grammar.specs.Meaning.{Means}
 use Rattle.pb_grammar.proofs.Exact.{read_means}
-use Rattle.pb_body_parser.specs.declared.fault.Fault.{Fault}
-use Rattle.pb_body_parser.specs.declared.fault.Fault.TheVariants.{BadSyntax, OverLimit, Memory}
-use Rattle.pb_body_parser.specs.Leads.{Fails, told}
+use Rattle.pb_form_parser.specs.declared.fault.Fault.{Fault}
+use Rattle.pb_form_parser.specs.declared.fault.Fault.TheVariants.{BadSyntax, OverLimit, Memory}
+use Rattle.pb_form_parser.specs.Leads.{Fails, told}
 use Rattle.pb_parser.specs.Gives.{refusal_of, refused_with, Gives}
 
 abbrev IsOk : Result (List TransformTree) Fault → Type 0

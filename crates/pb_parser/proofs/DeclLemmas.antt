@@ -2,7 +2,7 @@
 use Rattle.std.proofs.Common.{◌≡◌, ℕ, Bool, true, false, List, [], ◌∷◌, ◌++◌, Some, refl, ap}
 use Rattle.pb_syntax.specs.Forms.{DeclValue}
 use Rattle.pb_syntax.specs.Limits.{counted, sizes_of, sizes_in}
-use Rattle.pb_body_parser.specs.Dims.{after_dims}
+use Rattle.pb_form_parser.specs.Dims.{after_dims}
 
 sizes_more : (known : List (List ℕ)) (ds : List DeclValue) (d : DeclValue) → sizes_of known (ds ++ d ∷ []) ≡ sizes_in (sizes_of known ds) d.dims
 sizes_more known [] d = refl

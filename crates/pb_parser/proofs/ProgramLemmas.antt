@@ -2,14 +2,14 @@
 use Rattle.std.proofs.Common.{◌≡◌, ◌<◌, ℕ, List, [], ◌∷◌, ◌++◌, length, map, Result, Ok, Err, IsErr, IsErrAnd, sym, arith}
 use Rattle.pb_syntax.specs.declared.token.Token.{Token}
 use Rattle.pb_syntax.specs.declared.refusal.Item.TheVariants.{Transforms}
-use Rattle.pb_body_parser.specs.declared.fault.Fault.{Fault}
-use Rattle.pb_body_parser.specs.declared.fault.Fault.TheVariants as fault
+use Rattle.pb_form_parser.specs.declared.fault.Fault.{Fault}
+use Rattle.pb_form_parser.specs.declared.fault.Fault.TheVariants as fault
 use Rattle.pb_syntax.specs.Transforms.{TransformValue, TextValue}
 use Rattle.pb_syntax.specs.Trees.{TransformTree, bare_transform}
 use Rattle.pb_grammar.specs.Want.{Want, begin, a_transform, more_transforms}
 use Rattle.pb_syntax.specs.Limits.{over}
 use Rattle.pb_grammar.specs.Reading.{Verdict, read}
-use Rattle.pb_body_parser.specs.Leads.{Fails, told}
+use Rattle.pb_form_parser.specs.Leads.{Fails, told}
 use Rattle.pb_parser.specs.Gives.{Gives}
 use Rattle.pb_parser.proofs.RuleLemmas.{next_transform}
 

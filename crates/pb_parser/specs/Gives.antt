@@ -1,13 +1,13 @@
 -- What the parser as a whole promises.
 use Rattle.std.specs.Prelude.{◌≡◌, Result, Ok, Err}
-use Rattle.pb_body_parser.specs.declared.fault.Fault.{Fault}
-use Rattle.pb_body_parser.specs.declared.fault.Fault.TheVariants as fault
+use Rattle.pb_form_parser.specs.declared.fault.Fault.{Fault}
+use Rattle.pb_form_parser.specs.declared.fault.Fault.TheVariants as fault
 use Rattle.pb_syntax.specs.declared.refusal.Refusal.{Refusal}
 use Rattle.pb_syntax.specs.declared.refusal.Refusal.TheVariants as refusal
 use Rattle.pb_syntax.specs.Transforms.{TextValue}
 use Rattle.pb_syntax.specs.Trees.{bare_text}
 use Rattle.pb_grammar.specs.Reading.{Verdict, accepted}
-use Rattle.pb_body_parser.specs.Leads.{Fails, told}
+use Rattle.pb_form_parser.specs.Leads.{Fails, told}
 
 -- the refusal that a fault is
 abbrev pub refusal_of : Fault → Refusal

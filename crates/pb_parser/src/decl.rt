@@ -1,10 +1,10 @@
 ghost use Rattle.std.specs.Prelude.{◌≡◌, ◌+◌, ◌<◌, ◌≤◌, [], ◌∷◌, length, OnOk, IfOk};
 ghost use Rattle.pb_grammar.specs.Want.{a_decl, decls, through, minimum, minimums, more_minimums};
 ghost use Rattle.pb_syntax.specs.Limits.{counted};
-ghost use Rattle.pb_body_parser.specs.Dims.{sizes_known, after_dims};
-ghost use Rattle.pb_body_parser.specs.Leads.{Leads, Shortens};
+ghost use Rattle.pb_form_parser.specs.Dims.{sizes_known, after_dims};
+ghost use Rattle.pb_form_parser.specs.Leads.{Leads, Shortens};
 
-use pb_body_parser::{Cursor, Fault, begin_name, counted_dims, name_in, small};
+use pb_form_parser::{Cursor, Fault, begin_name, counted_dims, name_in, small};
 use pb_syntax::{DeclText, Item, MOST_MATRICES, MOST_MINIMUMS, Name, TokenKind};
 use std::alloc::Global;
 

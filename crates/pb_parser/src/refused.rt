@@ -1,7 +1,7 @@
 ghost use Rattle.std.specs.Prelude.{◌≡◌};
 ghost use Rattle.pb_parser.specs.Gives.{refused_with};
 
-use pb_body_parser::Fault;
+use pb_form_parser::Fault;
 use pb_syntax::{Refusal, Text};
 
 /// A fault as the refusal that it is.

@@ -4,10 +4,11 @@ ghost use Rattle.pb_syntax.specs.declared.refusal.Item.TheVariants.{Conditions, 
 ghost use Rattle.pb_syntax.specs.declared.kind.TokenKind.TheVariants.{To};
 ghost use Rattle.pb_grammar.specs.Want.{a_use, uses, rules, reads, condition, conditions, more_conditions, relation, form, begin, after_mark, a_sign, rule};
 ghost use Rattle.pb_syntax.specs.Limits.{over};
-ghost use Rattle.pb_body_parser.specs.Leads.{Leads, Shortens};
+ghost use Rattle.pb_form_parser.specs.Leads.{Leads, Shortens};
 
 use crate::view::view_or_none;
-use pb_body_parser::{Cursor, Fault, begin_name, form, name_in, small, statements};
+use pb_body_parser::statements;
+use pb_form_parser::{Cursor, Fault, begin_name, form, name_in, small};
 use pb_syntax::{
     CondText, FormText, Item, MOST_CONDITIONS, MOST_RULES, MOST_VIEWS, MarkText, Relation,
     RuleText, TokenKind, UseText,
@@ -98,7 +99,7 @@ fn relation(cursor: &mut Cursor<'_>) -> Result<Relation, Fault>
     }
 }
 
-#[tactic(auto, using(pb_body_parser::proofs::BeginLemmas::begin_within))]
+#[tactic(auto, using(pb_form_parser::proofs::BeginLemmas::begin_within))]
 fn begin_form(alloc: Global, cursor: &mut Cursor<'_>, before: usize) -> Result<FormText, Fault>
     ensures leads { Leads (λ x. x) result (λ f. begin (over Conditions before) (form f)) cursor.old cursor.new }
     ensures shorter { Shortens result cursor.old cursor.new }
@@ -225,7 +226,7 @@ fn rule(alloc: Global, cursor: &mut Cursor<'_>) -> Result<RuleText, Fault>
     }
 }
 
-#[tactic(auto, using(pb_body_parser::proofs::BeginLemmas::begin_within))]
+#[tactic(auto, using(pb_form_parser::proofs::BeginLemmas::begin_within))]
 fn next_rule(alloc: Global, cursor: &mut Cursor<'_>, before: usize) -> Result<RuleText, Fault>
     ensures leads { Leads bare_rule result (λ f. begin (over Rules before) (rule f)) cursor.old cursor.new }
     ensures shorter { Shortens result cursor.old cursor.new }

@@ -6,13 +6,13 @@ ghost use Rattle.pb_syntax.specs.declared.refusal.Item.TheVariants.{Transforms};
 ghost use Rattle.pb_grammar.specs.Want.{a_transform, begin, program};
 ghost use Rattle.pb_syntax.specs.Limits.{over};
 ghost use Rattle.pb_grammar.specs.Reading.{read};
-ghost use Rattle.pb_body_parser.specs.Leads.{Leads, Shortens};
+ghost use Rattle.pb_form_parser.specs.Leads.{Leads, Shortens};
 ghost use Rattle.pb_parser.specs.Gives.{Gives};
 
 use crate::decl::{decls, minimums, through};
 use crate::refused::refused_with;
 use crate::rule::rules;
-use pb_body_parser::{Cursor, Fault, name_in};
+use pb_form_parser::{Cursor, Fault, name_in};
 use pb_syntax::{Item, MOST_TRANSFORMS, Refusal, Text, Token, TokenKind, TransformText};
 use std::alloc::Global;
 
@@ -38,7 +38,7 @@ fn transform(alloc: Global, cursor: &mut Cursor<'_>) -> Result<TransformText, Fa
     })
 }
 
-#[tactic(auto, using(pb_body_parser::proofs::BeginLemmas::begin_within))]
+#[tactic(auto, using(pb_form_parser::proofs::BeginLemmas::begin_within))]
 fn next_transform(
     alloc: Global,
     cursor: &mut Cursor<'_>,

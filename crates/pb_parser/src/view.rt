@@ -4,9 +4,9 @@ ghost use Rattle.pb_syntax.specs.declared.kind.TokenKind.TheVariants.{Open, Clos
 ghost use Rattle.pb_syntax.specs.declared.tree.view.ViewText.TheVariants.{Row, Column};
 ghost use Rattle.pb_grammar.specs.Want.{form, a_sign, after_x, view_or_none, view_name};
 ghost use Rattle.pb_grammar.specs.Reading.{between};
-ghost use Rattle.pb_body_parser.specs.Leads.{Leads, Shortens, NeverGrows};
+ghost use Rattle.pb_form_parser.specs.Leads.{Leads, Shortens, NeverGrows};
 
-use pb_body_parser::{Cursor, Fault, form};
+use pb_form_parser::{Cursor, Fault, form};
 use pb_syntax::{Token, TokenKind, TokenWhat, ViewText};
 use std::alloc::Global;
 

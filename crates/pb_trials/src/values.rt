@@ -11,17 +11,26 @@ const OVERFLOW: Result<i64, Kind> = Err(Kind::Overflow);
 
 const ZERO: Result<i64, Kind> = Err(Kind::DivideByZero);
 
+// Of each row what an operation gives, and what it should.
+fn edges() -> [(Result<i64, Kind>, Result<i64, Kind>); 9] {
+    [
+        (add(MOST, 1), OVERFLOW),
+        (sub(LEAST, 1), OVERFLOW),
+        (mul(MOST, -1), Ok(-MOST)),
+        (mul(LEAST, -1), OVERFLOW),
+        (mul(3_037_000_500, 3_037_000_500), OVERFLOW),
+        (neg(LEAST), OVERFLOW),
+        (neg(MOST), Ok(-MOST)),
+        (abs(LEAST), OVERFLOW),
+        (abs(-7), Ok(7)),
+    ]
+}
+
 #[test]
 fn numbers_are_exact_up_to_their_edges(rt: HostRuntime) {
-    assert_eq!(rt; add(MOST, 1), OVERFLOW);
-    assert_eq!(rt; sub(LEAST, 1), OVERFLOW);
-    assert_eq!(rt; mul(MOST, -1), Ok(-MOST));
-    assert_eq!(rt; mul(LEAST, -1), OVERFLOW);
-    assert_eq!(rt; mul(3_037_000_500, 3_037_000_500), OVERFLOW);
-    assert_eq!(rt; neg(LEAST), OVERFLOW);
-    assert_eq!(rt; neg(MOST), Ok(-MOST));
-    assert_eq!(rt; abs(LEAST), OVERFLOW);
-    assert_eq!(rt; abs(-7), Ok(7));
+    for (found, expected) in edges() {
+        assert_eq!(rt; found, expected);
+    }
 }
 
 // Of each row the numbers, their quotient and their remainder.

@@ -4,7 +4,7 @@ use Rattle.pb_syntax.specs.declared.tree.expression.Level.TheVariants as level
 use Rattle.pb_syntax.specs.Exprs.{ExprTree, bare}
 use Rattle.pb_body_parser.specs.Bare.{bares, bare_operands}
 use Rattle.pb_grammar.specs.Want.{Want, more_arguments, some_arguments, more_operands, line}
-use Rattle.pb_body_parser.specs.Leads.{from}
+use Rattle.pb_form_parser.specs.Leads.{from}
 use Rattle.pb_body_parser.proofs.expression.+expression.Given as goal
 
 -- how deep an expression goes: brackets first, then the precedence levels

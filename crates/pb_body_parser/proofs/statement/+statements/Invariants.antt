@@ -2,7 +2,7 @@ use Rattle.std.proofs.Common.{◌≡◌, ◌+◌, ◌≤◌, [], length, ℕ, �
 use Rattle.pb_syntax.specs.Stmts.{StmtTree}
 use Rattle.pb_body_parser.specs.Bare.{bare_stmts}
 use Rattle.pb_grammar.specs.Want.{Want, statements}
-use Rattle.pb_body_parser.specs.Leads.{from}
+use Rattle.pb_form_parser.specs.Leads.{from}
 use Rattle.pb_body_parser.proofs.statement.+statements.Given as goal
 
 -- how deep statements go: brackets first, then from a block to its parts

@@ -1,7 +1,7 @@
 use Rattle.std.proofs.Common.{◌≡◌, ◌≤◌, length}
 use Rattle.pb_syntax.specs.Stmts.{StmtTree}
 use Rattle.pb_grammar.specs.Want.{Want, more_targets}
-use Rattle.pb_body_parser.specs.Leads.{from}
+use Rattle.pb_form_parser.specs.Leads.{from}
 use Rattle.pb_body_parser.proofs.statement.more_targets.Given as goal
 
 abbrev pub invariant-loop-cursor : goal.invariant-loop-cursor

@@ -2,7 +2,7 @@ use Rattle.std.proofs.Common.{◌≡◌, ◌+◌, ◌<◌, ◌≤◌, List, leng
 use Rattle.pb_syntax.specs.Forms.{DeclValue}
 use Rattle.pb_grammar.specs.Want.{Want, decls, more_decls}
 use Rattle.pb_syntax.specs.Limits.{counted}
-use Rattle.pb_body_parser.specs.Dims.{sizes_known}
+use Rattle.pb_form_parser.specs.Dims.{sizes_known}
 use Rattle.pb_grammar.specs.Reading.{read}
 use Rattle.pb_parser.proofs.decl.decls.Given as goal
 

@@ -1,0 +1,4 @@
+pub mod BeginLemmas
+mod DimLemmas
+mod FormLemmas
+mod NextLemmas
