@@ -1,5 +1,6 @@
 pub mod NamesLemmas
 pub mod FaultLemmas
+pub mod TurnLemmas
 pub mod ListLemmas
 pub mod ScopeLemmas
 pub mod SumLemmas

@@ -1,8 +1,10 @@
 pub mod Names
 pub mod Faults
+pub mod Turns
 pub mod Bodies
 pub mod Working
 pub mod Sums
 pub mod Bounds
 pub mod Views
 pub mod SumValue
+pub mod Binders

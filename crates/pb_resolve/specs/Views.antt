@@ -23,6 +23,7 @@ use Rattle.pb_resolve.specs.declared.matrices.Matrix.{Matrix}
 use Rattle.pb_resolve.specs.Names.{look}
 use Rattle.pb_resolve.specs.Faults.{duplicate, unknown, bad_output}
 use Rattle.pb_resolve.specs.Sums.{collected}
+use Rattle.pb_resolve.specs.Turns.{after_turns, turns, turn_faults}
 use Rattle.pb_resolve.specs.Bodies.{Visible, is_visible}
 
 -- a name of a view or a condition is a size or a rule variable
@@ -131,18 +132,20 @@ bind v n what = record { transforms = v.transforms; names = v.names ++ (n.bytes,
 abbrev pub read_faults : Matrices → Visible → UseText → List Fault
 read_faults ms v u = unknown (not (is_matrix ms u.matrix.bytes)) u.matrix ++ flat_map (view_form_faults v) (forms_of u.view)
 
--- the reads of a rule, from the k-th on; each sees the names of those before it
-abbrev pub reads_of : Matrices → Visible → ℕ → List UseText → List Read
-reads_of ms v k [] = []
-reads_of ms v k (u ∷ rest) = read_of ms v u ∷ reads_of ms (bind v u.bound (meaning.Read k)) (k + 1) rest
+-- what is visible to a view, and the number of the view
+pub record Place : Type 0 where
+  pub visible : Visible
+  pub number : ℕ
 
-abbrev pub reads_faults : Matrices → Visible → ℕ → List UseText → List Fault
-reads_faults ms v k [] = []
-reads_faults ms v k (u ∷ rest) = read_faults ms v u ++ (bound_faults ms v u.bound ++ reads_faults ms (bind v u.bound (meaning.Read k)) (k + 1) rest)
+-- the reads of a rule in turn; each sees the names of those before it
+abbrev pub after_read : Place → UseText → Place
+after_read p u = record { visible = bind p.visible u.bound (meaning.Read p.number); number = p.number + 1 }
 
-abbrev pub after_reads : Visible → ℕ → List UseText → Visible
-after_reads v k [] = v
-after_reads v k (u ∷ rest) = after_reads (bind v u.bound (meaning.Read k)) (k + 1) rest
+abbrev pub read_at : Matrices → Place → UseText → Read
+read_at ms p u = read_of ms p.visible u
+
+abbrev pub read_faults_at : Matrices → Place → UseText → List Fault
+read_faults_at ms p u = read_faults ms p.visible u ++ bound_faults ms p.visible u.bound
 
 -- the names that are a view's only coordinates
 abbrev pub put_name : Option NameValue → Option (List NameValue) → Option (List NameValue)
@@ -217,21 +220,36 @@ abbrev pub out_faults : Matrices → Bool → Visible → UseText → List Fault
 out_faults ms single v u =
     unknown (not (is_matrix ms u.matrix.bytes)) u.matrix ++ (bad_output (is_bad_output ms single u (binders v u)) u.matrix ++ coordinates_faults ms v u (binders v u))
 
-abbrev pub after_out : Visible → ℕ → UseText → Visible
-after_out v k u = bind (out_scope v u) u.bound (meaning.Output k)
+-- the outputs of a rule in turn; each sees the names of those before it
+abbrev pub after_out : Place → UseText → Place
+after_out p u = record { visible = bind (out_scope p.visible u) u.bound (meaning.Output p.number); number = p.number + 1 }
 
--- the outputs of a rule, from the k-th on; each sees the names of those before it
-abbrev pub outs_of : Matrices → Visible → ℕ → List UseText → List Read
-outs_of ms v k [] = []
-outs_of ms v k (u ∷ rest) = out_of ms v u ∷ outs_of ms (after_out v k u) (k + 1) rest
+abbrev pub out_at : Matrices → Place → UseText → Read
+out_at ms p u = out_of ms p.visible u
 
-abbrev pub outs_faults : Matrices → Bool → Visible → ℕ → List UseText → List Fault
-outs_faults ms single v k [] = []
-outs_faults ms single v k (u ∷ rest) = out_faults ms single v u ++ (bound_faults ms (out_scope v u) u.bound ++ outs_faults ms single (after_out v k u) (k + 1) rest)
+abbrev pub out_faults_at : Matrices → Bool → Place → UseText → List Fault
+out_faults_at ms single p u = out_faults ms single p.visible u ++ bound_faults ms (out_scope p.visible u) u.bound
 
-abbrev pub after_outs : Visible → ℕ → List UseText → Visible
-after_outs v k [] = v
-after_outs v k (u ∷ rest) = after_outs (after_out v k u) (k + 1) rest
+abbrev pub start : Visible → Place
+start v = record { visible = v; number = 0 }
+
+abbrev pub outs_of : Matrices → Visible → List UseText → List Read
+outs_of ms v us = turns after_out (out_at ms) (start v) us
+
+abbrev pub outs_faults : Matrices → Bool → Visible → List UseText → List Fault
+outs_faults ms single v us = turn_faults after_out (out_faults_at ms single) (start v) us
+
+abbrev pub after_outs : Visible → List UseText → Visible
+after_outs v us = (after_turns after_out (start v) us).visible
+
+abbrev pub reads_of : Matrices → Visible → List UseText → List Read
+reads_of ms v us = turns after_read (read_at ms) (start v) us
+
+abbrev pub reads_faults : Matrices → Visible → List UseText → List Fault
+reads_faults ms v us = turn_faults after_read (read_faults_at ms) (start v) us
+
+abbrev pub after_reads : Visible → List UseText → Visible
+after_reads v us = (after_turns after_read (start v) us).visible
 
 -- a condition
 abbrev pub cond_of : Visible → CondText → Cond

@@ -8,6 +8,7 @@ mod make;
 mod matrices;
 mod make_statement;
 mod names;
+mod outputs;
 mod reads;
 mod scope;
 mod statement;

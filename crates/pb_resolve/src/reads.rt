@@ -1,9 +1,11 @@
-ghost use Rattle.std.specs.Prelude.{◌≡◌, ◌+◌, ◌^◌, ◌≤◌, ◌<◌, [], ◌∷◌, ◌++◌, IfOk, IfErr, OnOk, length};
-ghost use Rattle.std.specs.List.{AllByRecursion};
+ghost use Rattle.std.specs.Prelude.{◌≡◌, ◌+◌, ◌^◌, ◌≤◌, ◌<◌, [], ◌∷◌, ◌++◌, IfOk, IfErr, OnOk, length, map};
+ghost use Rattle.std.specs.List.{AllByRecursion, flat_map};
 ghost use Rattle.pb_program.specs.Forms.{nothing};
 ghost use Rattle.pb_syntax.specs.WithinLimits.{CondWithin, UseWithin, ViewWithin};
 ghost use Rattle.pb_resolve.specs.Faults.{Fails};
-ghost use Rattle.pb_resolve.specs.Views.{bind, bound_faults, cond_faults, cond_of, is_matrix, read_faults, read_of, view_of};
+ghost use Rattle.pb_program.specs.declared.meaning.Meaning.TheVariants as meaning;
+ghost use Rattle.pb_syntax.specs.declared.limits.TheConstants.{MOST_VIEWS};
+ghost use Rattle.pb_resolve.specs.Views.{after_reads, bind, bound_faults, cond_faults, cond_of, read_faults, read_of, reads_faults, reads_of, view_of};
 
 use crate::fault::Fault;
 use crate::matrices::{Matrices, Matrix};
@@ -155,5 +157,59 @@ impl<'t, 'p> Scope<'t, 'p> {
             relation: c.relation,
             right: self.collected(&c.right),
         })
+    }
+
+    #[tactic(auto, using(crate::proofs::FaultLemmas::fails_left, crate::proofs::FaultLemmas::fails_right))]
+    fn next_read(
+        &mut self,
+        matrices: &Matrices<'t>,
+        k: u32,
+        u: &'t UseText,
+    ) -> Result<Read, Fault>
+        requires { UseWithin u.now }
+        ensures found { IfOk result (λ r. r ≡ read_of matrices.now self.old u.now) }
+        ensures left { OnOk result (self.new ≡ bind self.old u.now.bound (meaning.Read k)) }
+        ensures faultless { OnOk result (read_faults matrices.now self.old u.now ++ bound_faults matrices.now self.old u.now.bound ≡ []) }
+        ensures refused { IfErr result (λ f. Fails f (read_faults matrices.now self.old u.now ++ bound_faults matrices.now self.old u.now.bound)) }
+    {
+        let read = self.read(matrices, u)?;
+        self.bind(matrices, &u.bound, Meaning::Read(k))?;
+        Ok(read)
+    }
+
+    /// Resolves the reads of a rule in turn, and adds their names.
+    #[tactic(auto, using(crate::proofs::FaultLemmas::fails_memory, crate::proofs::TurnLemmas::none_turned, crate::proofs::TurnLemmas::turn_fails, crate::proofs::TurnLemmas::turned, crate::proofs::TurnLemmas::all_built, crate::proofs::TurnLemmas::all_clean, crate::proofs::TurnLemmas::all_seen))]
+    pub(crate) fn reads(
+        &mut self,
+        matrices: &Matrices<'t>,
+        uses: &'t [UseText],
+    ) -> Result<Vec<Read>, Fault>
+        requires few { length uses.now ≤ MOST_VIEWS }
+        requires within { AllByRecursion UseWithin uses.now }
+        ensures found { IfOk result (λ rs. rs.items ≡ reads_of matrices.now self.old uses.now) }
+        ensures left { OnOk result (self.new ≡ after_reads self.old uses.now) }
+        ensures faultless { OnOk result (reads_faults matrices.now self.old uses.now ≡ []) }
+        ensures refused { IfErr result (λ f. Fails f (reads_faults matrices.now self.old uses.now)) }
+    {
+        let mut found = Vec::new(self.alloc);
+        for (k, u) in uses.iter().enumerate() {
+            found.push(self.next_read(matrices, k as u32, u)?)?;
+        }
+        Ok(found)
+    }
+
+    /// Resolves the conditions of a rule.
+    #[tactic(auto, using(crate::proofs::FaultLemmas::fails_memory, crate::proofs::FaultLemmas::fails_next, crate::proofs::FaultLemmas::faultless_next))]
+    pub(crate) fn conditions(&self, conds: &[CondText]) -> Result<Vec<Cond>, Fault>
+        requires { AllByRecursion CondWithin conds.now }
+        ensures found { IfOk result (λ cs. cs.items ≡ map (cond_of self.now) conds.now) }
+        ensures faultless { OnOk result (flat_map (cond_faults self.now) conds.now ≡ []) }
+        ensures refused { IfErr result (λ f. Fails f (flat_map (cond_faults self.now) conds.now)) }
+    {
+        let mut found = Vec::new(self.alloc);
+        for next in conds {
+            found.push(self.condition(next)?)?;
+        }
+        Ok(found)
     }
 }

@@ -1,0 +1,49 @@
+-- Items that are read in turn.
+use Rattle.std.proofs.Common.{◌≡◌, ℕ, ◌+◌, ◌<◌, ◌≤◌, List, [], ◌∷◌, ◌++◌, length, get_or, drop, refl, ap, subst, ◌∙◌, sym, arith, add-one, append_assoc}
+use Rattle.std.proofs.Math.Seq.{drop-cons}
+use Rattle.std.proofs.lemmas.List.{append-nil, drop_all}
+use Rattle.pb_resolve.specs.declared.fault.Fault.{Fault}
+use Rattle.pb_resolve.specs.Faults.{Fails}
+use Rattle.pb_resolve.specs.Turns.{after_turns, turns, turn_faults}
+use Rattle.pb_resolve.proofs.FaultLemmas.{fails_left}
+
+module _ {S A B : Type 0} (next : S → A → S) (made : S → A → B) (faults : S → A → List Fault) where
+  -- the items before a place are read: what is made, the faults and what is seen, with those of the items that are left
+  pub record Turned (first now : S) (found : List B) (xs : List A) (i : ℕ) : Type 0 where
+    pub built : found ++ turns next made now (drop i xs) ≡ turns next made first xs
+    pub clean : turn_faults next faults now (drop i xs) ≡ turn_faults next faults first xs
+    pub seen : after_turns next now (drop i xs) ≡ after_turns next first xs
+
+  pub none_turned : (s : S) (xs : List A) → Turned s s [] xs 0
+  none_turned s xs = record { built = refl; clean = refl; seen = refl }
+
+  module _ (first now : S) (found : List B) (xs : List A) (i : ℕ) (t : Turned first now found xs i) where
+    module _ (x : A) (within : i < length xs) (here : x ≡ get_or xs i x) where
+      next_is : drop i xs ≡ x ∷ drop (i + 1) xs
+      next_is = rw (add-one, drop-cons xs i x) (rw (← here) refl)
+
+      pub turn_fails : (f : Fault) → Fails f (faults now x) → Fails f (turn_faults next faults first xs)
+      turn_fails f fails = subst (Fails f) (sym (ap (turn_faults next faults now) next_is) ∙ t.clean)
+          (fails_left f (faults now x) (turn_faults next faults (next now x) (drop (i + 1) xs)) fails)
+
+      pub turned : (later : S) (more : List B) → later ≡ next now x → more ≡ found ++ made now x ∷ [] → faults now x ≡ [] → Turned first later more xs (i + 1)
+      turned later more after put none = record {
+        built = ap (λ l. l ++ turns next made later (drop (i + 1) xs)) put ∙ append_assoc found (made now x ∷ []) (turns next made later (drop (i + 1) xs))
+            ∙ ap (λ z. found ++ made now x ∷ turns next made z (drop (i + 1) xs)) after ∙ ap (λ l. found ++ turns next made now l) (sym next_is) ∙ t.built;
+        clean = ap (λ z. turn_faults next faults z (drop (i + 1) xs)) after ∙ sym (ap (λ l. l ++ turn_faults next faults (next now x) (drop (i + 1) xs)) none)
+            ∙ ap (turn_faults next faults now) (sym next_is) ∙ t.clean;
+        seen = ap (λ z. after_turns next z (drop (i + 1) xs)) after ∙ ap (after_turns next now) (sym next_is) ∙ t.seen;
+      }
+
+    module _ (end : length xs ≤ i) where
+      none_left : drop i xs ≡ []
+      none_left = drop_all i xs end
+
+      pub all_built : found ≡ turns next made first xs
+      all_built = sym (append-nil found) ∙ ap (λ l. found ++ turns next made now l) (sym none_left) ∙ t.built
+
+      pub all_clean : turn_faults next faults first xs ≡ []
+      all_clean = sym t.clean ∙ ap (turn_faults next faults now) none_left
+
+      pub all_seen : now ≡ after_turns next first xs
+      all_seen = sym (ap (after_turns next now) none_left) ∙ t.seen
