@@ -1,5 +1,5 @@
 -- What contracts see of plans, and which statements a plan has.
-use Rattle.std.specs.Prelude.{ℕ, List, [], ◌∷◌, Option, Some, None}
+use Rattle.std.specs.Prelude.{ℕ, Bool, true, false, List, [], ◌∷◌, Option, Some, None, filter}
 use Rattle.pb_program.specs.declared.meaning.Meaning.{Meaning}
 use Rattle.pb_program.specs.declared.meaning.Meaning.TheVariants as meaning
 use Rattle.pb_program.specs.declared.meaning.Named.{Named}
@@ -34,18 +34,20 @@ abbrev pub argument_slot : ExprValue → Option Slot
 argument_slot (e.name n) = slot_of n.what
 argument_slot _ = None
 
--- all of them, if each is there
-abbrev pub put_slot : Option Slot → Option (List Slot) → Option (List Slot)
-put_slot (Some x) (Some rest) = Some (x ∷ rest)
-put_slot _ _ = None
+-- what a function gives of each, if it gives something of each
+abbrev pub put : {B : Type 0} → Option B → Option (List B) → Option (List B)
+put (Some x) (Some rest) = Some (x ∷ rest)
+put _ _ = None
+
+abbrev pub all_some : {A B : Type 0} → (A → Option B) → List A → Option (List B)
+all_some f [] = Some []
+all_some f (x ∷ rest) = put (f x) (all_some f rest)
 
 abbrev pub target_slots : List Named → Option (List Slot)
-target_slots [] = Some []
-target_slots (n ∷ rest) = put_slot (slot_of n.what) (target_slots rest)
+target_slots names = all_some (λ n. slot_of n.what) names
 
 abbrev pub argument_slots : List ExprValue → Option (List Slot)
-argument_slots [] = Some []
-argument_slots (x ∷ rest) = put_slot (argument_slot x) (argument_slots rest)
+argument_slots xs = all_some argument_slot xs
 
 abbrev pub items : ExprValues → List ExprValue
 items no_exprs = []
@@ -70,12 +72,10 @@ call_of (s.assign target x) = called_by target x
 call_of (s.call_stmt targets c xs) = transform_call c.what (target_slots targets) (argument_slots xs)
 call_of _ = None
 
--- the calls, if each statement is a call of a transform or declares a matrix
-abbrev pub put_call : Option PlanCallValue → Option (List PlanCallValue) → Option (List PlanCallValue)
-put_call (Some c) (Some rest) = Some (c ∷ rest)
-put_call _ _ = None
+abbrev pub is_call : StmtValue → Bool
+is_call (s.let_matrix at n dims) = false
+is_call _ = true
 
+-- the calls, if each statement is a call of a transform or declares a matrix
 abbrev pub calls_of : List StmtValue → Option (List PlanCallValue)
-calls_of [] = Some []
-calls_of (s.let_matrix at n dims ∷ rest) = calls_of rest
-calls_of (x ∷ rest) = put_call (call_of x) (calls_of rest)
+calls_of ss = all_some call_of (filter is_call ss)

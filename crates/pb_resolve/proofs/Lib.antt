@@ -4,3 +4,5 @@ pub mod TurnLemmas
 pub mod ListLemmas
 pub mod ScopeLemmas
 pub mod SumLemmas
+pub mod KindLemmas
+pub mod PlanLemmas

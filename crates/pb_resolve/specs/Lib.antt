@@ -8,3 +8,5 @@ pub mod Bounds
 pub mod Views
 pub mod SumValue
 pub mod Binders
+pub mod Kinds
+pub mod Slots

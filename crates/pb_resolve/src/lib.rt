@@ -3,12 +3,14 @@
 
 mod expression;
 mod fault;
+mod kind;
 mod local;
 mod make;
 mod matrices;
 mod make_statement;
 mod names;
 mod outputs;
+mod plan;
 mod reads;
 mod scope;
 mod statement;
