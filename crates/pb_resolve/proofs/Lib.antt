@@ -6,3 +6,4 @@ pub mod ScopeLemmas
 pub mod SumLemmas
 pub mod KindLemmas
 pub mod PlanLemmas
+pub mod LocalLemmas

@@ -13,7 +13,12 @@ use Rattle.pb_values.specs.Name.{NameValue}
 use Rattle.pb_resolve.specs.declared.fault.Fault.{Fault}
 use Rattle.pb_resolve.specs.declared.scope.Mark.{Mark}
 use Rattle.pb_resolve.specs.Faults.{Fails}
-use Rattle.pb_resolve.specs.Bodies.{Visible, declare, after}
+use Rattle.pb_syntax.specs.declared.tree.view.UseText.{UseText}
+use Rattle.pb_syntax.specs.Trees.{RuleTree}
+use Rattle.pb_resolve.specs.Turns.{after_turns, turns, turn_faults}
+use Rattle.pb_resolve.specs.Bodies.{Visible, declare, after, stmt_of, stmt_faults}
+use Rattle.pb_resolve.specs.Views.{Place, bind, with_variables, binders, out_scope, after_out, after_read, after_outs, start}
+use Rattle.pb_resolve.specs.Rules.{inner}
 use Rattle.pb_resolve.specs.Working.{stmt_in, stmt_faults_in, after_in, block_in, block_faults_in, body_in, body_faults_in, after_all}
 use Rattle.pb_resolve.proofs.FaultLemmas.{fails_left}
 
@@ -112,8 +117,11 @@ module _ (v w : Visible) (found : List StmtValue) (ss : List StmtText) (i : ℕ)
     none_left : drop i ss ≡ []
     none_left = drop_all i ss end
 
+    pub body_built : found ≡ body_in v ss
+    body_built = sym (append-nil found) ∙ ap (λ l. found ++ body_in w l) (sym none_left) ∙ r.built
+
     pub block_built : to.stmts found ≡ block_in v ss
-    block_built = ap to.stmts (sym (append-nil found) ∙ ap (λ l. found ++ body_in w l) (sym none_left) ∙ r.built) ∙ stmts_listed v ss
+    block_built = ap to.stmts body_built ∙ stmts_listed v ss
 
     pub block_faultless : block_faults_in v ss ≡ []
     block_faultless = faults_listed v ss ∙ sym r.clean ∙ ap (body_faults_in w) none_left
@@ -126,3 +134,44 @@ none_read v ss = record { built = refl; clean = refl; scope = refl }
 
 pub pushed : (found new : List Stmt) (y : Stmt) (z : StmtValue) → new ≡ found ++ y ∷ [] → bare y ≡ z → map bare new ≡ map bare found ++ z ∷ []
 pushed found new y z put is = ap (map bare) put ∙ map-append bare found (y ∷ []) ∙ ap (λ x. map bare found ++ x ∷ []) is
+
+-- a body as definitions see it
+pub body_is : (v : Visible) (ss : List StmtText) → body_in v ss ≡ turns after stmt_of v (map bare_stmt ss)
+unfolding stmt_in after_in
+body_is v [] = refl
+body_is v (s ∷ ss) = ap (λ l. stmt_in v s ∷ l) (body_is (after_in v s) ss)
+
+body_faults_turn : (v : Visible) (ss : List StmtText) → body_faults_in v ss ≡ turn_faults after stmt_faults v (map bare_stmt ss)
+unfolding stmt_faults_in after_in
+body_faults_turn v [] = refl
+body_faults_turn v (s ∷ ss) = ap (λ l. stmt_faults_in v s ++ l) (body_faults_turn (after_in v s) ss)
+
+pub body_faults_are : (v : Visible) (ss : List StmtText) → block_faults_in v ss ≡ turn_faults after stmt_faults v (map bare_stmt ss)
+body_faults_are v ss = faults_listed v ss ∙ body_faults_turn v ss
+
+-- views only add names
+extends_bind : (v : Visible) (n : NameValue) (what : Meaning) → Extends v (bind v n what)
+extends_bind v n what = record { more = (n.bytes, what) ∷ []; names = refl; transforms = refl }
+
+extends_variables : (v : Visible) (ns : List NameValue) → Extends v (with_variables v ns)
+extends_variables v [] = extends_same v
+extends_variables v (x ∷ []) = extends_bind v x meaning.RuleX
+extends_variables v (x ∷ y ∷ rest) = extends_further v (bind v x meaning.RuleX) (bind (bind v x meaning.RuleX) y meaning.RuleY) (extends_bind v x meaning.RuleX) (extends_bind (bind v x meaning.RuleX) y meaning.RuleY)
+
+extends_outs : (p : Place) (us : List UseText) → Extends p.visible (after_turns after_out p us).visible
+extends_outs p [] = extends_same p.visible
+extends_outs p (u ∷ us) = extends_further p.visible (after_out p u).visible (after_turns after_out (after_out p u) us).visible
+    (extends_further p.visible (out_scope p.visible u) (after_out p u).visible (extends_variables p.visible (binders p.visible u)) (extends_bind (out_scope p.visible u) u.bound (meaning.Output p.number)))
+    (extends_outs (after_out p u) us)
+
+extends_reads : (p : Place) (us : List UseText) → Extends p.visible (after_turns after_read p us).visible
+extends_reads p [] = extends_same p.visible
+extends_reads p (u ∷ us) = extends_further p.visible (after_read p u).visible (after_turns after_read (after_read p u) us).visible (extends_bind p.visible u.bound (meaning.Read p.number)) (extends_reads (after_read p u) us)
+
+extends_inner : (v : Visible) (r : RuleTree) → Extends v (inner v r)
+extends_inner v r = extends_further v (after_outs v r.outs) (inner v r) (extends_outs (start v) r.outs) (extends_reads (start (after_outs v r.outs)) r.reads)
+
+-- after a rule the scope is what it was
+pub back_rule : (v w u : Visible) (r : RuleTree) (m : Mark) → w ≡ inner v r → m ≡ record { names = length v.names; locals = v.locals }
+    → u ≡ record { transforms = w.transforms; names = take m.names w.names; locals = m.locals } → u ≡ v
+back_rule v w u r m done = went_back v w u m (subst (Extends v) (sym done) (extends_inner v r))

@@ -10,3 +10,5 @@ pub mod SumValue
 pub mod Binders
 pub mod Kinds
 pub mod Slots
+pub mod Rules
+pub mod Locals

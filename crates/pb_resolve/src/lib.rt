@@ -1,6 +1,7 @@
 //! Names of a program, each with what it names.
 #![tactic(auto)]
 
+mod decl;
 mod expression;
 mod fault;
 mod kind;
@@ -12,6 +13,7 @@ mod names;
 mod outputs;
 mod plan;
 mod reads;
+mod rule;
 mod scope;
 mod statement;
 mod sum;

@@ -6,6 +6,7 @@ ghost use Rattle.pb_syntax.specs.Limits.{alone};
 ghost use Rattle.pb_syntax.specs.WithinLimits.{UseWithin};
 ghost use Rattle.pb_resolve.specs.Faults.{Fails};
 ghost use Rattle.pb_resolve.specs.Binders.{names_in};
+ghost use Rattle.pb_resolve.specs.Rules.{is_cell};
 ghost use Rattle.pb_resolve.specs.Views.{after_outs, bind, binders, bound_faults, coordinate_names, coordinates_faults, has_names, is_bad_output, is_row, is_size, out_faults, out_of, out_scope, outs_faults, outs_of, repeats, variables_faults, with_variables};
 
 use crate::fault::Fault;
@@ -114,6 +115,16 @@ impl<'t, 'p> Scope<'t, 'p> {
                 _ => Binders::None,
             },
             _ => Binders::None,
+        }
+    }
+
+    /// Whether outputs are one alone that binds rule variables.
+    pub(crate) fn is_cell(&self, outs: &'t [UseText]) -> bool
+        ensures { result ≡ is_cell self.now outs.now }
+    {
+        match outs {
+            [only] => self.binders(only).are_there(),
+            _ => false,
         }
     }
 

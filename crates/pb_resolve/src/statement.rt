@@ -5,7 +5,7 @@ ghost use Rattle.pb_program.specs.Exprs.{bare};
 ghost use Rattle.pb_program.specs.Stmts.{bare_stmt, let_number, let_matrix, assign, call_stmt, assign_cell, stmts};
 ghost use Rattle.pb_resolve.specs.Faults.{Fails};
 ghost use Rattle.pb_resolve.specs.Bodies.{named, local, called, declare, use_faults, called_faults, declared_faults, local_form, form_faults};
-ghost use Rattle.pb_resolve.specs.Working.{expr_in, faults_in, args_in, args_faults_in, stmt_in, stmt_faults_in, after_in, block_in, block_faults_in, after_all};
+ghost use Rattle.pb_resolve.specs.Working.{expr_in, faults_in, args_in, args_faults_in, stmt_in, stmt_faults_in, after_in, block_in, block_faults_in, body_in, after_all};
 
 use crate::fault::Fault;
 use crate::make_statement as make;
@@ -96,7 +96,7 @@ impl<'t, 'p> Scope<'t, 'p> {
     /// Resolves a statement, and adds what it declares.
     #[cycle(statement)]
     #[tactic(auto, using(crate::proofs::FaultLemmas::fails_left, crate::proofs::FaultLemmas::fails_right), unfolding(crate::specs::Working::stmt_in, crate::specs::Working::stmt_faults_in, crate::specs::Working::after_in, crate::specs::Working::expr_in, crate::specs::Working::faults_in, crate::specs::Working::args_in, crate::specs::Working::args_faults_in, crate::specs::Working::block_in, crate::specs::Working::block_faults_in))]
-    pub(crate) fn statement(&mut self, s: &'t StmtText) -> Result<Stmt, Fault>
+    fn statement(&mut self, s: &'t StmtText) -> Result<Stmt, Fault>
         ensures found { IfOk result (λ x. bare_stmt x ≡ stmt_in self.old s.now) }
         ensures left { OnOk result (self.new ≡ after_in self.old s.now) }
         ensures faultless { OnOk result (stmt_faults_in self.old s.now ≡ []) }
@@ -150,8 +150,9 @@ impl<'t, 'p> Scope<'t, 'p> {
 
     /// Resolves the statements of a block, and forgets what they declare.
     #[cycle(statement)]
-    fn block(&mut self, ss: &'t [StmtText]) -> Result<Vec<Stmt>, Fault>
+    pub(crate) fn block(&mut self, ss: &'t [StmtText]) -> Result<Vec<Stmt>, Fault>
         ensures found { IfOk result (λ xs. stmts (map bare_stmt xs.items) ≡ block_in self.old ss.now) }
+        ensures listed { IfOk result (λ xs. map bare_stmt xs.items ≡ body_in self.old ss.now) }
         ensures left { OnOk result (self.new ≡ self.old) }
         ensures faultless { OnOk result (block_faults_in self.old ss.now ≡ []) }
         ensures refused { IfErr result (λ f. Fails f (block_faults_in self.old ss.now)) }
@@ -164,9 +165,10 @@ impl<'t, 'p> Scope<'t, 'p> {
 
     /// Resolves statements in their order, and adds what they declare.
     #[cycle(statement)]
-    #[tactic(auto, using(crate::proofs::FaultLemmas::fails_memory, crate::proofs::ScopeLemmas::block_built, crate::proofs::ScopeLemmas::block_faultless, crate::proofs::ScopeLemmas::scope_left, crate::proofs::ScopeLemmas::statement_fails, crate::proofs::ScopeLemmas::statement_read, crate::proofs::ScopeLemmas::none_read, crate::proofs::ScopeLemmas::pushed))]
-    pub(crate) fn statements(&mut self, ss: &'t [StmtText]) -> Result<Vec<Stmt>, Fault>
+    #[tactic(auto, using(crate::proofs::FaultLemmas::fails_memory, crate::proofs::ScopeLemmas::block_built, crate::proofs::ScopeLemmas::body_built, crate::proofs::ScopeLemmas::block_faultless, crate::proofs::ScopeLemmas::scope_left, crate::proofs::ScopeLemmas::statement_fails, crate::proofs::ScopeLemmas::statement_read, crate::proofs::ScopeLemmas::none_read, crate::proofs::ScopeLemmas::pushed))]
+    fn statements(&mut self, ss: &'t [StmtText]) -> Result<Vec<Stmt>, Fault>
         ensures found { IfOk result (λ xs. stmts (map bare_stmt xs.items) ≡ block_in self.old ss.now) }
+        ensures listed { IfOk result (λ xs. map bare_stmt xs.items ≡ body_in self.old ss.now) }
         ensures left { OnOk result (self.new ≡ after_all self.old ss.now) }
         ensures faultless { OnOk result (block_faults_in self.old ss.now ≡ []) }
         ensures refused { IfErr result (λ f. Fails f (block_faults_in self.old ss.now)) }
