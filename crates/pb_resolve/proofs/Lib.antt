@@ -7,3 +7,4 @@ pub mod SumLemmas
 pub mod KindLemmas
 pub mod PlanLemmas
 pub mod LocalLemmas
+pub mod RuleLemmas

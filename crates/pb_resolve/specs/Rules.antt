@@ -82,7 +82,7 @@ rule_of ms v r = record {
   reads = reads_of ms (after_outs v r.outs) r.reads;
   conds = map (cond_of (inner v r)) r.conds;
   body = body_of (inner v r) r.body;
-  plan = plan_by (is_plan v r) (locals_of v.names r.body) (calls_of (body_of (inner v r) r.body));
+  plan = plan_by (is_plan v r) (locals_of (inner v r).names r.body) (calls_of (body_of (inner v r) r.body));
 }
 
 abbrev pub is_single : List UseText → Bool

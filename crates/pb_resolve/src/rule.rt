@@ -1,6 +1,6 @@
-ghost use Rattle.std.specs.Prelude.{◌≡◌, ◌+◌, ◌++◌, [], map, IfOk, IfErr, OnOk, take};
+ghost use Rattle.std.specs.Prelude.{◌≡◌, ◌++◌, [], map, IfOk, IfErr, OnOk};
 ghost use Rattle.std.specs.List.{AllByRecursion};
-ghost use Rattle.pb_program.specs.Stmts.{bare_stmt as resolved, stmts};
+ghost use Rattle.pb_program.specs.Stmts.{bare_stmt as resolved};
 ghost use Rattle.pb_program.specs.Plans.{calls_of};
 ghost use Rattle.pb_program.specs.Trees.{bare_rule as resolved_rule};
 ghost use Rattle.pb_syntax.specs.Stmts.{bare_stmt};
@@ -8,7 +8,6 @@ ghost use Rattle.pb_syntax.specs.Trees.{bare_rule};
 ghost use Rattle.pb_syntax.specs.WithinLimits.{MarkWithin, RuleWithin, StmtWithin};
 ghost use Rattle.pb_resolve.specs.Faults.{Fails};
 ghost use Rattle.pb_resolve.specs.Rules.{inner, is_single, kind_by, locals_of, plan_by, priority_of, rule_faults, rule_of};
-ghost use Rattle.pb_resolve.specs.Kinds.{some_plans};
 ghost use Rattle.pb_resolve.specs.Locals.{IsWithin, local_in};
 
 use crate::fault::Fault;
@@ -104,5 +103,46 @@ impl<'t, 'p> Scope<'t, 'p> {
             })),
             None => Ok(None),
         }
+    }
+
+    #[tactic(auto, using(crate::proofs::FaultLemmas::fails_left, crate::proofs::FaultLemmas::fails_right, crate::proofs::FaultLemmas::fails_memory, crate::proofs::ScopeLemmas::body_is, crate::proofs::ScopeLemmas::body_faults_are), unfolding(crate::specs::Kinds::some_plans_in))]
+    fn rule_within(&mut self, matrices: &Matrices<'t>, r: &'t RuleText) -> Result<Rule, Fault>
+        requires { RuleWithin (bare_rule r.now) }
+        ensures found { IfOk result (λ x. resolved_rule x ≡ rule_of matrices.now self.old (bare_rule r.now)) }
+        ensures left { OnOk result (self.new ≡ inner self.old (bare_rule r.now)) }
+        ensures faultless { OnOk result (rule_faults matrices.now self.old (bare_rule r.now) ≡ []) }
+        ensures refused { IfErr result (λ f. Fails f (rule_faults matrices.now self.old (bare_rule r.now))) }
+    {
+        let is_cell = self.is_cell(r.outs.as_slice());
+        let single = is_single(r.outs.as_slice());
+        let outs = self.outputs(matrices, single, r.outs.as_slice())?;
+        let reads = self.reads(matrices, r.reads.as_slice())?;
+        let conds = self.conditions(r.conds.as_slice())?;
+        let stmts = self.block(r.stmts.as_slice())?;
+        let is_plan = some_plans(stmts.as_slice());
+        let plan = self.plan(is_plan, r.stmts.as_slice(), stmts.as_slice())?;
+        Ok(Rule {
+            priority: priority_of(r.mark),
+            kind: kind_by(is_plan, is_cell),
+            outs,
+            reads,
+            conds,
+            body: Body { stmts, plan },
+        })
+    }
+
+    /// Resolves a rule, and forgets what it declares.
+    #[tactic(auto, using(crate::proofs::ScopeLemmas::back_rule))]
+    pub(crate) fn rule(&mut self, matrices: &Matrices<'t>, r: &'t RuleText) -> Result<Rule, Fault>
+        requires { RuleWithin (bare_rule r.now) }
+        ensures found { IfOk result (λ x. resolved_rule x ≡ rule_of matrices.now self.old (bare_rule r.now)) }
+        ensures left { OnOk result (self.new ≡ self.old) }
+        ensures faultless { OnOk result (rule_faults matrices.now self.old (bare_rule r.now) ≡ []) }
+        ensures refused { IfErr result (λ f. Fails f (rule_faults matrices.now self.old (bare_rule r.now))) }
+    {
+        let mark = self.mark();
+        let rule = self.rule_within(matrices, r)?;
+        self.leave(mark);
+        Ok(rule)
     }
 }
