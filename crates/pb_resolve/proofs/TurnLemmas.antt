@@ -47,3 +47,32 @@ module _ {S A B : Type 0} (next : S → A → S) (made : S → A → B) (faults 
 
       pub all_seen : now ≡ after_turns next first xs
       all_seen = sym (ap (after_turns next now) none_left) ∙ t.seen
+
+-- the same where nothing is made
+module _ {S A : Type 0} (next : S → A → S) (faults : S → A → List Fault) where
+  pub record Passed (first now : S) (xs : List A) (i : ℕ) : Type 0 where
+    pub clean : turn_faults next faults now (drop i xs) ≡ turn_faults next faults first xs
+    pub seen : after_turns next now (drop i xs) ≡ after_turns next first xs
+
+  pub none_passed : (s : S) (xs : List A) → Passed s s xs 0
+  none_passed s xs = record { clean = refl; seen = refl }
+
+  module _ (first now : S) (xs : List A) (i : ℕ) (t : Passed first now xs i) where
+    module _ (x : A) (within : i < length xs) (here : x ≡ get_or xs i x) where
+      passes : drop i xs ≡ x ∷ drop (i + 1) xs
+      passes = rw (add-one, drop-cons xs i x) (rw (← here) refl)
+
+      pub pass_fails : (f : Fault) → Fails f (faults now x) → Fails f (turn_faults next faults first xs)
+      pass_fails f fails = subst (Fails f) (sym (ap (turn_faults next faults now) passes) ∙ t.clean) (fails_left f (faults now x) (turn_faults next faults (next now x) (drop (i + 1) xs)) fails)
+
+      pub passed : (later : S) → later ≡ next now x → faults now x ≡ [] → Passed first later xs (i + 1)
+      passed later after none = record {
+        clean = ap (λ z. turn_faults next faults z (drop (i + 1) xs)) after ∙ sym (ap (λ l. l ++ turn_faults next faults (next now x) (drop (i + 1) xs)) none) ∙ ap (turn_faults next faults now) (sym passes) ∙ t.clean;
+        seen = ap (λ z. after_turns next z (drop (i + 1) xs)) after ∙ ap (after_turns next now) (sym passes) ∙ t.seen;
+      }
+
+    pub pass_clean : length xs ≤ i → turn_faults next faults first xs ≡ []
+    pass_clean end = sym t.clean ∙ ap (turn_faults next faults now) (drop_all i xs end)
+
+    pub pass_seen : length xs ≤ i → now ≡ after_turns next first xs
+    pass_seen end = sym (ap (after_turns next now) (drop_all i xs end)) ∙ t.seen

@@ -12,3 +12,4 @@ pub mod Kinds
 pub mod Slots
 pub mod Rules
 pub mod Locals
+pub mod Transforms

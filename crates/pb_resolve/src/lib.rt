@@ -4,6 +4,7 @@
 mod decl;
 mod expression;
 mod fault;
+mod header;
 mod kind;
 mod local;
 mod make;

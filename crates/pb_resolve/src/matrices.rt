@@ -1,4 +1,5 @@
 use crate::names::Names;
+use std::alloc::{AllocFailed, Global};
 use std::marker::Model;
 
 /// A declared matrix: its number, from 0, and its number of dimensions.
@@ -24,9 +25,29 @@ impl<'t> Model for Matrices<'t> {
 }
 
 impl<'t> Matrices<'t> {
-    ghost use Rattle.std.specs.Prelude.{◌≡◌};
+    ghost use Rattle.std.specs.Prelude.{◌≡◌, ◌^◌, ◌<◌, [], ◌∷◌, ◌++◌, None, OnOk, length};
     ghost use Rattle.pb_resolve.specs.Names.{look};
     ghost use Rattle.pb_resolve.specs.Views.{is_given};
+
+    /// No matrices, of which the first `inputs` are given.
+    pub(crate) fn new(alloc: Global, inputs: u32) -> Matrices<'t>
+        ensures { result ≡ record { names = []; inputs = inputs } }
+    {
+        Matrices {
+            names: Names::new(alloc),
+            inputs,
+        }
+    }
+
+    /// Adds a matrix with the next number.
+    pub(crate) fn add(&mut self, name: &'t [u8], dims: u8) -> Result<(), AllocFailed<(&'t [u8], Matrix)>>
+        requires few { length self.old.names < 2 ^ 32 }
+        requires new { look name.now self.old.names ≡ None }
+        ensures { OnOk result (self.new ≡ record { names = self.old.names ++ (name.now, record { number = length self.old.names; dims = dims }) ∷ []; inputs = self.old.inputs }) }
+    {
+        let number = self.names.count() as u32;
+        self.names.add(name, Matrix { number, dims })
+    }
 
     /// The matrix of this name.
     pub(crate) fn find(&self, name: &[u8]) -> Option<Matrix>

@@ -46,7 +46,7 @@ pub(crate) fn alone(form: &FormText) -> Option<&Name>
 }
 
 /// Whether a name names a size.
-fn is_size(what: Option<Meaning>) -> bool
+pub(crate) fn is_size(what: Option<Meaning>) -> bool
     ensures { result ≡ is_size what }
 {
     match what {
