@@ -8,3 +8,4 @@ pub mod KindLemmas
 pub mod PlanLemmas
 pub mod LocalLemmas
 pub mod RuleLemmas
+pub mod SizeLemmas

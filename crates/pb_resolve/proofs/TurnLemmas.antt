@@ -1,7 +1,7 @@
 -- Items that are read in turn.
 use Rattle.std.proofs.Common.{◌≡◌, ℕ, ◌+◌, ◌<◌, ◌≤◌, List, [], ◌∷◌, ◌++◌, length, get_or, drop, refl, ap, subst, ◌∙◌, sym, arith, add-one, append_assoc}
 use Rattle.std.proofs.Math.Seq.{drop-cons}
-use Rattle.std.proofs.lemmas.List.{append-nil, drop_all}
+use Rattle.std.proofs.lemmas.List.{append-nil, drop_all, length-append}
 use Rattle.pb_resolve.specs.declared.fault.Fault.{Fault}
 use Rattle.pb_resolve.specs.Faults.{Fails}
 use Rattle.pb_resolve.specs.Turns.{after_turns, turns, turn_faults}
@@ -76,3 +76,53 @@ module _ {S A : Type 0} (next : S → A → S) (faults : S → A → List Fault)
 
     pub pass_seen : length xs ≤ i → now ≡ after_turns next first xs
     pass_seen end = sym (ap (after_turns next now) (drop_all i xs end)) ∙ t.seen
+
+-- the same where what is made is added to what there was
+module _ {S A B : Type 0} (next : S → A → S) (made : S → A → B) (faults : S → A → List Fault) where
+  pub record Added (first now : S) (old found : List B) (xs : List A) (i : ℕ) : Type 0 where
+    pub built : found ++ turns next made now (drop i xs) ≡ old ++ turns next made first xs
+    pub pass : Passed next faults first now xs i
+
+  pub none_added : (s : S) (old : List B) (xs : List A) → Added s s old old xs 0
+  none_added s old xs = record { built = refl; pass = none_passed next faults s xs }
+
+  module _ (first now : S) (old found : List B) (xs : List A) (i : ℕ) (t : Added first now old found xs i) where
+    module _ (x : A) (within : i < length xs) (here : x ≡ get_or xs i x) where
+      added_is : drop i xs ≡ x ∷ drop (i + 1) xs
+      added_is = rw (add-one, drop-cons xs i x) (rw (← here) refl)
+
+      pub add_fails : (f : Fault) → Fails f (faults now x) → Fails f (turn_faults next faults first xs)
+      add_fails f fails = pass_fails next faults first now xs i t.pass x within here f fails
+
+      pub added : (later : S) (more : List B) → later ≡ next now x → more ≡ found ++ made now x ∷ [] → faults now x ≡ [] → Added first later old more xs (i + 1)
+      added later more after put none = record {
+        built = ap (λ l. l ++ turns next made later (drop (i + 1) xs)) put ∙ append_assoc found (made now x ∷ []) (turns next made later (drop (i + 1) xs))
+            ∙ ap (λ z. found ++ made now x ∷ turns next made z (drop (i + 1) xs)) after ∙ ap (λ l. found ++ turns next made now l) (sym added_is) ∙ t.built;
+        pass = passed next faults first now xs i t.pass x within here later after none;
+      }
+
+    module _ (end : length xs ≤ i) where
+      pub add_built : found ≡ old ++ turns next made first xs
+      add_built = sym (append-nil found) ∙ ap (λ l. found ++ turns next made now l) (sym (drop_all i xs end)) ∙ t.built
+
+      pub add_clean : turn_faults next faults first xs ≡ []
+      add_clean = pass_clean next faults first now xs i t.pass end
+
+      pub add_seen : now ≡ after_turns next first xs
+      add_seen = pass_seen next faults first now xs i t.pass end
+
+  -- lists in turn, one list after the other
+  pub turns_append : (s : S) (xs ys : List A) → turns next made s (xs ++ ys) ≡ turns next made s xs ++ turns next made (after_turns next s xs) ys
+  turns_append s [] ys = refl
+  turns_append s (x ∷ xs) ys = ap (λ l. made s x ∷ l) (turns_append (next s x) xs ys)
+
+  pub faults_append : (s : S) (xs ys : List A) → turn_faults next faults s (xs ++ ys) ≡ turn_faults next faults s xs ++ turn_faults next faults (after_turns next s xs) ys
+  faults_append s [] ys = refl
+  faults_append s (x ∷ xs) ys = ap (λ l. faults s x ++ l) (faults_append (next s x) xs ys) ∙ sym (append_assoc (faults s x) (turn_faults next faults (next s x) xs) (turn_faults next faults (after_turns next (next s x) xs) ys))
+
+  pub after_append : (s : S) (xs ys : List A) → after_turns next s (xs ++ ys) ≡ after_turns next (after_turns next s xs) ys
+  after_append s [] ys = refl
+  after_append s (x ∷ xs) ys = after_append (next s x) xs ys
+
+pub next_length : {B : Type 0} (xs : List B) (y : B) → length (xs ++ y ∷ []) ≡ length xs + 1
+next_length xs y = simp length-append (omega arith)

@@ -13,3 +13,4 @@ pub mod Slots
 pub mod Rules
 pub mod Locals
 pub mod Transforms
+pub mod RuleWords

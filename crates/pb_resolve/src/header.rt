@@ -159,4 +159,25 @@ impl<'t, 'p> Scope<'t, 'p> {
         matrices.add(decl.name.bytes(), count_of(decl.dims.as_slice()))?;
         Ok(self.decl(&decl.name, decl.dims.as_slice())?)
     }
+
+    /// Resolves matrices in turn: adds their names to `matrices`, and the matrices to `found`.
+    #[tactic(auto, using(crate::proofs::FaultLemmas::fails_memory, crate::proofs::TurnLemmas::none_added, crate::proofs::TurnLemmas::added, crate::proofs::TurnLemmas::add_fails, crate::proofs::TurnLemmas::add_built, crate::proofs::TurnLemmas::add_clean, crate::proofs::TurnLemmas::add_seen, crate::proofs::TurnLemmas::next_length))]
+    pub(crate) fn matrices(
+        &self,
+        matrices: &mut Matrices<'t>,
+        decls: &'t [DeclText],
+        found: &mut Vec<Decl>,
+    ) -> Result<(), Fault>
+        requires few { length matrices.old.names + length decls.now ≤ MOST_MATRICES }
+        requires within { AllByRecursion DeclWithin decls.now }
+        ensures found { OnOk result (found.new.items ≡ found.old.items ++ turns next_matrix (matrix_of self.now) matrices.old.names decls.now) }
+        ensures left { OnOk result (matrices.new ≡ record { names = after_turns next_matrix matrices.old.names decls.now; inputs = matrices.old.inputs }) }
+        ensures faultless { OnOk result (turn_faults next_matrix (matrix_faults self.now) matrices.old.names decls.now ≡ []) }
+        ensures refused { IfErr result (λ f. Fails f (turn_faults next_matrix (matrix_faults self.now) matrices.old.names decls.now)) }
+    {
+        for next in decls {
+            found.push(self.matrix(matrices, next)?)?;
+        }
+        Ok(())
+    }
 }

@@ -16,6 +16,8 @@ mod plan;
 mod reads;
 mod rule;
 mod scope;
+mod sizes;
 mod statement;
 mod sum;
+mod transform;
 mod view;

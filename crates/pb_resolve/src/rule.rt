@@ -8,6 +8,7 @@ ghost use Rattle.pb_syntax.specs.Trees.{bare_rule};
 ghost use Rattle.pb_syntax.specs.WithinLimits.{MarkWithin, RuleWithin, StmtWithin};
 ghost use Rattle.pb_resolve.specs.Faults.{Fails};
 ghost use Rattle.pb_resolve.specs.Rules.{inner, is_single, kind_by, locals_of, plan_by, priority_of, rule_faults, rule_of};
+ghost use Rattle.pb_resolve.specs.RuleWords.{rule_in, rule_faults_in, IsRuleWithin};
 ghost use Rattle.pb_resolve.specs.Locals.{IsWithin, local_in};
 
 use crate::fault::Fault;
@@ -132,13 +133,13 @@ impl<'t, 'p> Scope<'t, 'p> {
     }
 
     /// Resolves a rule, and forgets what it declares.
-    #[tactic(auto, using(crate::proofs::ScopeLemmas::back_rule))]
+    #[tactic(auto, unfolding(crate::specs::RuleWords::rule_in, crate::specs::RuleWords::rule_faults_in, crate::specs::RuleWords::IsRuleWithin))]
     pub(crate) fn rule(&mut self, matrices: &Matrices<'t>, r: &'t RuleText) -> Result<Rule, Fault>
-        requires { RuleWithin (bare_rule r.now) }
-        ensures found { IfOk result (λ x. resolved_rule x ≡ rule_of matrices.now self.old (bare_rule r.now)) }
+        requires { IsRuleWithin r.now }
+        ensures found { IfOk result (λ x. resolved_rule x ≡ rule_in matrices.now self.old r.now) }
         ensures left { OnOk result (self.new ≡ self.old) }
-        ensures faultless { OnOk result (rule_faults matrices.now self.old (bare_rule r.now) ≡ []) }
-        ensures refused { IfErr result (λ f. Fails f (rule_faults matrices.now self.old (bare_rule r.now))) }
+        ensures faultless { OnOk result (rule_faults_in matrices.now self.old r.now ≡ []) }
+        ensures refused { IfErr result (λ f. Fails f (rule_faults_in matrices.now self.old r.now)) }
     {
         let mark = self.mark();
         let rule = self.rule_within(matrices, r)?;
