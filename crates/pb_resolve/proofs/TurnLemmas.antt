@@ -111,18 +111,5 @@ module _ {S A B : Type 0} (next : S → A → S) (made : S → A → B) (faults 
       pub add_seen : now ≡ after_turns next first xs
       add_seen = pass_seen next faults first now xs i t.pass end
 
-  -- lists in turn, one list after the other
-  pub turns_append : (s : S) (xs ys : List A) → turns next made s (xs ++ ys) ≡ turns next made s xs ++ turns next made (after_turns next s xs) ys
-  turns_append s [] ys = refl
-  turns_append s (x ∷ xs) ys = ap (λ l. made s x ∷ l) (turns_append (next s x) xs ys)
-
-  pub faults_append : (s : S) (xs ys : List A) → turn_faults next faults s (xs ++ ys) ≡ turn_faults next faults s xs ++ turn_faults next faults (after_turns next s xs) ys
-  faults_append s [] ys = refl
-  faults_append s (x ∷ xs) ys = ap (λ l. faults s x ++ l) (faults_append (next s x) xs ys) ∙ sym (append_assoc (faults s x) (turn_faults next faults (next s x) xs) (turn_faults next faults (after_turns next (next s x) xs) ys))
-
-  pub after_append : (s : S) (xs ys : List A) → after_turns next s (xs ++ ys) ≡ after_turns next (after_turns next s xs) ys
-  after_append s [] ys = refl
-  after_append s (x ∷ xs) ys = after_append (next s x) xs ys
-
 pub next_length : {B : Type 0} (xs : List B) (y : B) → length (xs ++ y ∷ []) ≡ length xs + 1
 next_length xs y = simp length-append (omega arith)

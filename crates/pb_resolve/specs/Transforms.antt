@@ -103,11 +103,26 @@ matrix_faults v known d =
 abbrev pub matrix_of : Visible → List (List ℕ × Matrix) → DeclText → DeclValue
 matrix_of v known d = decl_of v.names d.name d.dims
 
-abbrev pub decls : TransformTree → List DeclText
-decls t = t.from ++ (t.through ++ t.to)
+-- the matrices that are given, those with the ones between, and all
+abbrev pub given : TransformTree → List (List ℕ × Matrix)
+given t = after_turns next_matrix [] t.from
+
+abbrev pub between : TransformTree → List (List ℕ × Matrix)
+between t = after_turns next_matrix (given t) t.through
+
+abbrev pub all_matrices : TransformTree → List (List ℕ × Matrix)
+all_matrices t = after_turns next_matrix (between t) t.to
 
 abbrev pub matrices_of : TransformTree → Matrices
-matrices_of t = record { names = after_turns next_matrix [] (decls t); inputs = length t.from }
+matrices_of t = record { names = all_matrices t; inputs = length t.from }
+
+abbrev pub decls_of : Visible → TransformTree → List DeclValue
+decls_of v t = turns next_matrix (matrix_of v) [] t.from ++ turns next_matrix (matrix_of v) (given t) t.through ++ turns next_matrix (matrix_of v) (between t) t.to
+
+abbrev pub decls_faults : Visible → TransformTree → List Fault
+decls_faults v t =
+    turn_faults next_matrix (matrix_faults v) [] t.from
+    ++ (turn_faults next_matrix (matrix_faults v) (given t) t.through ++ turn_faults next_matrix (matrix_faults v) (between t) t.to)
 
 module _ (transforms : List (List ℕ × ℕ)) where
   abbrev pub seen : TransformTree → Visible
@@ -118,7 +133,7 @@ module _ (transforms : List (List ℕ × ℕ)) where
     name = t.name;
     ranges = ranges_of (minimums_of t) (sizes t);
     sizes = sizes t;
-    matrices = turns next_matrix (matrix_of (seen t)) [] (decls t);
+    matrices = decls_of (seen t) t;
     inputs = length t.from;
     middles = length t.through;
     rules = map (rule_of (matrices_of t) (seen t)) t.rules;
@@ -127,7 +142,7 @@ module _ (transforms : List (List ℕ × ℕ)) where
   abbrev pub transform_faults : TransformTree → List Fault
   transform_faults t =
       turn_faults next_minimum (minimum_faults (seen t)) [] t.minimums
-      ++ (turn_faults next_matrix (matrix_faults (seen t)) [] (decls t)
+      ++ (decls_faults (seen t) t
       ++ flat_map (rule_faults (matrices_of t) (seen t)) t.rules)
 
 -- the transforms of a program with their numbers, from the k-th on: of equal names the first counts

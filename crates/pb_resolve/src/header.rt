@@ -170,6 +170,7 @@ impl<'t, 'p> Scope<'t, 'p> {
     ) -> Result<(), Fault>
         requires few { length matrices.old.names + length decls.now ≤ MOST_MATRICES }
         requires within { AllByRecursion DeclWithin decls.now }
+        ensures counted { OnOk result (length matrices.new.names ≡ length matrices.old.names + length decls.now) }
         ensures found { OnOk result (found.new.items ≡ found.old.items ++ turns next_matrix (matrix_of self.now) matrices.old.names decls.now) }
         ensures left { OnOk result (matrices.new ≡ record { names = after_turns next_matrix matrices.old.names decls.now; inputs = matrices.old.inputs }) }
         ensures faultless { OnOk result (turn_faults next_matrix (matrix_faults self.now) matrices.old.names decls.now ≡ []) }

@@ -5,7 +5,7 @@ ghost use Rattle.pb_syntax.specs.Trees.{bare_rule, bare_transform};
 ghost use Rattle.pb_syntax.specs.WithinLimits.{RuleWithin, TransformWithin};
 ghost use Rattle.pb_resolve.specs.Faults.{Fails};
 ghost use Rattle.pb_resolve.specs.RuleWords.{rule_in, rule_faults_in, IsRuleWithin};
-ghost use Rattle.pb_resolve.specs.Transforms.{entries, seen, sizes_of, transform_faults, transform_of};
+ghost use Rattle.pb_resolve.specs.Transforms.{all_matrices, decls_faults, decls_of, seen, transform_faults, transform_of};
 
 use crate::fault::Fault;
 use crate::header::ranges;
@@ -13,7 +13,7 @@ use crate::matrices::Matrices;
 use crate::names::Names;
 use crate::scope::{Scope, copy_name};
 use crate::sizes::sizes;
-use pb_program::{Rule, Transform};
+use pb_program::{Decl, Rule, Transform};
 use pb_syntax::{RuleText, TransformText};
 use pb_values::Name;
 use std::alloc::Global;
@@ -32,6 +32,27 @@ impl<'t, 'p> Scope<'t, 'p> {
         for next in rules {
             found.push(self.rule(matrices, next)?)?;
         }
+        Ok(found)
+    }
+
+    /// Resolves the matrices of a transform.
+    #[tactic(auto, using(crate::proofs::FaultLemmas::fails_left, crate::proofs::FaultLemmas::fails_right))]
+    fn all_matrices(
+        &self,
+        matrices: &mut Matrices<'t>,
+        t: &'t TransformText,
+    ) -> Result<Vec<Decl>, Fault>
+        requires within { TransformWithin (bare_transform t.now) }
+        requires none { matrices.old.names ≡ [] }
+        ensures found { IfOk result (λ ds. ds.items ≡ decls_of self.now (bare_transform t.now)) }
+        ensures left { OnOk result (matrices.new ≡ record { names = all_matrices (bare_transform t.now); inputs = matrices.old.inputs }) }
+        ensures faultless { OnOk result (decls_faults self.now (bare_transform t.now) ≡ []) }
+        ensures refused { IfErr result (λ f. Fails f (decls_faults self.now (bare_transform t.now))) }
+    {
+        let mut found = Vec::new(self.alloc);
+        self.matrices(matrices, t.from.as_slice(), &mut found)?;
+        self.matrices(matrices, t.through.as_slice(), &mut found)?;
+        self.matrices(matrices, t.to.as_slice(), &mut found)?;
         Ok(found)
     }
 }
