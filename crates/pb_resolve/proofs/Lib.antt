@@ -9,3 +9,5 @@ pub mod PlanLemmas
 pub mod LocalLemmas
 pub mod RuleLemmas
 pub mod SizeLemmas
+pub mod TransformLemmas
+pub mod ProgramLemmas

@@ -14,3 +14,4 @@ pub mod Rules
 pub mod Locals
 pub mod Transforms
 pub mod RuleWords
+pub mod Programs

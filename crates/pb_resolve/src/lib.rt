@@ -14,6 +14,7 @@ mod names;
 mod outputs;
 mod plan;
 mod reads;
+mod resolve;
 mod rule;
 mod scope;
 mod sizes;

@@ -52,7 +52,7 @@ pub(crate) fn copy_name(alloc: Global, name: &Name) -> Result<Name, AllocError>
 }
 
 /// The function of this name.
-fn function_of(name: &[u8]) -> Option<Function>
+pub(crate) fn function_of(name: &[u8]) -> Option<Function>
     ensures { result ≡ function_of name.now }
 {
     if name == b"sum".as_slice() {
@@ -79,6 +79,22 @@ impl<'t, 'p> Scope<'t, 'p> {
     ghost use Rattle.pb_resolve.specs.declared.fault.Fault.TheVariants.{Memory};
     ghost use Rattle.pb_resolve.specs.Names.{look};
     ghost use Rattle.pb_resolve.specs.Bodies.{named, called, use_faults, called_faults, declared_faults};
+
+    /// What the header of a transform sees: the transforms, and its sizes.
+    pub(crate) fn new(
+        alloc: Global,
+        transforms: &'p Names<'t, u32>,
+        names: Names<'t, Meaning>,
+    ) -> Scope<'t, 'p>
+        ensures { result ≡ record { transforms = transforms.now; names = names.entry; locals = 0 } }
+    {
+        Scope {
+            alloc,
+            transforms,
+            names,
+            locals: 0,
+        }
+    }
 
     /// What a name names, if it is visible.
     pub(crate) fn meaning(&self, name: &Name) -> Option<Meaning>

@@ -4,8 +4,12 @@ ghost use Rattle.pb_program.specs.Trees.{bare_rule as resolved_rule, bare_transf
 ghost use Rattle.pb_syntax.specs.Trees.{bare_rule, bare_transform};
 ghost use Rattle.pb_syntax.specs.WithinLimits.{RuleWithin, TransformWithin};
 ghost use Rattle.pb_resolve.specs.Faults.{Fails};
+ghost use Rattle.pb_resolve.specs.Turns.{turn_faults};
+ghost use Rattle.pb_resolve.specs.Rules.{rule_of, rule_faults};
 ghost use Rattle.pb_resolve.specs.RuleWords.{rule_in, rule_faults_in, IsRuleWithin};
-ghost use Rattle.pb_resolve.specs.Transforms.{all_matrices, decls_faults, decls_of, seen, transform_faults, transform_of};
+ghost use Rattle.pb_resolve.specs.Transforms.{all_matrices, decls_faults, decls_of, minimum_faults, minimums_of, next_minimum, seen, sizes as sizes_named, transform_faults, transform_of};
+ghost use Rattle.pb_resolve.specs.declared.fault.Fault.TheVariants.{Memory};
+ghost use Rattle.pb_syntax.specs.declared.limits.TheConstants.{MOST_SIZES};
 
 use crate::fault::Fault;
 use crate::header::ranges;
@@ -35,6 +39,28 @@ impl<'t, 'p> Scope<'t, 'p> {
         Ok(found)
     }
 
+    fn minimums_of(&self, t: &'t TransformText) -> Result<Names<'t, u64>, Fault>
+        ensures found { IfOk result (λ known. known ≡ minimums_of (bare_transform t.now)) }
+        ensures faultless { OnOk result (turn_faults next_minimum (minimum_faults self.now) [] t.now.minimums ≡ []) }
+        ensures refused { IfErr result (λ f. Fails f (turn_faults next_minimum (minimum_faults self.now) [] t.now.minimums)) }
+    {
+        self.minimums(t.minimums.as_slice())
+    }
+
+    #[tactic(auto, using(crate::proofs::TransformLemmas::rules_are, crate::proofs::TransformLemmas::rules_faults_are, crate::proofs::TransformLemmas::rules_within))]
+    fn rules_of(
+        &mut self,
+        matrices: &Matrices<'t>,
+        t: &'t TransformText,
+    ) -> Result<Vec<Rule>, Fault>
+        requires { TransformWithin (bare_transform t.now) }
+        ensures found { IfOk result (λ rs. map resolved_rule rs.items ≡ map (rule_of matrices.now self.old) (map bare_rule t.now.rules)) }
+        ensures faultless { OnOk result (flat_map (rule_faults matrices.now self.old) (map bare_rule t.now.rules) ≡ []) }
+        ensures refused { IfErr result (λ f. Fails f (flat_map (rule_faults matrices.now self.old) (map bare_rule t.now.rules))) }
+    {
+        self.rules(matrices, t.rules.as_slice())
+    }
+
     /// Resolves the matrices of a transform.
     #[tactic(auto, using(crate::proofs::FaultLemmas::fails_left, crate::proofs::FaultLemmas::fails_right))]
     fn all_matrices(
@@ -55,4 +81,54 @@ impl<'t, 'p> Scope<'t, 'p> {
         self.matrices(matrices, t.to.as_slice(), &mut found)?;
         Ok(found)
     }
+}
+
+/// What the header of a transform sees; the names of its sizes are added to `found`.
+#[tactic(auto, using(crate::proofs::FaultLemmas::fails_memory, crate::proofs::SizeLemmas::sizes_few))]
+fn seen<'t, 'p>(
+    alloc: Global,
+    transforms: &'p Names<'t, u32>,
+    t: &'t TransformText,
+    found: &mut Vec<Name>,
+) -> Result<Scope<'t, 'p>, Fault>
+    requires within { TransformWithin (bare_transform t.now) }
+    requires none { found.old.items ≡ [] }
+    ensures scope { IfOk result (λ s. s ≡ seen transforms.now (bare_transform t.now)) }
+    ensures found { OnOk result (found.new.items ≡ sizes_named (bare_transform t.now)) }
+    ensures few { OnOk result (length found.new.items ≤ MOST_SIZES) }
+    ensures refused { IfErr result (λ f. f ≡ Memory) }
+{
+    let mut names = Names::new(alloc);
+    sizes(alloc, &mut names, found, t.from.as_slice())?;
+    Ok(Scope::new(alloc, transforms, names))
+}
+
+/// Resolves a transform.
+#[tactic(auto, using(crate::proofs::FaultLemmas::fails_left, crate::proofs::FaultLemmas::fails_right, crate::proofs::FaultLemmas::fails_memory))]
+pub(crate) fn transform<'t>(
+    alloc: Global,
+    transforms: &Names<'t, u32>,
+    t: &'t TransformText,
+) -> Result<Transform, Fault>
+    requires { TransformWithin (bare_transform t.now) }
+    ensures found { IfOk result (λ x. resolved_transform x ≡ transform_of transforms.now (bare_transform t.now)) }
+    ensures faultless { OnOk result (transform_faults transforms.now (bare_transform t.now) ≡ []) }
+    ensures refused { IfErr result (λ f. Fails f (transform_faults transforms.now (bare_transform t.now))) }
+{
+    let mut names = Vec::new(alloc);
+    let mut scope = seen(alloc, transforms, t, &mut names)?;
+    let minimums = scope.minimums_of(t)?;
+    let inputs = t.from.len() as u32;
+    let mut matrices = Matrices::new(alloc, inputs);
+    let decls = scope.all_matrices(&mut matrices, t)?;
+    let rules = scope.rules_of(&matrices, t)?;
+    Ok(Transform {
+        name: copy_name(alloc, &t.name)?,
+        ranges: ranges(&minimums, names.as_slice()),
+        sizes: names,
+        matrices: decls,
+        inputs,
+        middles: t.through.len() as u32,
+        rules,
+    })
 }

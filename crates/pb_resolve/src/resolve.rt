@@ -1,0 +1,70 @@
+ghost use Rattle.std.specs.Prelude.{◌≡◌, ◌≤◌, [], map, IfOk, IfErr, OnOk, length};
+ghost use Rattle.std.specs.List.{AllByRecursion};
+ghost use Rattle.pb_program.specs.Trees.{bare_transform as resolved_transform};
+ghost use Rattle.pb_syntax.specs.declared.limits.TheConstants.{MOST_TRANSFORMS};
+ghost use Rattle.pb_syntax.specs.Trees.{bare_transform};
+ghost use Rattle.pb_resolve.specs.Faults.{Fails};
+ghost use Rattle.pb_resolve.specs.declared.fault.Fault.TheVariants.{Memory};
+ghost use Rattle.pb_resolve.specs.Programs.{IsTransformWithin, first_in, named_faults_in, next_in, transform_in};
+ghost use Rattle.pb_resolve.specs.Transforms.{first_names, named_faults, next_transform, put_first, transform_of};
+ghost use Rattle.pb_resolve.specs.Turns.{turn_faults};
+
+use crate::fault::Fault;
+use crate::names::Names;
+use crate::scope::{copy_name, function_of};
+use crate::transform::transform;
+use pb_program::Transform;
+use pb_syntax::TransformText;
+use std::alloc::Global;
+
+/// Adds a transform's name with its number, if no earlier transform has it.
+#[tactic(auto, unfolding(crate::specs::Programs::first_in))]
+fn put_first<'t>(
+    names: &mut Names<'t, u32>,
+    k: u32,
+    t: &'t TransformText,
+) -> Result<(), Fault>
+    ensures left { OnOk result (names.new ≡ first_in k names.old t.now) }
+    ensures refused { IfErr result (λ f. f ≡ Memory) }
+{
+    if names.find(t.name.bytes()).is_none() {
+        names.add(t.name.bytes(), k)?;
+    }
+    Ok(())
+}
+
+/// The numbers of transforms by their names.
+#[tactic(auto, using(crate::proofs::ProgramLemmas::first_next, crate::proofs::ProgramLemmas::first_end))]
+fn all_names<'t>(alloc: Global, ts: &'t [TransformText]) -> Result<Names<'t, u32>, Fault>
+    requires { length ts.now ≤ MOST_TRANSFORMS }
+    ensures found { IfOk result (λ names. names ≡ first_names 0 [] (map bare_transform ts.now)) }
+    ensures refused { IfErr result (λ f. f ≡ Memory) }
+{
+    let mut names = Names::new(alloc);
+    for (k, t) in ts.iter().enumerate() {
+        put_first(&mut names, k as u32, t)?;
+    }
+    Ok(names)
+}
+
+/// Resolves a transform whose name isn't an earlier one's or a function's.
+#[tactic(auto, using(crate::proofs::FaultLemmas::fails_left, crate::proofs::FaultLemmas::fails_right, crate::proofs::FaultLemmas::fails_memory), unfolding(crate::specs::Programs::named_faults_in, crate::specs::Programs::next_in, crate::specs::Programs::transform_in, crate::specs::Programs::IsTransformWithin))]
+fn named<'t>(
+    alloc: Global,
+    all: &Names<'t, u32>,
+    known: &mut Names<'t, u32>,
+    t: &'t TransformText,
+) -> Result<Transform, Fault>
+    requires { IsTransformWithin t.now }
+    ensures found { IfOk result (λ x. resolved_transform x ≡ transform_in all.now t.now) }
+    ensures left { OnOk result (known.new ≡ next_in known.old t.now) }
+    ensures faultless { OnOk result (named_faults_in all.now known.old t.now ≡ []) }
+    ensures refused { IfErr result (λ f. Fails f (named_faults_in all.now known.old t.now)) }
+{
+    if function_of(t.name.bytes()).is_some() || known.find(t.name.bytes()).is_some() {
+        return Err(Fault::Duplicate(copy_name(alloc, &t.name)?));
+    }
+    let found = transform(alloc, all, t)?;
+    known.add(t.name.bytes(), 0)?;
+    Ok(found)
+}
