@@ -1,5 +1,5 @@
 -- Transforms and programs: what each is resolved to, and what is wrong with its names.
-use Rattle.std.specs.Prelude.{ℕ, ◌+◌, max, Bool, true, false, not, ◌||◌, if◌then◌else◌, List, [], ◌∷◌, ◌++◌, map, length, Option, Some, None, is_some, slice_get}
+use Rattle.std.specs.Prelude.{◌≡◌, ℕ, ◌+◌, max, Bool, true, false, not, ◌||◌, if◌then◌else◌, List, [], ◌∷◌, ◌++◌, map, length, Option, Some, None, is_some, slice_get}
 use Rattle.std.specs.List.{flat_map}
 use Rattle.std.specs.Option.{option_map_or}
 use Rattle.pb_linear.specs.declared.sizes.Ranges.{Ranges}
@@ -12,7 +12,10 @@ use Rattle.pb_program.specs.declared.meaning.Meaning.{Meaning}
 use Rattle.pb_program.specs.declared.meaning.Meaning.TheVariants as meaning
 use Rattle.pb_program.specs.Forms.{DeclValue}
 use Rattle.pb_program.specs.Trees.{ProgTransform}
+use Rattle.pb_syntax.specs.declared.refusal.Refusal.{Refusal}
+use Rattle.pb_syntax.specs.declared.refusal.Refusal.TheVariants as refusal
 use Rattle.pb_resolve.specs.declared.fault.Fault.{Fault}
+use Rattle.pb_resolve.specs.declared.fault.Fault.TheVariants as fault
 use Rattle.pb_resolve.specs.declared.matrices.Matrix.{Matrix}
 use Rattle.pb_resolve.specs.Names.{look}
 use Rattle.pb_resolve.specs.Faults.{duplicate, not_bound}
@@ -173,3 +176,24 @@ program_of ts = map (transform_of (all_names ts)) ts
 -- the faults of the names of a program, in the order of the text
 abbrev pub faults_of : List TransformTree → List Fault
 faults_of ts = turn_faults next_transform (named_faults (all_names ts)) [] ts
+
+-- the refusal of a fault
+abbrev pub refusal_of : Fault → Refusal
+refusal_of (fault.Duplicate n) = refusal.DuplicateName n n.at
+refusal_of (fault.Unknown n) = refusal.UnknownName n n.at
+refusal_of (fault.NotBound n) = refusal.SizeNotBound n n.at
+refusal_of (fault.BadOutput at) = refusal.BadOutput at
+refusal_of fault.Memory = refusal.Memory
+
+-- a tree without faults is this program
+pub record IsResolved (tree : List TransformTree) (p : List ProgTransform) : Type 0 where
+  pub faultless : faults_of tree ≡ []
+  pub program : p ≡ program_of tree
+
+-- a tree is refused for the first of its faults
+abbrev pub IsRefusedFor : List Fault → Refusal → Type 0
+IsRefusedFor [] e = ⊥
+IsRefusedFor (f ∷ rest) e = e ≡ refusal_of f
+
+abbrev pub IsRefused : List TransformTree → Refusal → Type 0
+IsRefused tree e = IsRefusedFor (faults_of tree) e

@@ -6,15 +6,15 @@ ghost use Rattle.pb_syntax.specs.Trees.{bare_transform};
 ghost use Rattle.pb_resolve.specs.Faults.{Fails};
 ghost use Rattle.pb_resolve.specs.declared.fault.Fault.TheVariants.{Memory};
 ghost use Rattle.pb_resolve.specs.Programs.{IsTransformWithin, first_in, named_faults_in, next_in, transform_in};
-ghost use Rattle.pb_resolve.specs.Transforms.{first_names, named_faults, next_transform, put_first, transform_of};
-ghost use Rattle.pb_resolve.specs.Turns.{turn_faults};
+ghost use Rattle.pb_resolve.specs.Transforms.{first_names, refusal_of};
+ghost use Rattle.pb_resolve.specs.Turns.{turns, turn_faults};
 
 use crate::fault::Fault;
 use crate::names::Names;
 use crate::scope::{copy_name, function_of};
 use crate::transform::transform;
 use pb_program::Transform;
-use pb_syntax::TransformText;
+use pb_syntax::{Refusal, TransformText};
 use std::alloc::Global;
 
 /// Adds a transform's name with its number, if no earlier transform has it.
@@ -67,4 +67,45 @@ fn named<'t>(
     let found = transform(alloc, all, t)?;
     known.add(t.name.bytes(), 0)?;
     Ok(found)
+}
+
+#[tactic(auto, using(crate::proofs::FaultLemmas::fails_memory, crate::proofs::TurnLemmas::none_turned, crate::proofs::TurnLemmas::turned, crate::proofs::TurnLemmas::all_clean, crate::proofs::TurnLemmas::all_built))]
+fn transforms<'t>(
+    alloc: Global,
+    all: &Names<'t, u32>,
+    ts: &'t [TransformText],
+) -> Result<Vec<Transform>, Fault>
+    requires { AllByRecursion IsTransformWithin ts.now }
+    ensures found { IfOk result (λ xs. map resolved_transform xs.items ≡ turns next_in (λ _ t. transform_in all.now t) [] ts.now) }
+    ensures faultless { OnOk result (turn_faults next_in (named_faults_in all.now) [] ts.now ≡ []) }
+    ensures refused { IfErr result (λ f. Fails f (turn_faults next_in (named_faults_in all.now) [] ts.now)) }
+{
+    let mut known = Names::new(alloc);
+    let mut found = Vec::new(alloc);
+    for next in ts {
+        found.push(named(alloc, all, &mut known, next)?)?;
+    }
+    Ok(found)
+}
+
+/// The refusal of a fault.
+fn refusal(fault: Fault) -> Refusal
+    ensures { result ≡ refusal_of fault }
+{
+    match fault {
+        Fault::Duplicate(name) => {
+            let at = name.at();
+            Refusal::DuplicateName { name, at }
+        }
+        Fault::Unknown(name) => {
+            let at = name.at();
+            Refusal::UnknownName { name, at }
+        }
+        Fault::NotBound(name) => {
+            let at = name.at();
+            Refusal::SizeNotBound { name, at }
+        }
+        Fault::BadOutput(at) => Refusal::BadOutput { at },
+        Fault::Memory => Refusal::Memory,
+    }
 }
