@@ -1,4 +1,8 @@
 //! Names of a program, each with what it names.
+//!
+//! In: the tree of a program text, within the limits. Out: the program with each name resolved, or the first fault of its
+//! names in the order of the text. The theorem: `resolve` answers the one program that the tree is, exactly where no name
+//! in it has a fault.
 #![tactic(auto)]
 
 mod decl;
@@ -8,13 +12,13 @@ mod header;
 mod kind;
 mod local;
 mod make;
-mod matrices;
 mod make_statement;
+mod matrices;
 mod names;
 mod outputs;
 mod plan;
+mod program;
 mod reads;
-mod resolve;
 mod rule;
 mod scope;
 mod sizes;
@@ -22,3 +26,6 @@ mod statement;
 mod sum;
 mod transform;
 mod view;
+
+pub use pb_program::Prog;
+pub use program::resolve;

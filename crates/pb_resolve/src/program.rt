@@ -1,20 +1,22 @@
-ghost use Rattle.std.specs.Prelude.{◌≡◌, ◌≤◌, [], map, IfOk, IfErr, OnOk, length};
+ghost use Rattle.std.specs.Prelude.{◌≡◌, ◌≤◌, ◌⊎◌, [], map, IfOk, IfErr, OnOk, length};
 ghost use Rattle.std.specs.List.{AllByRecursion};
-ghost use Rattle.pb_program.specs.Trees.{bare_transform as resolved_transform};
+ghost use Rattle.pb_program.specs.Trees.{bare_prog, bare_transform as resolved_transform};
 ghost use Rattle.pb_syntax.specs.declared.limits.TheConstants.{MOST_TRANSFORMS};
-ghost use Rattle.pb_syntax.specs.Trees.{bare_transform};
+ghost use Rattle.pb_syntax.specs.Trees.{bare_text, bare_transform};
 ghost use Rattle.pb_resolve.specs.Faults.{Fails};
 ghost use Rattle.pb_resolve.specs.declared.fault.Fault.TheVariants.{Memory};
 ghost use Rattle.pb_resolve.specs.Programs.{IsTransformWithin, first_in, named_faults_in, next_in, transform_in};
-ghost use Rattle.pb_resolve.specs.Transforms.{first_names, refusal_of};
+ghost use Rattle.pb_resolve.specs.Transforms.{IsRefused, IsResolved, faults_of, first_names, refusal_of};
+ghost use Rattle.pb_syntax.specs.declared.refusal.Refusal.TheVariants as refused;
+ghost use Rattle.pb_syntax.specs.WithinLimits.{IsWithinLimits};
 ghost use Rattle.pb_resolve.specs.Turns.{turns, turn_faults};
 
 use crate::fault::Fault;
 use crate::names::Names;
 use crate::scope::{copy_name, function_of};
 use crate::transform::transform;
-use pb_program::Transform;
-use pb_syntax::{Refusal, TransformText};
+use pb_program::{Prog, Transform};
+use pb_syntax::{Refusal, Text, TransformText};
 use std::alloc::Global;
 
 /// Adds a transform's name with its number, if no earlier transform has it.
@@ -107,5 +109,31 @@ fn refusal(fault: Fault) -> Refusal
         }
         Fault::BadOutput(at) => Refusal::BadOutput { at },
         Fault::Memory => Refusal::Memory,
+    }
+}
+
+#[tactic(auto, using(crate::proofs::FaultLemmas::fails_memory, crate::proofs::ProgramLemmas::all_within, crate::proofs::ProgramLemmas::resolved, crate::proofs::ProgramLemmas::faults_told))]
+fn resolved(alloc: Global, ts: &[TransformText]) -> Result<Vec<Transform>, Fault>
+    requires { IsWithinLimits (map bare_transform ts.now) }
+    ensures found { IfOk result (λ xs. IsResolved (map bare_transform ts.now) (map resolved_transform xs.items)) }
+    ensures refused { IfErr result (λ f. Fails f (faults_of (map bare_transform ts.now))) }
+{
+    let all = all_names(alloc, ts)?;
+    let found = transforms(alloc, &all, ts)?;
+    Ok(found)
+}
+
+/// The program that a tree within the limits is, with each name resolved; refused for the first of its faults, in the order
+/// of the text: a name that is there already, that isn't there or that is no size variable, or an output that a rule can't
+/// have.
+#[tactic(auto, using(crate::proofs::ProgramLemmas::refused))]
+pub fn resolve(alloc: Global, text: &Text) -> Result<Prog, Refusal>
+    requires { IsWithinLimits (bare_text text.now) }
+    ensures found { IfOk result (λ p. IsResolved (bare_text text.now) (bare_prog p)) }
+    ensures refused { IfErr result (λ e. (e ≡ refused.Memory) ⊎ IsRefused (bare_text text.now) e) }
+{
+    match resolved(alloc, text.transforms.as_slice()) {
+        Ok(transforms) => Ok(Prog { transforms }),
+        Err(fault) => Err(refusal(fault)),
     }
 }
