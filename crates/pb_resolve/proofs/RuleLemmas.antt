@@ -35,5 +35,5 @@ rule_is ms v r x v1 v2 planned cell f =
     let is : planned ≡ is_plan v r = f.planned_is ∙ ap (λ b. some_plans (stmts b)) body in
     let kind : x.kind ≡ kind_by (is_plan v r) (is_cell v r.outs) = f.kind ∙ (λ i. kind_by (is i) (f.cell_is i)) in
     let plan : x.plan ≡ plan_by (is_plan v r) (locals_of (inner v r).names r.body) (calls_of (body_of (inner v r) r.body))
-      = f.plan ∙ (λ i. plan_by (is i) (locals_of (seen i).names r.body) (calls_of (body i))) in
+    = f.plan ∙ (λ i. plan_by (is i) (locals_of (seen i).names r.body) (calls_of (body i))) in
     λ i. record { priority = f.priority i; kind = kind i; outs = f.outs i; reads = reads i; conds = conds i; body = body i; plan = plan i }

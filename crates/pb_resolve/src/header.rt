@@ -112,11 +112,7 @@ impl<'t, 'p> Scope<'t, 'p> {
     }
 
     #[tactic(auto, using(crate::proofs::FaultLemmas::fails_left, crate::proofs::FaultLemmas::fails_right, crate::proofs::FaultLemmas::fails_memory))]
-    fn minimum(
-        &self,
-        known: &mut Names<'t, u64>,
-        minimum: &'t (Name, u64),
-    ) -> Result<(), Fault>
+    fn minimum(&self, known: &mut Names<'t, u64>, minimum: &'t (Name, u64)) -> Result<(), Fault>
         ensures left { OnOk result (known.new ≡ next_minimum known.old minimum.now) }
         ensures faultless { OnOk result (minimum_faults self.now known.old minimum.now ≡ []) }
         ensures refused { IfErr result (λ f. Fails f (minimum_faults self.now known.old minimum.now)) }

@@ -71,10 +71,14 @@ fn plans(s: &Stmt) -> bool
         Stmt::LetMatrix { .. } => true,
         Stmt::Assign { value, .. } => calls(value),
         Stmt::Call {
-            called, arguments, ..
+            called,
+            arguments,
+            ..
         } => is_transform(&called.what) || some_calls(arguments),
         Stmt::AssignCell {
-            coordinates, value, ..
+            coordinates,
+            value,
+            ..
         } => some_calls(coordinates) || calls(value),
         Stmt::If {
             test,
@@ -89,7 +93,10 @@ fn plans(s: &Stmt) -> bool
             ..
         } => calls(test) || some_plans(then) || some_plans(otherwise),
         Stmt::For {
-            start, end, body, ..
+            start,
+            end,
+            body,
+            ..
         } => calls(start) || calls(end) || some_plans(body),
     }
 }

@@ -37,11 +37,7 @@ impl<'t, V: Copy + Drop> Names<'t, V> {
     }
 
     /// Adds a name that isn't there.
-    pub(crate) fn add(
-        &mut self,
-        name: &'t [u8],
-        what: V,
-    ) -> Result<(), AllocFailed<(&'t [u8], V)>>
+    pub(crate) fn add(&mut self, name: &'t [u8], what: V) -> Result<(), AllocFailed<(&'t [u8], V)>>
         requires { look name.now self.old ≡ None }
         ensures { OnOk result (self.new ≡ self.old ++ (name.now, what) ∷ []) }
     {

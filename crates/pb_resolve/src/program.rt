@@ -21,11 +21,7 @@ use std::alloc::Global;
 
 /// Adds a transform's name with its number, if no earlier transform has it.
 #[tactic(auto, unfolding(crate::specs::Programs::first_in))]
-fn put_first<'t>(
-    names: &mut Names<'t, u32>,
-    k: u32,
-    t: &'t TransformText,
-) -> Result<(), Fault>
+fn put_first<'t>(names: &mut Names<'t, u32>, k: u32, t: &'t TransformText) -> Result<(), Fault>
     ensures left { OnOk result (names.new ≡ first_in k names.old t.now) }
     ensures refused { IfErr result (λ f. f ≡ Memory) }
 {

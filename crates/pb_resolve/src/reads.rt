@@ -160,12 +160,7 @@ impl<'t, 'p> Scope<'t, 'p> {
     }
 
     #[tactic(auto, using(crate::proofs::FaultLemmas::fails_left, crate::proofs::FaultLemmas::fails_right))]
-    fn next_read(
-        &mut self,
-        matrices: &Matrices<'t>,
-        k: u32,
-        u: &'t UseText,
-    ) -> Result<Read, Fault>
+    fn next_read(&mut self, matrices: &Matrices<'t>, k: u32, u: &'t UseText) -> Result<Read, Fault>
         requires { UseWithin u.now }
         ensures found { IfOk result (λ r. r ≡ read_of matrices.now self.old u.now) }
         ensures left { OnOk result (self.new ≡ bind self.old u.now.bound (meaning.Read k)) }

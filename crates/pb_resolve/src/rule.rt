@@ -39,11 +39,7 @@ fn kind_by(plan: bool, cell: bool) -> RuleKind
     if plan {
         return RuleKind::Plan;
     }
-    if cell {
-        RuleKind::Cell
-    } else {
-        RuleKind::Wide
-    }
+    if cell { RuleKind::Cell } else { RuleKind::Wide }
 }
 
 fn is_single(outs: &[UseText]) -> bool

@@ -167,8 +167,11 @@ impl<'t, 'p> Scope<'t, 'p> {
     /// Adds a name that isn't visible.
     pub(crate) fn add(&mut self, name: &'t Name, what: Meaning) -> Result<(), Fault>
         requires { look name.now.bytes self.old.names ≡ None }
-        ensures added { OnOk result (self.new ≡ record { transforms = self.old.transforms;
-            names = self.old.names ++ (name.now.bytes, what) ∷ []; locals = self.old.locals }) }
+        ensures added { OnOk result (self.new ≡ record {
+          transforms = self.old.transforms;
+          names = self.old.names ++ (name.now.bytes, what) ∷ [];
+          locals = self.old.locals;
+        }) }
         ensures refused { IfErr result (λ f. f ≡ Memory) }
     {
         self.names.add(name.bytes(), what)?;
@@ -179,8 +182,11 @@ impl<'t, 'p> Scope<'t, 'p> {
     pub(crate) fn declare(&mut self, name: &'t Name, what: Meaning) -> Result<Named, Fault>
         requires { look name.now.bytes self.old.names ≡ None }
         ensures found { IfOk result (λ n. n ≡ record { at = name.now.at; what = what }) }
-        ensures declared { OnOk result (self.new ≡ record { transforms = self.old.transforms;
-            names = self.old.names ++ (name.now.bytes, what) ∷ []; locals = self.old.locals + 1 }) }
+        ensures declared { OnOk result (self.new ≡ record {
+          transforms = self.old.transforms;
+          names = self.old.names ++ (name.now.bytes, what) ∷ [];
+          locals = self.old.locals + 1;
+        }) }
         ensures refused { IfErr result (λ f. Fails f []) }
     {
         let locals = self.locals.checked_add(1).ok_or(Fault::Memory)?;

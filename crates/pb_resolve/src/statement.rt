@@ -16,12 +16,7 @@ use pb_values::Name;
 
 impl<'t, 'p> Scope<'t, 'p> {
     #[tactic(auto, using(crate::proofs::FaultLemmas::fails_left, crate::proofs::FaultLemmas::fails_right))]
-    fn let_number(
-        &mut self,
-        at: u32,
-        name: &'t Name,
-        value: &ExprText,
-    ) -> Result<Stmt, Fault>
+    fn let_number(&mut self, at: u32, name: &'t Name, value: &ExprText) -> Result<Stmt, Fault>
         ensures found { IfOk result (λ s. bare_stmt s ≡ let_number at (local self.old name.now Number) (expr_in self.old value.now)) }
         ensures left { OnOk result (self.new ≡ declare self.old name.now Number) }
         ensures faultless { OnOk result (declared_faults self.old name.now ++ faults_in self.old value.now ≡ []) }
@@ -34,12 +29,7 @@ impl<'t, 'p> Scope<'t, 'p> {
     }
 
     #[tactic(auto, using(crate::proofs::FaultLemmas::fails_left, crate::proofs::FaultLemmas::fails_right))]
-    fn let_matrix(
-        &mut self,
-        at: u32,
-        name: &'t Name,
-        dims: &[FormText],
-    ) -> Result<Stmt, Fault>
+    fn let_matrix(&mut self, at: u32, name: &'t Name, dims: &[FormText]) -> Result<Stmt, Fault>
         ensures found { IfOk result (λ s. bare_stmt s ≡ let_matrix at (local self.old name.now Matrix) (map (local_form self.old) dims.now)) }
         ensures left { OnOk result (self.new ≡ declare self.old name.now Matrix) }
         ensures faultless { OnOk result (declared_faults self.old name.now ++ flat_map (form_faults self.old) dims.now ≡ []) }

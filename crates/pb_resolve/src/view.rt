@@ -144,7 +144,10 @@ impl<'t, 'p> Scope<'t, 'p> {
     {
         let sum = match form.terms.as_slice() {
             [] => Sum::new(),
-            [first, rest @ ..] => self.add_terms(self.add_term(Sum::new(), form.minus, first), rest),
+            [first, rest @ ..] => self.add_terms(
+                self.add_term(Sum::new(), form.minus, first),
+                rest,
+            ),
         };
         sum.into_coordinate()
     }

@@ -16,6 +16,6 @@ returns-in_err-decls-clause-refused c =
     let v = c.in_ok-scope.scope in
     let later = flat_map (rule_faults (matrices_of t) v) (map bare_rule c.args.t.now.rules) in
     let h : Fails f (transform_faults c.args.transforms.now t) = subst (λ (w : Visible). Fails f (turn_faults next_minimum (minimum_faults w) [] t.minimums ++ (decls_faults w t ++ flat_map (rule_faults (matrices_of t) w) (map bare_rule c.args.t.now.rules))))
-      c.in_ok-scope.ensures.scope
-      (fails_right f (turn_faults next_minimum (minimum_faults v) [] t.minimums) (decls_faults v t ++ later) c.in_ok-minimums.ensures.faultless (fails_left f (decls_faults v t) later c.in_err-decls.ensures.refused)) in
+    c.in_ok-scope.ensures.scope
+    (fails_right f (turn_faults next_minimum (minimum_faults v) [] t.minimums) (decls_faults v t ++ later) c.in_ok-minimums.ensures.faultless (fails_left f (decls_faults v t) later c.in_err-decls.ensures.refused)) in
     search (rules, h, c.from_residual-in_err-decls.ensures)

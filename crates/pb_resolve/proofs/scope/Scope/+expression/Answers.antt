@@ -12,14 +12,14 @@ pub expression-returns-in_err-rest-in-Chain-clause-refused : goal.expression-ret
 expression-returns-in_err-rest-in-Chain-clause-refused t c =
     let a = c.in-Chain in
     let parts : faults_in c.args.self.now c.args.e.now ≡ faults_in c.args.self.now a.first.value ++ operands_faults_in c.args.self.now a.rest.items
-      = ap (faults_in c.args.self.now) a.is ∙ chain_faults_in c.args.self.now a.level a.first a.rest in
+    = ap (faults_in c.args.self.now) a.is ∙ chain_faults_in c.args.self.now a.level a.first a.rest in
     subst (λ xs. IfErr c.from_residual-in_err-rest-in-Chain.result (λ f. Fails f xs)) (sym parts) (search (rules, fails_right))
 
 pub expression-returns-in_ok-chain-in-Chain-clause-found : goal.expression-returns-in_ok-chain-in-Chain-clause-found
 expression-returns-in_ok-chain-in-Chain-clause-found t c =
     let a = c.in-Chain in
     let parts : expr_in c.args.self.now c.args.e.now ≡ to.chain a.level (expr_in c.args.self.now a.first.value) (operands_in c.args.self.now a.rest.items)
-      = ap (expr_in c.args.self.now) a.is ∙ chain_in c.args.self.now a.level a.first a.rest in
+    = ap (expr_in c.args.self.now) a.is ∙ chain_in c.args.self.now a.level a.first a.rest in
     cc (c.in_ok-chain-in-Chain.ensures, c.in_ok-first-in-Chain.ensures.found, c.in_ok-rest-in-Chain.ensures.found)
 
 pub operands-loop-next-preserved : goal.operands-loop-next-preserved
@@ -27,10 +27,11 @@ unfolding operand_in
 operands-loop-next-preserved t c =
     let v = c.args.self.now in
     let xs = c.args.rest.now in
-    let same : (c.next-item.result.0, bare c.in_ok-expression.field-0) ≡ operand_in v c.next-item.result = ap (λ x. (c.next-item.result.0, x)) c.in_ok-expression.ensures.found in
-    (built_next (λ o. (o.0, bare o.1)) (operand_in v) c.loop-next.found.items c.push.new.self.items (c.next-item.result.0, c.in_ok-expression.field-0) xs c.loop-next.next-index c.next-item.result
-      c.loop-next.invariant.0 same c.in_ok-push.ensures.items c.loop-next-test.true c.next-item.is,
-    operand_passes v xs c.loop-next.next-index c.next-item.result c.loop-next.invariant.1 c.in_ok-expression.ensures.faultless c.loop-next-test.true c.next-item.is)
+    let same : (c.next-item.result.0, bare c.in_ok-expression.field-0) ≡ operand_in v c.next-item.result = ap (λ x. (c.next-item.result.0, x)) c.in_ok-expression.ensures.found in (
+      built_next (λ o. (o.0, bare o.1)) (operand_in v) c.loop-next.found.items c.push.new.self.items (c.next-item.result.0, c.in_ok-expression.field-0) xs c.loop-next.next-index c.next-item.result
+          c.loop-next.invariant.0 same c.in_ok-push.ensures.items c.loop-next-test.true c.next-item.is,
+      operand_passes v xs c.loop-next.next-index c.next-item.result c.loop-next.invariant.1 c.in_ok-expression.ensures.faultless c.loop-next-test.true c.next-item.is,
+    )
 
 pub operands-returns-in_err-expression-clause-refused : goal.operands-returns-in_err-expression-clause-refused
 operands-returns-in_err-expression-clause-refused t c =

@@ -34,7 +34,7 @@ returns-clause-found c =
       priority = c.priority_of.ensures ∙ ap priority_of (ap (λ (z : RuleValue). z.mark) c.r.view_is);
       kind = c.kind_by.ensures;
       plan = c.in_ok-plan.ensures
-        ∙ ap (λ (w : Visible). plan_by p (locals_of w.names (map bare_stmt c.as_slice-8.result.now)) (calls_of (map resolved c.as_slice-9.result.now))) c.in_ok-stmts.ensures.left
-        ∙ ap (λ ts. plan_by p (locals_of v2.names (map bare_stmt ts)) (calls_of (map resolved c.as_slice-9.result.now))) (c.as_slice-8.ensures.value ∙ texts)
-        ∙ ap (λ ss. plan_by p (locals_of v2.names (map bare_stmt c.args.r.now.stmts)) (calls_of (map resolved ss))) c.as_slice-9.ensures.value;
+          ∙ ap (λ (w : Visible). plan_by p (locals_of w.names (map bare_stmt c.as_slice-8.result.now)) (calls_of (map resolved c.as_slice-9.result.now))) c.in_ok-stmts.ensures.left
+          ∙ ap (λ ts. plan_by p (locals_of v2.names (map bare_stmt ts)) (calls_of (map resolved c.as_slice-9.result.now))) (c.as_slice-8.ensures.value ∙ texts)
+          ∙ ap (λ ss. plan_by p (locals_of v2.names (map bare_stmt c.args.r.now.stmts)) (calls_of (map resolved ss))) c.as_slice-9.ensures.value;
     })
