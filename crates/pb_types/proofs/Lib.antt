@@ -1,0 +1,3 @@
+pub mod LeastLemmas
+pub mod HeldLemmas
+pub mod StmtLemmas

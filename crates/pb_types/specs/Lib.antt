@@ -1,0 +1,7 @@
+pub mod Least
+pub mod Sorts
+pub mod Views
+pub mod Numbers
+pub mod Bodies
+pub mod Loops
+pub mod Working

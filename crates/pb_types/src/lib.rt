@@ -1,0 +1,11 @@
+//! Comes in: a well-formed program. Goes out: nothing, where its types are right; else the least place at which they aren't.
+//!
+//! The theorem is the contract of `check_types`: `specs/Types.antt` lists the places at which a rule of types is broken.
+#![tactic(auto)]
+
+mod expression;
+mod least;
+mod loops;
+mod sort;
+mod statement;
+mod views;
