@@ -11,6 +11,7 @@ use Rattle.std.specs.List.{flat_map}
 use Rattle.pb_syntax.specs.declared.tree.expression.Operator.{Operator}
 use Rattle.pb_program.specs.declared.expression.Expr.{Expr}
 use Rattle.pb_program.specs.Exprs.{bare, exprs, operands, chain, compare}
+use Rattle.pb_program.specs.Plans.{items}
 use Rattle.pb_types.specs.declared.sort.Sort.{Sort}
 use Rattle.pb_types.specs.declared.sort.Sort.TheVariants.{Number}
 use Rattle.pb_types.specs.Least.{least, least_of}
@@ -21,6 +22,10 @@ pub counted : (xs : List Expr) → count_in xs ≡ length xs
 unfolding count_in
 counted [] = refl
 counted (x ∷ xs) = omega (arith, counted xs)
+
+pub items_are : (xs : List Expr) → items (exprs (map bare xs)) ≡ map bare xs
+items_are [] = refl
+items_are (x ∷ xs) = ap (λ rest. bare x ∷ rest) (items_are xs)
 
 pub numbers_listed : (b : Bound) (xs : List Expr) → numbers_in b xs ≡ flat_map (operand_in b Number) xs
 unfolding operand_in numbers_in

@@ -1,3 +1,4 @@
 pub mod LeastLemmas
 pub mod HeldLemmas
 pub mod StmtLemmas
+pub mod PlanLemmas

@@ -4,4 +4,5 @@ pub mod Views
 pub mod Numbers
 pub mod Bodies
 pub mod Loops
+pub mod Plans
 pub mod Working

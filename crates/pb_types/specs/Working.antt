@@ -9,12 +9,15 @@ use Rattle.pb_program.specs.declared.meaning.Named.{Named}
 use Rattle.pb_program.specs.Exprs.{bare, exprs, operands}
 use Rattle.pb_program.specs.Stmts.{bare_stmt, stmts}
 use Rattle.pb_program.specs.Forms.{DeclValue}
+use Rattle.pb_program.specs.Trees.{ProgTransform}
 use Rattle.pb_types.specs.declared.sort.Sort.{Sort}
 use Rattle.pb_types.specs.declared.sort.Sort.TheVariants.{Number}
 use Rattle.pb_types.specs.Sorts.{sort_of, place_of, lone_name}
 use Rattle.pb_types.specs.Views.{Bound}
 use Rattle.pb_types.specs.Numbers.{how_many, sort_broken, expr_broken, numbers_broken, operands_broken, operand_broken, matrix_argument, matrix_arguments}
 use Rattle.pb_types.specs.Bodies.{stmt_broken, stmts_broken}
+use Rattle.pb_types.specs.Plans.{Known, argument_misfit, numbered, assign_broken, made_assigned, after}
+use Rattle.pb_types.specs.Plans as plan
 
 unfoldable pub sort_in : Expr → Sort
 sort_in x = sort_of (bare x)
@@ -61,3 +64,25 @@ stmt_in b loops x = stmt_broken b loops (bare_stmt x)
 
 unfoldable pub stmts_in : Bound → List Meaning → List Stmt → List ℕ
 stmts_in b loops xs = stmts_broken b loops (stmts (map bare_stmt xs))
+
+-- in a plan
+unfoldable pub argument_in : Known → List DeclValue → ℕ → Expr → List ℕ
+argument_in k takes i x = argument_misfit k takes i (bare x)
+
+unfoldable pub arguments_in : Known → List DeclValue → List Expr → List ℕ
+arguments_in k takes xs = numbered (argument_misfit k takes) 0 (map bare xs)
+
+unfoldable pub assigned_in : List ProgTransform → Known → Named → Expr → List ℕ
+assigned_in ts k n x = assign_broken ts k n (bare x)
+
+unfoldable pub made_in : Known → Named → Expr → Known
+made_in k n x = made_assigned k n (bare x)
+
+unfoldable pub step_in : List ProgTransform → Known → Stmt → List ℕ
+step_in ts k x = plan.stmt_broken ts k (bare_stmt x)
+
+unfoldable pub after_in : Known → Stmt → Known
+after_in k x = after k (bare_stmt x)
+
+unfoldable pub steps_in : List ProgTransform → Known → List Stmt → List ℕ
+steps_in ts k xs = plan.stmts_broken ts k (map bare_stmt xs)

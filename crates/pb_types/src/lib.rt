@@ -3,9 +3,12 @@
 //! The theorem is the contract of `check_types`: `specs/Types.antt` lists the places at which a rule of types is broken.
 #![tactic(auto)]
 
+mod call;
 mod expression;
+mod known;
 mod least;
 mod loops;
+mod plan;
 mod sort;
 mod statement;
 mod views;
