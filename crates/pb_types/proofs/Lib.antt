@@ -2,3 +2,4 @@ pub mod LeastLemmas
 pub mod HeldLemmas
 pub mod StmtLemmas
 pub mod PlanLemmas
+pub mod RuleLemmas

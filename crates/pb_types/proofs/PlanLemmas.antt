@@ -64,7 +64,7 @@ module _ {A : Type 0} (places : ℕ → A → List ℕ) (xs : List A) (i : ℕ) 
   numbered_at d found next before is within =
       sym (least_assoc found next (least_of (numbered places (i + 1) (drop (i + 1) xs)))) ∙ ap (λ n. least found (least n (least_of (numbered places (i + 1) (drop (i + 1) xs))))) is
       ∙ ap (least found) (sym (least_append (places i (get_or xs i d)) (numbered places (i + 1) (drop (i + 1) xs)))
-        ∙ ap (λ l. least_of (numbered places i l)) (sym (left_at xs i d within))) ∙ before
+      ∙ ap (λ l. least_of (numbered places i l)) (sym (left_at xs i d within))) ∙ before
 
   pub numbered_next : (x : A) (found next : Option ℕ) → least found (least_of (numbered places i (drop i xs))) ≡ least_of (numbered places 0 xs)
       → next ≡ least_of (places i x) → i < length xs → x ≡ get_or xs i x

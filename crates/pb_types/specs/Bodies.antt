@@ -4,7 +4,6 @@ use Rattle.std.specs.List.{flat_map, list_any}
 use Rattle.pb_program.specs.declared.meaning.Meaning.{Meaning}
 use Rattle.pb_program.specs.declared.meaning.Meaning.TheVariants as meaning
 use Rattle.pb_program.specs.declared.meaning.Named.{Named}
-use Rattle.pb_program.specs.Exprs.{ExprValue}
 use Rattle.pb_program.specs.Stmts.{StmtValue, StmtValues, no_stmts, a_stmt}
 use Rattle.pb_program.specs.Stmts as s
 use Rattle.pb_types.specs.declared.sort.Sort.TheVariants.{Number, Truth}

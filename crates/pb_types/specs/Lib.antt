@@ -5,4 +5,5 @@ pub mod Numbers
 pub mod Bodies
 pub mod Loops
 pub mod Plans
+pub mod Types
 pub mod Working

@@ -9,7 +9,7 @@ use Rattle.pb_program.specs.declared.meaning.Function.TheVariants as function
 use Rattle.pb_program.specs.Exprs.{ExprValue, ExprValues, OperandValues, no_exprs, an_expr, no_operands, an_operand}
 use Rattle.pb_program.specs.Exprs as e
 use Rattle.pb_types.specs.declared.sort.Sort.{Sort}
-use Rattle.pb_types.specs.declared.sort.Sort.TheVariants.{Number, Truth}
+use Rattle.pb_types.specs.declared.sort.Sort.TheVariants.{Number}
 use Rattle.pb_types.specs.Least.{unless}
 use Rattle.pb_types.specs.Sorts.{level_sort, sign_sort, sort_of, place_of, lone_name, is_sort}
 use Rattle.pb_types.specs.Views.{Bound, number_broken, matrix_broken, cell_broken}

@@ -9,7 +9,9 @@ use Rattle.pb_program.specs.declared.meaning.Named.{Named}
 use Rattle.pb_program.specs.Exprs.{bare, exprs, operands}
 use Rattle.pb_program.specs.Stmts.{bare_stmt, stmts}
 use Rattle.pb_program.specs.Forms.{DeclValue}
-use Rattle.pb_program.specs.Trees.{ProgTransform}
+use Rattle.pb_program.specs.Rules.{RuleValue}
+use Rattle.pb_program.specs.Transforms.{TransformValue}
+use Rattle.pb_program.specs.Trees.{ProgTransform, bare_rule, bare_transform}
 use Rattle.pb_types.specs.declared.sort.Sort.{Sort}
 use Rattle.pb_types.specs.declared.sort.Sort.TheVariants.{Number}
 use Rattle.pb_types.specs.Sorts.{sort_of, place_of, lone_name}
@@ -18,6 +20,7 @@ use Rattle.pb_types.specs.Numbers.{how_many, sort_broken, expr_broken, numbers_b
 use Rattle.pb_types.specs.Bodies.{stmt_broken, stmts_broken}
 use Rattle.pb_types.specs.Plans.{Known, argument_misfit, numbered, assign_broken, made_assigned, after}
 use Rattle.pb_types.specs.Plans as plan
+use Rattle.pb_types.specs.Types.{rule_broken, transform_broken}
 
 unfoldable pub sort_in : Expr → Sort
 sort_in x = sort_of (bare x)
@@ -86,3 +89,10 @@ after_in k x = after k (bare_stmt x)
 
 unfoldable pub steps_in : List ProgTransform → Known → List Stmt → List ℕ
 steps_in ts k xs = plan.stmts_broken ts k (map bare_stmt xs)
+
+-- rules and transforms
+unfoldable pub rule_in : List ProgTransform → List DeclValue → RuleValue → List ℕ
+rule_in ts matrices r = rule_broken ts matrices (bare_rule r)
+
+unfoldable pub transform_in : List ProgTransform → TransformValue → List ℕ
+transform_in ts t = transform_broken ts (bare_transform t)

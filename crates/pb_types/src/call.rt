@@ -66,7 +66,13 @@ fn wanted(matrices: &[Decl], i: usize) -> Option<usize>
 }
 
 /// The place of a called name, where the numbers of arguments and targets aren't those of its transform.
-fn count(takes: &[Decl], gives: &[Decl], targets: &[Named], at: u32, arguments: &[Expr]) -> Option<u32>
+fn count(
+    takes: &[Decl],
+    gives: &[Decl],
+    targets: &[Named],
+    at: u32,
+    arguments: &[Expr],
+) -> Option<u32>
     ensures { result ≡ least_of (count_broken at (length targets.now) (length (map bare arguments.now)) takes.now gives.now) }
 {
     let fits = arguments.len() == takes.len() && targets.len() == gives.len();
@@ -92,7 +98,10 @@ impl<'a> Known<'a> {
     {
         let given = self.arguments(takes, arguments);
         let made = self.targets(gives, targets);
-        least(count(takes, gives, targets, at, arguments), least(given, made))
+        least(
+            count(takes, gives, targets, at, arguments),
+            least(given, made),
+        )
     }
 
     #[tactic(auto, using(crate::proofs::LeastLemmas::least_append))]

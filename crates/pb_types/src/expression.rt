@@ -5,7 +5,7 @@ ghost use Rattle.pb_types.specs.Numbers.{arguments_of, call_broken};
 ghost use Rattle.pb_types.specs.Working.{count_in, expr_in, operand_in, numbers_in, matrix_in, matrices_in, operands_in, pair_in};
 
 use crate::least::least;
-use crate::sort::{level_sort, lone_name, place_of, sign_sort, wrong_sort, Sort};
+use crate::sort::{Sort, level_sort, lone_name, place_of, sign_sort, wrong_sort};
 use crate::views::Bound;
 use pb_program::{Called, Callee, Expr, Function, Named};
 use pb_syntax::Operator;
@@ -89,7 +89,10 @@ impl<'a> Bound<'a> {
     fn cell_of(&self, view: Named, coordinates: &[Expr]) -> Option<u32>
         ensures { result ≡ least_of (cell_broken self.now view (count_in coordinates.now) ++ numbers_in self.now coordinates.now) }
     {
-        least(self.cell(view, coordinates.len()), self.numbers(coordinates))
+        least(
+            self.cell(view, coordinates.len()),
+            self.numbers(coordinates),
+        )
     }
 
     /// The least place of a fault in numbers.

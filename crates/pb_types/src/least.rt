@@ -17,9 +17,5 @@ pub(crate) fn least(a: Option<u32>, b: Option<u32>) -> Option<u32>
 pub(crate) fn unless(right: bool, at: u32) -> Option<u32>
     ensures { result ≡ least_of (unless right at) }
 {
-    if right {
-        None
-    } else {
-        Some(at)
-    }
+    if right { None } else { Some(at) }
 }

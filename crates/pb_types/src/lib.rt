@@ -4,6 +4,7 @@
 #![tactic(auto)]
 
 mod call;
+mod check;
 mod expression;
 mod known;
 mod least;
@@ -12,3 +13,5 @@ mod plan;
 mod sort;
 mod statement;
 mod views;
+
+pub use check::check_types;

@@ -3,17 +3,20 @@ ghost use Rattle.std.specs.List.{flat_map};
 ghost use Rattle.pb_syntax.specs.declared.refusal.Refusal.TheVariants.{Memory};
 ghost use Rattle.pb_program.specs.Exprs.{bare, exprs};
 ghost use Rattle.pb_program.specs.Plans.{items};
-ghost use Rattle.pb_program.specs.Trees.{bare_transform};
+ghost use Rattle.pb_program.specs.Trees.{bare_rule, bare_transform};
 ghost use Rattle.pb_types.specs.Least.{least_of};
-ghost use Rattle.pb_types.specs.Plans.{call_place, whole_broken, dim_broken, term_broken, call_broken, made_by};
+ghost use Rattle.pb_types.specs.Plans.{call_place, whole_broken, dim_broken, term_broken, call_broken, made_by, plan_broken};
 ghost use Rattle.pb_types.specs.Working.{assigned_in, made_in, step_in, steps_in, after_in};
 
 use crate::call::{gives, takes};
 use crate::known::{Known, Target};
 use crate::least::{least, unless};
 use crate::views::is_cell;
-use pb_program::{Called, Callee, Expr, LocalForm, LocalTerm, Meaning, Named, Read, Stmt, Transform};
+use pb_program::{
+    Called, Callee, Expr, LocalForm, LocalTerm, Meaning, Named, Read, Rule, Stmt, Transform,
+};
 use pb_syntax::Refusal;
+use std::alloc::Global;
 
 /// The place of the first byte of a statement with several targets.
 fn call_place(targets: &[Named], called: Called) -> u32
@@ -84,6 +87,23 @@ fn term(term: &LocalTerm) -> Option<u32>
     }
 }
 
+/// The least place of a fault in a rule that is a plan.
+#[tactic(auto, using(crate::proofs::LeastLemmas::least_append), unfolding(crate::specs::Working::steps_in))]
+pub(crate) fn plan(
+    alloc: Global,
+    transforms: &[Transform],
+    r: &Rule,
+) -> Result<Option<u32>, Refusal>
+    ensures found { IfOk result (λ at. at ≡ least_of (plan_broken (map bare_transform transforms.now) (bare_rule r.now))) }
+    ensures refused { IfErr result (λ e. e ≡ Memory) }
+{
+    let outs = wholes(&r.outs);
+    let reads = wholes(&r.reads);
+    let mut known = Known::new(alloc, &r.outs, &r.reads)?;
+    let statements = known.statements(transforms, &r.body.stmts)?;
+    Ok(least(outs, least(reads, statements)))
+}
+
 impl<'a> Known<'a> {
     /// The least place of a fault in a call with these targets, in a statement at this place.
     #[tactic(auto, using(crate::proofs::LeastLemmas::least_one))]
@@ -125,12 +145,7 @@ impl<'a> Known<'a> {
     }
 
     #[tactic(auto, unfolding(crate::specs::Least::least_of, crate::specs::Working::assigned_in, crate::specs::Working::made_in))]
-    fn assign(
-        &mut self,
-        transforms: &[Transform],
-        target: Named,
-        value: &Expr,
-    ) -> Option<u32>
+    fn assign(&mut self, transforms: &[Transform], target: Named, value: &Expr) -> Option<u32>
         ensures found { result ≡ least_of (assigned_in (map bare_transform transforms.now) self.old target value.now) }
         ensures left { self.new ≡ made_in self.old target value.now }
     {
@@ -158,7 +173,11 @@ impl<'a> Known<'a> {
                 })?;
                 Ok(Some(*at))
             }
-            Stmt::LetMatrix { name, dims: sides, .. } => {
+            Stmt::LetMatrix {
+                name,
+                dims: sides,
+                ..
+            } => {
                 self.declare(Target {
                     at: name.at,
                     dims: Some(sides.len()),
