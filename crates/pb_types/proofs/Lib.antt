@@ -3,3 +3,4 @@ pub mod HeldLemmas
 pub mod StmtLemmas
 pub mod PlanLemmas
 pub mod RuleLemmas
+pub mod FreeLemmas

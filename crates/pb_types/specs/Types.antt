@@ -1,6 +1,6 @@
 -- The places at which the types of a program are wrong.
-use Rattle.std.specs.Prelude.{ℕ, List, [], ◌++◌}
-use Rattle.std.specs.List.{flat_map}
+use Rattle.std.specs.Prelude.{◌≡◌, ℕ, List, [], ◌++◌}
+use Rattle.std.specs.List.{flat_map, AllByRecursion}
 use Rattle.pb_program.specs.declared.rule.RuleKind.{RuleKind}
 use Rattle.pb_program.specs.declared.rule.RuleKind.TheVariants as kind
 use Rattle.pb_program.specs.Forms.{DeclValue}
@@ -8,6 +8,7 @@ use Rattle.pb_program.specs.Stmts.{stmts}
 use Rattle.pb_program.specs.Trees.{ProgRule, ProgTransform}
 use Rattle.pb_syntax.specs.declared.refusal.Refusal.{Refusal}
 use Rattle.pb_syntax.specs.declared.refusal.Refusal.TheVariants.{BadType}
+use Rattle.pb_program.specs.WellFormed.{IsFree}
 use Rattle.pb_types.specs.Least.{IsLeast}
 use Rattle.pb_types.specs.Views.{Bound, view_broken}
 use Rattle.pb_types.specs.Bodies.{stmts_broken}
@@ -35,3 +36,10 @@ broken ts = flat_map (transform_broken ts) ts
 abbrev pub IsRefused : List ProgTransform → Refusal → Type 0
 IsRefused ts (BadType at) = IsLeast at (broken ts)
 IsRefused ts _ = ⊥
+
+-- no output of a plan has rule variables
+abbrev pub PlanIsFree : ProgRule → Type 0
+PlanIsFree r = r.kind ≡ kind.Plan → AllByRecursion IsFree r.outs
+
+abbrev pub PlansAreFree : List ProgTransform → Type 0
+PlansAreFree ts = AllByRecursion (λ t. AllByRecursion PlanIsFree t.rules) ts

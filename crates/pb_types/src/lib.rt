@@ -7,6 +7,7 @@ mod call;
 mod check;
 mod expression;
 mod known;
+mod laws;
 mod least;
 mod loops;
 mod plan;
@@ -15,3 +16,4 @@ mod statement;
 mod views;
 
 pub use check::check_types;
+pub use laws::a_plan_has_no_rule_variables;
