@@ -11,7 +11,8 @@ use Rattle.pb_types.specs.Least.{unless}
 use Rattle.pb_types.specs.Views.{Bound, is_bound_cell, are_dims, dims_of}
 use Rattle.pb_types.specs.Numbers.{operand_broken}
 
--- the names of the loops around a statement have numbers of their own among the visible locals
+-- a number that is the name of this loop. Locals that are visible at one place have different numbers, so a local is the
+-- name of a loop around it just where it has the loop's number
 abbrev pub is_local : ℕ → Meaning → Bool
 is_local k (meaning.Number j) = k == j
 is_local k _ = false
@@ -22,6 +23,7 @@ is_assigned b loops (meaning.Output k) = is_bound_cell b (meaning.Output k)
 is_assigned b loops (meaning.Number k) = not (list_any (is_local k) loops)
 is_assigned b loops _ = false
 
+-- an output of the rule
 abbrev pub is_output : Meaning → Bool
 is_output (meaning.Output k) = true
 is_output _ = false

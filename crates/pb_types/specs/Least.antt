@@ -12,6 +12,7 @@ abbrev pub unless : Bool → ℕ → List ℕ
 unless true at = []
 unless false at = at ∷ []
 
+-- the earlier of two places that may be there
 abbrev pub least : Option ℕ → Option ℕ → Option ℕ
 least None b = b
 least (Some x) None = Some x

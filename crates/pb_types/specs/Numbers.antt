@@ -18,10 +18,12 @@ use Rattle.pb_types.specs.Views.{Bound, number_broken, matrix_broken, cell_broke
 abbrev pub sort_broken : Sort → ExprValue → List ℕ
 sort_broken taken x = unless (is_sort taken (sort_of x)) (place_of x)
 
+-- how many arguments or coordinates there are
 abbrev pub how_many : ExprValues → ℕ
 how_many no_exprs = 0
 how_many (an_expr x rest) = how_many rest + 1
 
+-- how many arguments a function takes
 abbrev pub arguments_of : Function → ℕ
 arguments_of function.Sum = 1
 arguments_of function.Dot = 2
@@ -45,6 +47,7 @@ module _ (b : Bound) where
   abbrev pub matrix_argument : ExprValue → List ℕ
   matrix_argument x = option_map_or (matrix_broken b) (lone_name x) (place_of x ∷ [])
 
+  -- all arguments of `sum` or `dot`
   abbrev pub matrix_arguments : ExprValues → List ℕ
   matrix_arguments no_exprs = []
   matrix_arguments (an_expr x rest) = matrix_argument x ++ matrix_arguments rest
@@ -68,6 +71,7 @@ module _ (b : Bound) where
     numbers_broken no_exprs = []
     numbers_broken (an_expr x rest) = (sort_broken Number x ++ expr_broken x) ++ numbers_broken rest
 
+    -- the operands of a chain, which take the chain's sort
     pub operands_broken : Sort → OperandValues → List ℕ
     operands_broken taken no_operands = []
     operands_broken taken (an_operand o x rest) = (sort_broken taken x ++ expr_broken x) ++ operands_broken taken rest

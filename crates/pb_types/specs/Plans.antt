@@ -29,9 +29,11 @@ pub record Known : Type 0 where
   pub outs : List Target
   pub locals : List Target
 
+-- an output before the first statement
 abbrev pub out_target : Read → Target
 out_target r = record { at = r.at; dims = view_dims r; made = false }
 
+-- what is known before the first statement
 abbrev pub at_first : ProgRule → Known
 at_first r = record { reads = r.reads; outs = map out_target r.outs; locals = [] }
 
@@ -41,9 +43,10 @@ target_of k (meaning.Output i) = slice_get k.outs i
 target_of k (meaning.Matrix i) = slice_get k.locals i
 target_of k _ = None
 
-abbrev pub dims_of : Known → Meaning → Option ℕ
-dims_of k (meaning.Read i) = option_and_then view_dims (slice_get k.reads i)
-dims_of k m = option_and_then (λ t. t.dims) (target_of k m)
+-- the number of dimensions of the matrix that a name names
+abbrev pub known_dims : Known → Meaning → Option ℕ
+known_dims k (meaning.Read i) = option_and_then view_dims (slice_get k.reads i)
+known_dims k m = option_and_then (λ t. t.dims) (target_of k m)
 
 -- what may be passed on: a read, or a local that was a target
 abbrev pub is_given : Known → Meaning → Bool
@@ -55,6 +58,7 @@ is_given k _ = false
 abbrev pub is_free : Known → Meaning → Bool
 is_free k m = option_map_or (λ t. not t.made) (target_of k m) false
 
+-- the target with this number was made
 abbrev pub made_at : List Target → ℕ → List Target
 made_at [] i = []
 made_at (t ∷ ts) zero = record t { made = true } ∷ ts
@@ -66,6 +70,7 @@ make k (meaning.Output i) = record k { outs = made_at k.outs i }
 make k (meaning.Matrix i) = record k { locals = made_at k.locals i }
 make k _ = k
 
+-- once all of these were targets
 abbrev pub make_all : Known → List Named → Known
 make_all k [] = k
 make_all k (n ∷ ns) = make_all (make k n.what) ns
@@ -78,14 +83,16 @@ declare k t = record k { locals = k.locals ++ t ∷ [] }
 abbrev pub argument_broken : Known → ExprValue → List ℕ
 argument_broken k x = option_map_or (λ n. unless (is_given k n.what) n.at) (lone_name x) (place_of x ∷ [])
 
+-- the dimensions of the matrix that an argument names
 abbrev pub argument_dims : Known → ExprValue → Option ℕ
-argument_dims k x = option_and_then (λ n. dims_of k n.what) (lone_name x)
+argument_dims k x = option_and_then (λ n. known_dims k n.what) (lone_name x)
 
 -- where there are both, a matrix has the dimensions of the one of the called transform; to blame is its name
 abbrev pub misfit : ℕ → Option ℕ → Option ℕ → List ℕ
 misfit at (Some d) (Some wanted) = unless (d == wanted) at
 misfit at _ _ = []
 
+-- the dimensions of the matrix with this number, where there are so many
 abbrev pub wanted : List DeclValue → ℕ → Option ℕ
 wanted matrices i = option_map (λ d. d.dims) (slice_get matrices i)
 
@@ -94,11 +101,13 @@ abbrev pub numbered : {A : Type 0} → (ℕ → A → List ℕ) → ℕ → List
 numbered places i [] = []
 numbered places i (x ∷ xs) = places i x ++ numbered places (i + 1) xs
 
+-- an argument, and the matrix of the called transform that has its number
 abbrev pub argument_misfit : Known → List DeclValue → ℕ → ExprValue → List ℕ
 argument_misfit k takes i x = argument_broken k x ++ misfit (place_of x) (argument_dims k x) (wanted takes i)
 
+-- a target, and the matrix of the called transform that has its number
 unfoldable pub target_misfit : Known → List DeclValue → ℕ → Named → List ℕ
-target_misfit k gives i n = misfit n.at (dims_of k n.what) (wanted gives i)
+target_misfit k gives i n = misfit n.at (known_dims k n.what) (wanted gives i)
 
 -- a target is an output or a local, and was none before; to blame is the target
 abbrev pub targets_broken : Known → List Named → List ℕ
@@ -118,6 +127,7 @@ gives (Some t) = drop (t.inputs + t.middles) t.matrices
 abbrev pub count_broken : ℕ → ℕ → ℕ → List DeclValue → List DeclValue → List ℕ
 count_broken at targets arguments takes gives = unless ((arguments == length takes) && (targets == length gives)) at
 
+-- the call of a transform that takes and gives these matrices
 abbrev pub transform_call : Known → List DeclValue → List DeclValue → List Named → ℕ → List ExprValue → List ℕ
 transform_call k takes gives ns at xs = count_broken at (length ns) (length xs) takes gives ++ (numbered (argument_misfit k takes) 0 xs
     ++ (numbered (target_misfit k gives) 0 ns ++ targets_broken k ns))
@@ -130,6 +140,7 @@ is_size _ = false
 unfoldable pub term_broken : LocalTerm → List ℕ
 term_broken t = option_map_or (λ n. unless (is_size n.what) n.at) t.name []
 
+-- the names in a dimension of a local
 unfoldable pub dim_broken : LocalFormValue → List ℕ
 dim_broken f = flat_map term_broken f.terms
 
@@ -143,6 +154,7 @@ abbrev pub made_by : Callee → Known → List Named → Known
 made_by (callee.Transform t) k ns = make_all k ns
 made_by (callee.Function f) k ns = k
 
+-- what is known after an assignment
 abbrev pub made_assigned : Known → Named → ExprValue → Known
 made_assigned k n (e.call c xs) = made_by c.what k (n ∷ [])
 made_assigned k n _ = k
@@ -159,12 +171,13 @@ after k _ = k
 unfoldable pub unmade : Target → List ℕ
 unmade t = unless t.made t.at
 
+-- of all outputs and locals
 abbrev pub never_made : Known → List ℕ
 never_made k = flat_map unmade k.outs ++ flat_map unmade k.locals
 
 -- no view is a cell; to blame is the matrix's name. An output with rule variables is a cell
-unfoldable pub whole_broken : Read → List ℕ
-whole_broken r = unless (not (is_cell r.view)) r.at
+unfoldable pub plan_view_broken : Read → List ℕ
+plan_view_broken r = unless (not (is_cell r.view)) r.at
 
 module _ (ts : List ProgTransform) where
   -- a statement that is the call of a function is to blame
@@ -172,25 +185,27 @@ module _ (ts : List ProgTransform) where
   call_broken k at ns name (callee.Transform t) xs = transform_call k (takes (slice_get ts t)) (gives (slice_get ts t)) ns name xs
   call_broken k at ns name (callee.Function f) xs = at ∷ []
 
+  -- an assignment of anything but a call is to blame; in parentheses it is no call
   abbrev pub assign_broken : Known → Named → ExprValue → List ℕ
   assign_broken k n (e.call c xs) = call_broken k n.at (n ∷ []) c.at c.what (items xs)
   assign_broken k n _ = n.at ∷ []
 
   -- each statement declares a matrix, over sizes, or is the call of a transform; to blame is the statement
-  abbrev pub stmt_broken : Known → StmtValue → List ℕ
-  stmt_broken k (s.let_matrix at n dims) = flat_map dim_broken dims
-  stmt_broken k (s.assign n x) = assign_broken k n x
-  stmt_broken k (s.call_stmt ns c xs) = call_broken k (call_place ns c) ns c.at c.what xs
-  stmt_broken k (s.let_number at n x) = at ∷ []
-  stmt_broken k (s.assign_cell n xs x) = n.at ∷ []
-  stmt_broken k (s.if_stmt at x ss) = at ∷ []
-  stmt_broken k (s.if_else at x ss others) = at ∷ []
-  stmt_broken k (s.for_stmt at n x y ss) = at ∷ []
+  abbrev pub plan_stmt_broken : Known → StmtValue → List ℕ
+  plan_stmt_broken k (s.let_matrix at n dims) = flat_map dim_broken dims
+  plan_stmt_broken k (s.assign n x) = assign_broken k n x
+  plan_stmt_broken k (s.call_stmt ns c xs) = call_broken k (call_place ns c) ns c.at c.what xs
+  plan_stmt_broken k (s.let_number at n x) = at ∷ []
+  plan_stmt_broken k (s.assign_cell n xs x) = n.at ∷ []
+  plan_stmt_broken k (s.if_stmt at x ss) = at ∷ []
+  plan_stmt_broken k (s.if_else at x ss others) = at ∷ []
+  plan_stmt_broken k (s.for_stmt at n x y ss) = at ∷ []
 
   -- statement by statement, and then what no call has made
-  abbrev pub stmts_broken : Known → List StmtValue → List ℕ
-  stmts_broken k [] = never_made k
-  stmts_broken k (x ∷ rest) = stmt_broken k x ++ stmts_broken (after k x) rest
+  abbrev pub plan_stmts_broken : Known → List StmtValue → List ℕ
+  plan_stmts_broken k [] = never_made k
+  plan_stmts_broken k (x ∷ rest) = plan_stmt_broken k x ++ plan_stmts_broken (after k x) rest
 
+  -- a whole plan
   abbrev pub plan_broken : ProgRule → List ℕ
-  plan_broken r = flat_map whole_broken r.outs ++ (flat_map whole_broken r.reads ++ stmts_broken (at_first r) r.body)
+  plan_broken r = flat_map plan_view_broken r.outs ++ (flat_map plan_view_broken r.reads ++ plan_stmts_broken (at_first r) r.body)

@@ -43,6 +43,7 @@ place_of (e.signed at sign x) = at
 place_of (e.chain level x rest) = place_of x
 place_of (e.compare x relation y) = place_of x
 
+-- the same sort
 abbrev pub is_sort : Sort → Sort → Bool
 is_sort Number Number = true
 is_sort Truth Truth = true

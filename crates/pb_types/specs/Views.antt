@@ -15,7 +15,7 @@ pub record Bound : Type 0 where
   pub outs : List Read
   pub reads : List Read
 
--- the number of dimensions of what a view shows; a cell is no matrix
+-- by kind of view, where the view's form is for so many dimensions; a cell is no matrix
 abbrev pub dims_by : ReadView → ℕ → Option ℕ
 dims_by view.Cell dims = None
 dims_by view.Row dims = Some 1
@@ -23,9 +23,11 @@ dims_by view.Column dims = Some 1
 dims_by view.Region dims = Some dims
 dims_by view.Whole dims = Some dims
 
+-- the number of dimensions of what a view shows
 abbrev pub view_dims : Read → Option ℕ
 view_dims r = dims_by r.view r.dims
 
+-- a view of one cell
 abbrev pub is_cell : ReadView → Bool
 is_cell view.Cell = true
 is_cell _ = false
@@ -40,6 +42,7 @@ bound b _ = None
 abbrev pub dims_of : Bound → Meaning → Option ℕ
 dims_of b m = option_and_then view_dims (bound b m)
 
+-- a name of a bound view that is a cell
 abbrev pub is_bound_cell : Bound → Meaning → Bool
 is_bound_cell b m = option_map_or (λ r. is_cell r.view) (bound b m) false
 
@@ -51,6 +54,7 @@ is_number b meaning.RuleY = true
 is_number b (meaning.Number k) = true
 is_number b m = is_bound_cell b m
 
+-- so many dimensions are there
 abbrev pub are_dims : Option ℕ → ℕ → Bool
 are_dims None n = false
 are_dims (Some d) n = d == n

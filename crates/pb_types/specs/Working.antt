@@ -18,8 +18,7 @@ use Rattle.pb_types.specs.Sorts.{sort_of, place_of, lone_name}
 use Rattle.pb_types.specs.Views.{Bound}
 use Rattle.pb_types.specs.Numbers.{how_many, sort_broken, expr_broken, numbers_broken, operands_broken, operand_broken, matrix_argument, matrix_arguments}
 use Rattle.pb_types.specs.Bodies.{stmt_broken, stmts_broken}
-use Rattle.pb_types.specs.Plans.{Known, argument_misfit, numbered, assign_broken, made_assigned, after}
-use Rattle.pb_types.specs.Plans as plan
+use Rattle.pb_types.specs.Plans.{Known, argument_misfit, numbered, assign_broken, made_assigned, after, plan_stmt_broken, plan_stmts_broken}
 use Rattle.pb_types.specs.Types.{rule_broken, transform_broken}
 
 unfoldable pub sort_in : Expr → Sort
@@ -82,13 +81,13 @@ unfoldable pub made_in : Known → Named → Expr → Known
 made_in k n x = made_assigned k n (bare x)
 
 unfoldable pub step_in : List ProgTransform → Known → Stmt → List ℕ
-step_in ts k x = plan.stmt_broken ts k (bare_stmt x)
+step_in ts k x = plan_stmt_broken ts k (bare_stmt x)
 
 unfoldable pub after_in : Known → Stmt → Known
 after_in k x = after k (bare_stmt x)
 
 unfoldable pub steps_in : List ProgTransform → Known → List Stmt → List ℕ
-steps_in ts k xs = plan.stmts_broken ts k (map bare_stmt xs)
+steps_in ts k xs = plan_stmts_broken ts k (map bare_stmt xs)
 
 -- rules and transforms
 unfoldable pub rule_in : List ProgTransform → List DeclValue → RuleValue → List ℕ

@@ -82,7 +82,7 @@ fn unmade_one(t: &Target) -> Option<u32>
 }
 
 impl<'a> Known<'a> {
-    ghost use Rattle.pb_types.specs.Plans.{target_of, dims_of, is_given, is_free, make, make_all, declare, targets_broken, never_made};
+    ghost use Rattle.pb_types.specs.Plans.{target_of, known_dims, is_given, is_free, make, make_all, declare, targets_broken, never_made};
 
     /// What is known before the first statement.
     pub(crate) fn new(alloc: Global, outs: &[Read], reads: &'a [Read]) -> Result<Self, Refusal>
@@ -108,7 +108,7 @@ impl<'a> Known<'a> {
 
     /// The number of dimensions of the matrix that is named.
     pub(crate) fn dims(&self, named: Meaning) -> Option<usize>
-        ensures { result ≡ dims_of self.now named }
+        ensures { result ≡ known_dims self.now named }
     {
         match named {
             Meaning::Read(k) => dims_at(self.reads, k),

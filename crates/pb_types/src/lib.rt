@@ -1,4 +1,5 @@
-//! Comes in: a well-formed program. Goes out: nothing, where its types are right; else the least place at which they aren't.
+//! Comes in: a program whose names are resolved. Goes out: nothing where its types are right, else the least place at which
+//! they aren't.
 //!
 //! The theorem is the contract of `check_types`: `specs/Types.antt` lists the places at which a rule of types is broken.
 #![tactic(auto)]

@@ -5,7 +5,7 @@ ghost use Rattle.pb_program.specs.Exprs.{bare, exprs};
 ghost use Rattle.pb_program.specs.Plans.{items};
 ghost use Rattle.pb_program.specs.Trees.{bare_rule, bare_transform};
 ghost use Rattle.pb_types.specs.Least.{least_of};
-ghost use Rattle.pb_types.specs.Plans.{call_place, whole_broken, dim_broken, term_broken, call_broken, made_by, plan_broken};
+ghost use Rattle.pb_types.specs.Plans.{call_place, plan_view_broken, dim_broken, term_broken, call_broken, made_by, plan_broken};
 ghost use Rattle.pb_types.specs.Working.{assigned_in, made_in, step_in, steps_in, after_in};
 
 use crate::call::{gives, takes};
@@ -30,19 +30,19 @@ fn call_place(targets: &[Named], called: Called) -> u32
 
 /// The least place of a view that is a cell.
 #[tactic(auto, using(crate::proofs::LeastLemmas::least_next, crate::proofs::LeastLemmas::least_end))]
-fn wholes(views: &[Read]) -> Option<u32>
-    ensures { result ≡ least_of (flat_map whole_broken views.now) }
+fn plan_views(views: &[Read]) -> Option<u32>
+    ensures { result ≡ least_of (flat_map plan_view_broken views.now) }
 {
     let mut found = None;
     for next in views {
-        found = least(found, whole(next));
+        found = least(found, plan_view(next));
     }
     found
 }
 
-#[tactic(auto, unfolding(crate::specs::Plans::whole_broken))]
-fn whole(r: &Read) -> Option<u32>
-    ensures { result ≡ least_of (whole_broken r.now) }
+#[tactic(auto, unfolding(crate::specs::Plans::plan_view_broken))]
+fn plan_view(r: &Read) -> Option<u32>
+    ensures { result ≡ least_of (plan_view_broken r.now) }
 {
     unless(!is_cell(r.view), r.at)
 }
@@ -97,8 +97,8 @@ pub(crate) fn plan(
     ensures found { IfOk result (λ at. at ≡ least_of (plan_broken (map bare_transform transforms.now) (bare_rule r.now))) }
     ensures refused { IfErr result (λ e. e ≡ Memory) }
 {
-    let outs = wholes(&r.outs);
-    let reads = wholes(&r.reads);
+    let outs = plan_views(&r.outs);
+    let reads = plan_views(&r.reads);
     let mut known = Known::new(alloc, &r.outs, &r.reads)?;
     let statements = known.statements(transforms, &r.body.stmts)?;
     Ok(least(outs, least(reads, statements)))

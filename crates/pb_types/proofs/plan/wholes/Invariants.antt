@@ -1,8 +1,0 @@
-use Rattle.std.proofs.Common.{◌≡◌, drop}
-use Rattle.std.specs.List.{flat_map}
-use Rattle.pb_types.specs.Least.{least, least_of}
-use Rattle.pb_types.specs.Plans.{whole_broken}
-use Rattle.pb_types.proofs.plan.wholes.Given as goal
-
-abbrev pub invariant-loop-next : goal.invariant-loop-next
-invariant-loop-next l = least l.found (least_of (flat_map whole_broken (drop l.next-index l.views))) ≡ least_of (flat_map whole_broken l.views)
