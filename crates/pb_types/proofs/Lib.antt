@@ -1,0 +1,6 @@
+pub mod LeastLemmas
+pub mod HeldLemmas
+pub mod StmtLemmas
+pub mod PlanLemmas
+pub mod RuleLemmas
+pub mod FreeLemmas

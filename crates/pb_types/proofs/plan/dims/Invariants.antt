@@ -1,0 +1,8 @@
+use Rattle.std.proofs.Common.{◌≡◌, drop}
+use Rattle.std.specs.List.{flat_map}
+use Rattle.pb_types.specs.Least.{least, least_of}
+use Rattle.pb_types.specs.Plans.{dim_broken}
+use Rattle.pb_types.proofs.plan.dims.Given as goal
+
+abbrev pub invariant-loop-next : goal.invariant-loop-next
+invariant-loop-next l = least l.found (least_of (flat_map dim_broken (drop l.next-index l.dims))) ≡ least_of (flat_map dim_broken l.dims)
