@@ -8,6 +8,8 @@ mod linear;
 #[cfg(test)]
 mod matrix;
 #[cfg(test)]
+mod names;
+#[cfg(test)]
 mod programs;
 #[cfg(test)]
 mod tokens;
