@@ -94,3 +94,12 @@ pub least_is_some : (places : List ℕ) (at : ℕ) → least_of places ≡ Some 
 unfolding least_of
 least_is_some [] at e = cc
 least_is_some (x ∷ xs) at e = with_rest x at xs (least_of xs) refl (least_is_some xs) e
+
+-- two lists with no place
+pub none_left : (xs ys : List ℕ) → xs ++ ys ≡ [] → xs ≡ []
+none_left [] ys e = refl
+none_left (x ∷ xs) ys e = cc
+
+pub none_right : (xs ys : List ℕ) → xs ++ ys ≡ [] → ys ≡ []
+none_right [] ys e = e
+none_right (x ∷ xs) ys e = cc

@@ -3,4 +3,5 @@ pub mod HeldLemmas
 pub mod StmtLemmas
 pub mod PlanLemmas
 pub mod RuleLemmas
-pub mod FreeLemmas
+pub mod ThereLemmas
+pub mod SoundLemmas

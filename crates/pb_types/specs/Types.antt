@@ -1,5 +1,5 @@
 -- The places at which the types of a program are wrong.
-use Rattle.std.specs.Prelude.{◌≡◌, ℕ, List, [], ◌++◌}
+use Rattle.std.specs.Prelude.{◌≡◌, IsSome, ℕ, List, [], ◌++◌}
 use Rattle.std.specs.List.{flat_map, AllByRecursion}
 use Rattle.pb_program.specs.declared.rule.RuleKind.{RuleKind}
 use Rattle.pb_program.specs.declared.rule.RuleKind.TheVariants as kind
@@ -41,10 +41,11 @@ abbrev pub IsRefused : List ProgTransform → Refusal → Type 0
 IsRefused ts (BadType at) = IsLeast at (broken ts)
 IsRefused ts _ = ⊥
 
--- no output of a plan has rule variables
-abbrev pub PlanIsFree : ProgRule → Type 0
-PlanIsFree r = r.kind ≡ kind.Plan → AllByRecursion IsFree r.outs
+-- a plan whose outputs have no rule variables, and whose list of calls is there
+pub record PlanIsSound (r : ProgRule) : Type 0 where
+  pub free : AllByRecursion IsFree r.outs
+  pub there : IsSome r.plan
 
--- of no plan
-abbrev pub PlansAreFree : List ProgTransform → Type 0
-PlansAreFree ts = AllByRecursion (λ t. AllByRecursion PlanIsFree t.rules) ts
+-- all plans of a program are
+abbrev pub PlansAreSound : List ProgTransform → Type 0
+PlansAreSound ts = AllByRecursion (λ t. AllByRecursion (λ r. r.kind ≡ kind.Plan → PlanIsSound r) t.rules) ts

@@ -57,7 +57,7 @@ pair_in b taken o = operand_in b taken o.1
 unfoldable pub operands_in : Bound → Sort → List (Operator × Expr) → List ℕ
 operands_in b taken xs = operands_broken b taken (operands (map (λ o. (o.0, bare o.1)) xs))
 
--- the numbers of a statement
+-- the coordinates of an assigned cell, which statements have as a list
 unfoldable pub listed_in : Bound → List Expr → List ℕ
 listed_in b xs = flat_map (operand_broken b Number) (map bare xs)
 

@@ -1,9 +1,9 @@
 ghost use Rattle.std.specs.Prelude.{◌≡◌, ◌⊎◌, [], map, IfOk, IfErr, OnOk};
 ghost use Rattle.std.specs.List.{flat_map};
 ghost use Rattle.pb_syntax.specs.declared.refusal.Refusal.TheVariants.{Memory};
-ghost use Rattle.pb_program.specs.Trees.{bare_prog, bare_transform};
+ghost use Rattle.pb_program.specs.Trees.{bare_prog, bare_rule, bare_transform};
 ghost use Rattle.pb_types.specs.Least.{least_of};
-ghost use Rattle.pb_types.specs.Types.{broken, IsRefused};
+ghost use Rattle.pb_types.specs.Types.{body_broken, broken, IsRefused};
 ghost use Rattle.pb_types.specs.Working.{rule_in, transform_in};
 
 use crate::least::least;
@@ -77,9 +77,6 @@ fn rule(
     let body = body(alloc, transforms, r)?;
     Ok(least(written, body))
 }
-
-ghost use Rattle.pb_program.specs.Trees.{bare_rule};
-ghost use Rattle.pb_types.specs.Types.{body_broken};
 
 #[tactic(auto, unfolding(crate::specs::Working::stmts_in))]
 fn body(alloc: Global, transforms: &[Transform], r: &Rule) -> Result<Option<u32>, Refusal>

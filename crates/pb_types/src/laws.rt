@@ -1,10 +1,11 @@
 ghost use Rattle.std.specs.Prelude.{◌≡◌, List, []};
 ghost use Rattle.pb_program.specs.Trees.{ProgTransform};
 ghost use Rattle.pb_program.specs.WellFormed.{IsWellFormed};
-ghost use Rattle.pb_types.specs.Types.{broken, PlansAreFree};
+ghost use Rattle.pb_types.specs.Types.{broken, PlansAreSound};
 
-/// A law: where the types of a well-formed program are right, no output of a plan has rule variables.
-#[tactic(auto, using(crate::proofs::FreeLemmas::plans_free))]
-pub fn a_plan_has_no_rule_variables()
-    ensures { (ts : List ProgTransform) → IsWellFormed ts → broken ts ≡ [] → PlansAreFree ts }
+/// A law: where the types of a well-formed program are right, no output of a plan has rule variables, and the list
+/// of its calls is there.
+#[tactic(auto, using(crate::proofs::SoundLemmas::plans_sound))]
+pub fn plans_are_sound()
+    ensures { (ts : List ProgTransform) → IsWellFormed ts → broken ts ≡ [] → PlansAreSound ts }
 {}

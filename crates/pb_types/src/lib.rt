@@ -17,4 +17,4 @@ mod statement;
 mod views;
 
 pub use check::check_types;
-pub use laws::a_plan_has_no_rule_variables;
+pub use laws::plans_are_sound;

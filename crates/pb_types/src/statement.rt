@@ -56,6 +56,7 @@ impl<'a> Bound<'a> {
         unless(fits, target.at)
     }
 
+    /// The least place of a fault in the coordinates of an assigned cell.
     #[tactic(auto, using(crate::proofs::HeldLemmas::numbers_are_listed))]
     fn listed(&self, numbers: &[Expr]) -> Option<u32>
         ensures { result ≡ least_of (listed_in self.now numbers.now) }
