@@ -11,3 +11,4 @@ pub mod RuleLemmas
 pub mod SizeLemmas
 pub mod TransformLemmas
 pub mod ProgramLemmas
+pub mod LawLemmas

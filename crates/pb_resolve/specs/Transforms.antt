@@ -197,3 +197,7 @@ IsRefusedFor (f ∷ rest) e = e ≡ refusal_of f
 
 abbrev pub IsRefused : List TransformTree → Refusal → Type 0
 IsRefused tree e = IsRefusedFor (faults_of tree) e
+
+pub record HasRefusal (tree : List TransformTree) : Type 0 where
+  pub why : Refusal
+  pub told : IsRefused tree why

@@ -10,6 +10,7 @@ mod expression;
 mod fault;
 mod header;
 mod kind;
+mod laws;
 mod local;
 mod make;
 mod make_statement;
@@ -27,5 +28,6 @@ mod sum;
 mod transform;
 mod view;
 
+pub use laws::a_tree_has_one_answer;
 pub use pb_program::Prog;
 pub use program::resolve;

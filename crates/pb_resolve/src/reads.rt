@@ -23,6 +23,29 @@ fn nothing() -> Coordinate
     Sum::new().into_coordinate()
 }
 
+/// A view with its lower corner alone.
+fn at_corner(
+    matrix: u32,
+    at: u32,
+    view: ReadView,
+    dims: u8,
+    x0: Coordinate,
+    y0: Coordinate,
+) -> Read
+    ensures { result ≡ record { matrix = matrix; at = at; view = view; dims = dims; x0 = x0; y0 = y0; x1 = nothing; y1 = nothing } }
+{
+    Read {
+        matrix,
+        at,
+        view,
+        dims,
+        x0,
+        y0,
+        x1: nothing(),
+        y1: nothing(),
+    }
+}
+
 impl<'t, 'p> Scope<'t, 'p> {
     /// Adds a name of a view or a rule variable.
     #[tactic(auto, using(crate::proofs::FaultLemmas::fails_memory))]
@@ -51,76 +74,35 @@ impl<'t, 'p> Scope<'t, 'p> {
         ensures { result ≡ view_of self.now.names matrix u.now }
     {
         let at = u.matrix.at();
+        let k = matrix.number;
         match &u.view {
-            ViewText::Whole => Read {
-                matrix: matrix.number,
-                at,
-                view: ReadView::Whole,
-                dims: matrix.dims,
-                x0: nothing(),
-                y0: nothing(),
-                x1: nothing(),
-                y1: nothing(),
-            },
-            ViewText::Cell { x, y: None } => Read {
-                matrix: matrix.number,
-                at,
-                view: ReadView::Cell,
-                dims: 1,
-                x0: self.collected(x),
-                y0: nothing(),
-                x1: nothing(),
-                y1: nothing(),
-            },
-            ViewText::Cell { x, y: Some(y) } => Read {
-                matrix: matrix.number,
-                at,
-                view: ReadView::Cell,
-                dims: 2,
-                x0: self.collected(x),
-                y0: self.collected(y),
-                x1: nothing(),
-                y1: nothing(),
-            },
-            ViewText::Row(y) => Read {
-                matrix: matrix.number,
-                at,
-                view: ReadView::Row,
-                dims: 2,
-                x0: nothing(),
-                y0: self.collected(y),
-                x1: nothing(),
-                y1: nothing(),
-            },
-            ViewText::Column(x) => Read {
-                matrix: matrix.number,
-                at,
-                view: ReadView::Column,
-                dims: 2,
-                x0: self.collected(x),
-                y0: nothing(),
-                x1: nothing(),
-                y1: nothing(),
-            },
+            ViewText::Whole => at_corner(k, at, ReadView::Whole, matrix.dims, nothing(), nothing()),
+            ViewText::Cell { x, y: None } => {
+                at_corner(k, at, ReadView::Cell, 1, self.collected(x), nothing())
+            }
+            ViewText::Cell { x, y: Some(y) } => {
+                let x = self.collected(x);
+                at_corner(k, at, ReadView::Cell, 2, x, self.collected(y))
+            }
+            ViewText::Row(y) => at_corner(k, at, ReadView::Row, 2, nothing(), self.collected(y)),
+            ViewText::Column(x) => {
+                at_corner(k, at, ReadView::Column, 2, self.collected(x), nothing())
+            }
             ViewText::Between { low, high } => Read {
-                matrix: matrix.number,
-                at,
-                view: ReadView::Region,
-                dims: 1,
-                x0: self.collected(low),
-                y0: nothing(),
                 x1: self.collected(high),
-                y1: nothing(),
+                ..at_corner(k, at, ReadView::Region, 1, self.collected(low), nothing())
             },
             ViewText::Region { x0, y0, x1, y1 } => Read {
-                matrix: matrix.number,
-                at,
-                view: ReadView::Region,
-                dims: 2,
-                x0: self.collected(x0),
-                y0: self.collected(y0),
                 x1: self.collected(x1),
                 y1: self.collected(y1),
+                ..at_corner(
+                    k,
+                    at,
+                    ReadView::Region,
+                    2,
+                    self.collected(x0),
+                    self.collected(y0),
+                )
             },
         }
     }
