@@ -1,14 +1,14 @@
 -- Whether some part of a body calls a transform.
-use Rattle.std.proofs.Common.{◌≡◌, ℕ, ◌+◌, ◌<◌, ◌≤◌, Bool, true, false, ◌||◌, List, [], ◌∷◌, length, get_or, drop, map, refl, ap, subst, ◌∙◌, sym, arith, add-one}
+use Rattle.std.proofs.Common.{◌≡◌, ℕ, ◌+◌, ◌<◌, ◌≤◌, Bool, true, false, ◌||◌, List, [], ◌∷◌, length, get_or, drop, refl, ap, ◌∙◌, sym, add-one}
 use Rattle.std.specs.List.{list_any}
 use Rattle.std.proofs.Math.Seq.{drop-cons}
 use Rattle.std.proofs.lemmas.List.{drop_all}
 use Rattle.pb_syntax.specs.declared.tree.expression.Operator.{Operator}
 use Rattle.pb_program.specs.declared.expression.Expr.{Expr}
 use Rattle.pb_program.specs.declared.statement.Stmt.{Stmt}
-use Rattle.pb_program.specs.Exprs.{exprs, operands, bare}
-use Rattle.pb_program.specs.Stmts.{stmts, bare_stmt}
-use Rattle.pb_resolve.specs.Kinds.{calls, some_calls, some_operand_calls, some_plans, plans, calls_in, some_calls_in, args_call_in, operands_call_in, plans_in, some_plans_in}
+use Rattle.pb_program.specs.Exprs.{bare}
+use Rattle.pb_program.specs.Stmts.{bare_stmt}
+use Rattle.pb_resolve.specs.Kinds.{calls, plans, calls_in, some_calls_in, args_call_in, operands_call_in, plans_in, some_plans_in}
 
 pub exprs_any : (xs : List Expr) → some_calls_in xs ≡ list_any calls_in xs
 unfolding calls_in some_calls_in

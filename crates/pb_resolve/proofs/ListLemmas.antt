@@ -1,5 +1,5 @@
 -- Lists of parts as they are held, and as definitions see them.
-use Rattle.std.proofs.Common.{◌≡◌, ℕ, ◌+◌, ◌<◌, List, [], ◌∷◌, ◌++◌, length, get_or, drop, map, refl, ap, subst, ◌∙◌, sym, arith, add-one}
+use Rattle.std.proofs.Common.{◌≡◌, ℕ, ◌+◌, ◌<◌, List, [], ◌∷◌, ◌++◌, length, get_or, drop, map, refl, ap, subst, ◌∙◌, sym}
 use Rattle.std.proofs.Common.{rules, ◌≤◌}
 use Rattle.std.specs.Global.{Box, Vec}
 use Rattle.pb_syntax.specs.declared.tree.expression.Level.{Level}
@@ -16,7 +16,7 @@ use Rattle.pb_syntax.specs.Exprs as text
 use Rattle.pb_program.specs.Exprs.{ExprValue}
 use Rattle.pb_program.specs.Exprs as to
 use Rattle.pb_resolve.specs.declared.fault.Fault.{Fault}
-use Rattle.pb_resolve.specs.Bodies.{Visible, exprs_of, operands_of, exprs_faults, operands_faults}
+use Rattle.pb_resolve.specs.Bodies.{Visible}
 use Rattle.pb_resolve.specs.Working.{expr_in, faults_in, exprs_in, exprs_faults_in, args_in, args_faults_in, operand_in, operand_faults_in, operands_in, operands_faults_in}
 
 exprs_are : (v : Visible) (xs : List ExprText) → to.exprs (map (expr_in v) xs) ≡ exprs_in v xs

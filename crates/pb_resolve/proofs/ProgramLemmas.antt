@@ -1,5 +1,5 @@
 -- Transforms one after the other.
-use Rattle.std.proofs.Common.{◌≡◌, ℕ, ◌+◌, ◌<◌, ◌≤◌, List, [], ◌∷◌, ◌++◌, length, get_or, drop, map, refl, ap, subst, ◌∙◌, sym, arith, add-one, ◌⊎◌, inl, inr}
+use Rattle.std.proofs.Common.{◌≡◌, ℕ, ◌+◌, ◌<◌, ◌≤◌, List, [], ◌∷◌, ◌++◌, length, get_or, drop, map, refl, ap, subst, ◌∙◌, sym, add-one, ◌⊎◌, inl, inr}
 use Rattle.std.specs.List.{AllByRecursion}
 use Rattle.std.proofs.Math.Seq.{drop-cons}
 use Rattle.std.proofs.lemmas.List.{drop_all}
@@ -7,7 +7,7 @@ use Rattle.pb_syntax.specs.Transforms.{TransformValue}
 use Rattle.pb_syntax.specs.Trees.{TransformTree, bare_transform}
 use Rattle.pb_syntax.specs.WithinLimits.{TransformWithin}
 use Rattle.pb_resolve.specs.Programs.{IsTransformWithin, first_in, named_faults_in, next_in, transform_in}
-use Rattle.pb_resolve.specs.Transforms.{all_names, first_names, named_faults, next_transform, put_first, transform_of, refusal_of, faults_of, IsResolved, IsRefused, IsRefusedFor}
+use Rattle.pb_resolve.specs.Transforms.{all_names, first_names, named_faults, next_transform, transform_of, refusal_of, faults_of, IsResolved, IsRefused, IsRefusedFor}
 use Rattle.pb_syntax.specs.declared.refusal.Refusal.{Refusal}
 use Rattle.pb_syntax.specs.declared.refusal.Refusal.TheVariants.{Memory}
 use Rattle.pb_program.specs.Trees.{ProgTransform}

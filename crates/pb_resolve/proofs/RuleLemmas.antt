@@ -1,11 +1,8 @@
 -- A rule, part by part.
-use Rattle.std.proofs.Common.{◌≡◌, ℕ, Bool, List, Option, map, ap, ◌∙◌, refl}
+use Rattle.std.proofs.Common.{◌≡◌, Bool, map, ap, ◌∙◌}
 use Rattle.pb_syntax.specs.Trees.{RuleTree}
-use Rattle.pb_program.specs.declared.rule.RuleKind.{RuleKind}
-use Rattle.pb_program.specs.declared.view.Cond.{Cond}
-use Rattle.pb_program.specs.declared.view.Read.{Read}
-use Rattle.pb_program.specs.Plans.{PlanValue, calls_of}
-use Rattle.pb_program.specs.Stmts.{StmtValue, stmts}
+use Rattle.pb_program.specs.Plans.{calls_of}
+use Rattle.pb_program.specs.Stmts.{stmts}
 use Rattle.pb_program.specs.Trees.{ProgRule}
 use Rattle.pb_resolve.specs.Bodies.{Visible}
 use Rattle.pb_resolve.specs.Kinds.{some_plans}

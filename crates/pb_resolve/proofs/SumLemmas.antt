@@ -1,12 +1,10 @@
 -- How large the numbers of a sum can be.
-use Rattle.std.proofs.Common.{◌≡◌, ℕ, zero, suc, ◌+◌, ◌*◌, ◌^◌, ◌<◌, ◌≤◌, ℤ, pos, negsuc, ◌+ℤ◌, unsigned_abs, nat_le, IsTrue, Bool, true, false, ◌&&◌, List, [], ◌∷◌, length, set, refl, ap, subst, sym, ◌∙◌, arith, get_or, SFits, w64}
+use Rattle.std.proofs.Common.{◌≡◌, ℕ, zero, suc, ◌+◌, ◌^◌, ◌<◌, ◌≤◌, ℤ, pos, ◌+ℤ◌, unsigned_abs, IsTrue, Bool, true, false, ◌&&◌, List, [], ◌∷◌, length, set, refl, arith, get_or, SFits, w64}
 use Rattle.std.proofs.lemmas.Int.{ints}
 use Rattle.std.proofs.lemmas.Bool.Decides.{nat_tests}
 use Rattle.std.specs.List.{list_all}
-use Rattle.pb_linear.specs.Numbers.{coefficient}
 use Rattle.pb_linear.specs.Limits.{is_number}
 use Rattle.pb_resolve.specs.Bounds.{is_within}
-use Rattle.pb_resolve.specs.Sums.{add_to}
 
 pub within_more : (n : ℕ) (z : ℤ) → IsTrue (is_within n z) → IsTrue (is_within (n + 1) z)
 within_more n z h = grind (arith, nat_tests)

@@ -1,5 +1,5 @@
 -- The kind of a rule: a body that calls a transform or declares a matrix makes it a plan.
-use Rattle.std.specs.Prelude.{ℕ, Bool, true, false, ◌||◌, List, map}
+use Rattle.std.specs.Prelude.{Bool, true, false, ◌||◌, List, map}
 use Rattle.std.specs.List.{list_any}
 use Rattle.pb_syntax.specs.declared.tree.expression.Operator.{Operator}
 use Rattle.pb_program.specs.declared.expression.Expr.{Expr}

@@ -1,5 +1,5 @@
 -- Rules: what each is resolved to, and what is wrong with its names.
-use Rattle.std.specs.Prelude.{ℕ, ℤ, pos, Bool, true, false, if◌then◌else◌, List, [], ◌∷◌, ◌++◌, map, Option, Some, None}
+use Rattle.std.specs.Prelude.{ℕ, pos, Bool, true, false, List, [], ◌∷◌, ◌++◌, map, Option, Some, None}
 use Rattle.std.specs.List.{flat_map}
 use Rattle.pb_values.specs.Name.{NameValue}
 use Rattle.pb_syntax.specs.Forms.{FormValue}

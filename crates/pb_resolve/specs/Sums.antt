@@ -1,5 +1,5 @@
 -- Forms with their terms collected: the coefficients of the rule variables, and numbers over the sizes.
-use Rattle.std.specs.Prelude.{ℕ, ℤ, pos, ◌+ℤ◌, ◌-ℤ◌, Bool, true, false, ◌==◌, if◌then◌else◌, List, [], ◌∷◌, Option, Some, None, slice_set}
+use Rattle.std.specs.Prelude.{ℕ, ℤ, pos, ◌+ℤ◌, ◌-ℤ◌, Bool, true, ◌==◌, if◌then◌else◌, List, [], ◌∷◌, Option, Some, None, slice_set}
 use Rattle.pb_linear.specs.Numbers.{Numbers, coefficient}
 use Rattle.pb_values.specs.Name.{NameValue}
 use Rattle.pb_syntax.specs.Forms.{FormValue}

@@ -1,5 +1,5 @@
 -- Parts of a body as they are held: what they are resolved to, and their faults.
-use Rattle.std.specs.Prelude.{◌≡◌, ℕ, List, [], ◌∷◌, ◌++◌, map}
+use Rattle.std.specs.Prelude.{List, [], ◌∷◌, ◌++◌, map}
 use Rattle.std.specs.List.{flat_map}
 use Rattle.pb_syntax.specs.declared.tree.expression.Operator.{Operator}
 use Rattle.pb_syntax.specs.declared.tree.expression.ExprText.{ExprText}

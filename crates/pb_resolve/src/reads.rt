@@ -24,14 +24,7 @@ fn nothing() -> Coordinate
 }
 
 /// A view with its lower corner alone.
-fn at_corner(
-    matrix: u32,
-    at: u32,
-    view: ReadView,
-    dims: u8,
-    x0: Coordinate,
-    y0: Coordinate,
-) -> Read
+fn at_corner(matrix: u32, at: u32, view: ReadView, dims: u8, x0: Coordinate, y0: Coordinate) -> Read
     ensures { result ≡ record { matrix = matrix; at = at; view = view; dims = dims; x0 = x0; y0 = y0; x1 = nothing; y1 = nothing } }
 {
     Read {

@@ -1,11 +1,10 @@
-use Rattle.std.proofs.Common.{rules, ◌≡◌, [], ◌∷◌, ◌++◌, map, ap, ◌∙◌, sym, subst, IfErr, IfOk, arith}
-use Rattle.std.proofs.lemmas.Grind.{common_steps}
+use Rattle.std.proofs.Common.{rules, ◌≡◌, ◌++◌, ap, ◌∙◌, sym, subst, IfErr}
 use Rattle.pb_program.specs.Exprs.{bare}
 use Rattle.pb_program.specs.Exprs as to
 use Rattle.pb_resolve.specs.Faults.{Fails}
 use Rattle.pb_resolve.specs.Working.{expr_in, faults_in, operand_in, operands_in, operands_faults_in}
 use Rattle.pb_resolve.proofs.FaultLemmas.{fails_right, built_next}
-use Rattle.pb_resolve.proofs.ListLemmas.{chain_in, chain_faults_in, operand_fails, operand_passes, operands_end, operands_faultless}
+use Rattle.pb_resolve.proofs.ListLemmas.{chain_in, chain_faults_in, operand_fails, operand_passes, operands_faultless}
 use Rattle.pb_resolve.proofs.scope.Scope.+expression.Goals as goal
 
 pub expression-returns-in_err-rest-in-Chain-clause-refused : goal.expression-returns-in_err-rest-in-Chain-clause-refused

@@ -1,4 +1,4 @@
-use Rattle.std.proofs.Common.{rules, ◌≡◌, ◌∙◌, ap, sym, map}
+use Rattle.std.proofs.Common.{◌∙◌, ap, map}
 use Rattle.pb_program.specs.Stmts.{bare_stmt as resolved}
 use Rattle.pb_program.specs.Stmts.{stmts}
 use Rattle.pb_program.specs.Plans.{calls_of}
@@ -8,7 +8,7 @@ use Rattle.pb_syntax.specs.Trees.{bare_rule}
 use Rattle.pb_resolve.specs.Bodies.{Visible}
 use Rattle.pb_resolve.specs.Kinds.{some_plans, some_plans_in}
 use Rattle.pb_resolve.specs.Views.{after_outs, after_reads, cond_of, outs_of, reads_of}
-use Rattle.pb_resolve.specs.Rules.{inner, body_of, is_cell, locals_of, plan_by, rule_of, is_plan, priority_of}
+use Rattle.pb_resolve.specs.Rules.{body_of, is_cell, locals_of, plan_by, priority_of}
 use Rattle.pb_resolve.proofs.ScopeLemmas.{body_is}
 use Rattle.pb_resolve.proofs.RuleLemmas.{rule_is}
 use Rattle.pb_resolve.proofs.scope.Scope.rule_within.Goals as goal

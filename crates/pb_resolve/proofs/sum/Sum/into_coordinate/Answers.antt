@@ -1,4 +1,4 @@
-use Rattle.std.proofs.Common.{rules, w64, arith}
+use Rattle.std.proofs.Common.{w64}
 use Rattle.std.proofs.lemmas.Int.{to_z-of_z}
 use Rattle.pb_resolve.proofs.SumLemmas.{within_fits}
 use Rattle.pb_resolve.proofs.SumLemmas.{within_number, row_numbers}
