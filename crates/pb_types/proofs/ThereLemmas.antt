@@ -11,7 +11,7 @@ use Rattle.pb_program.specs.Exprs as e
 use Rattle.pb_program.specs.Stmts.{StmtValue}
 use Rattle.pb_program.specs.Stmts as s
 use Rattle.pb_program.specs.Forms.{DeclValue}
-use Rattle.pb_program.specs.Plans.{PlanCallValue, slot_of, argument_slot, put_slot, target_slots, argument_slots, transform_call as called, put_call, call_by, called_by, call_of, calls_of, items}
+use Rattle.pb_program.specs.Plans.{PlanCallValue, slot_of, argument_slot, put, target_slots, argument_slots, transform_call as called, call_by, called_by, call_of, calls_of, items}
 use Rattle.pb_program.specs.Trees.{ProgTransform}
 use Rattle.pb_types.specs.Least.{unless}
 use Rattle.pb_types.specs.Plans.{Known, is_given, is_free, make, argument_broken, argument_misfit, target_misfit, numbered, misfit, argument_dims, wanted, targets_broken, count_broken, takes, gives, call_place, call_broken, assign_broken, plan_stmt_broken, plan_stmts_broken, after}
@@ -58,7 +58,7 @@ arguments_there k matrices i (x ∷ xs) none =
     let here : argument_misfit k matrices i x ≡ [] = none_left (argument_misfit k matrices i x) (numbered (argument_misfit k matrices) (i + 1) xs) none in
     let a = argument_there k x (none_left (argument_broken k x) (misfit (place_of x) (argument_dims k x) (wanted matrices i)) here) in
     let b = arguments_there k matrices (i + 1) xs (none_right (argument_misfit k matrices i x) (numbered (argument_misfit k matrices) (i + 1) xs) none) in
-    (a.0 ∷ b.0, ap (λ o. put_slot o (argument_slots xs)) a.1 ∙ ap (put_slot (Some a.0)) b.1)
+    (a.0 ∷ b.0, ap (λ o. put o (argument_slots xs)) a.1 ∙ ap (put (Some a.0)) b.1)
 
 targets_there : (k : Known) (ns : List Named) → targets_broken k ns ≡ [] → IsThere (target_slots ns)
 targets_there k [] none = ([], refl)
@@ -66,7 +66,7 @@ targets_there k (n ∷ ns) none =
     let first = unless (is_free k n.what) n.at in
     let a = free_slot k n.what n.at (none_left first (targets_broken (make k n.what) ns) none) in
     let b = targets_there (make k n.what) ns (none_right first (targets_broken (make k n.what) ns) none) in
-    (a.0 ∷ b.0, ap (λ o. put_slot o (target_slots ns)) a.1 ∙ ap (put_slot (Some a.0)) b.1)
+    (a.0 ∷ b.0, ap (λ o. put o (target_slots ns)) a.1 ∙ ap (put (Some a.0)) b.1)
 
 module _ (ts : List ProgTransform) where
   call_there : (k : Known) (at name : ℕ) (ns : List Named) (c : Callee) (xs : List ExprValue) → call_broken ts k at ns name c xs ≡ []
@@ -94,8 +94,8 @@ module _ (ts : List ProgTransform) where
   assign_there k n (e.chain level x rest) none = cc
   assign_there k n (e.compare x relation y) none = cc
 
-  put_there : (o : Option PlanCallValue) (rest : Option (List PlanCallValue)) → IsThere o → IsThere rest → IsThere (put_call o rest)
-  put_there o rest a b = (a.0 ∷ b.0, ap (λ z. put_call z rest) a.1 ∙ ap (put_call (Some a.0)) b.1)
+  put_there : (o : Option PlanCallValue) (rest : Option (List PlanCallValue)) → IsThere o → IsThere rest → IsThere (put o rest)
+  put_there o rest a b = (a.0 ∷ b.0, ap (λ z. put z rest) a.1 ∙ ap (put (Some a.0)) b.1)
 
   pub calls_there : (k : Known) (ss : List StmtValue) → plan_stmts_broken ts k ss ≡ [] → IsThere (calls_of ss)
   calls_there k [] none = ([], refl)
