@@ -1,6 +1,7 @@
 //! Rows: what is said of a text, and the text, with `@` before the place of its fault.
 
-pub(crate) const ROWS: &str = "accepted|transform T from A[n] to B[n] { to (B.cell(i) b) from (A.cell(i) a) { b = a; } }
+pub(crate) const ROWS: &str =
+    "accepted|transform T from A[n] to B[n] { to (B.cell(i) b) from (A.cell(i) a) { b = a; } }
 unknown z|transform T from A[n] to B[n] { to (B.cell(i) b) from () { b = @z; } }
 bad type|transform T from A[n] to B[n] { to (B.cell(i) b) from () { b = @1 < 2; } }
 bad output|transform T from A[n] to B[n] { to (@A.cell(i) b) from () { b = 1; } }
@@ -78,7 +79,7 @@ bad type|transform T from A[n] to B[n] { to (B.cell(i) b) from () { for (k = 0 .
 bad type|transform T from A[n] to B[n] { to (B b) from (A a) { @a.cell(0) = 1; } }
 accepted|transform T from A[n] to B[n] { to (B b) from (A a) { let t[n]; t = T(a); b = T(t); } }
 bad type|transform T from A[n] to B[n] { to (B b) from (A a) { let t[n]; t = T(a); @let k = 1; b = T(t); } }
-bad type|transform T from A[n] to B[n] { to (B b) from (A a) { @b = (T(a)); } }
+bad type|transform T from A[n] to B[n] { to (@B b) from (A a) { b = (T(a)); } }
 bad type|transform T from A[n] to B[n] { to (B b) from (@A.cell(0) a) { b = T(a); } }
 bad type|transform T from A[n] to B[n] { to (@B.cell(i) b) from (A a) { b = T(a); } }
 bad type|transform T from A[n] to B[n] { to (B b) from (A a) { b = T(@(a)); } }
@@ -88,4 +89,4 @@ bad type|transform T from A[n] to B[n] { to (@B b) from (A a) { let t[n]; t = T(
 bad type|transform T from A[n] to B[n] { to (B b) from (A a) { let @t[n]; b = T(a); } }
 bad type|transform T from A[n] to B[n] { to (B b) from (A a) { b = @T(a, a); } }
 bad type|transform T from A[n] to B[n] { to (B b) from (A a) { let t[n,n]; @t = T(a); b = T(a); } }
-bad type|transform T from A[n] to B[n] { to (B b) from (A a) { let t[n]; b, t = @sum(a); } }";
+bad type|transform T from A[n] to B[n] { to (B.cell(i) b) from (A a) { let x = 1; b, x = @sum(a); } }";
