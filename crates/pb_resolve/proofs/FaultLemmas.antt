@@ -4,9 +4,9 @@ use Rattle.std.proofs.lemmas.List.{map-append}
 use Rattle.std.proofs.lemmas.Grind.{flat_map-append}
 use Rattle.std.specs.List.{flat_map}
 use Rattle.std.proofs.Math.Seq.{drop-cons}
-use Rattle.pb_resolve.specs.declared.fault.Fault.{Fault}
-use Rattle.pb_resolve.specs.declared.fault.Fault.TheVariants.{Memory}
-use Rattle.pb_resolve.specs.Faults.{Fails, by_memory, by_first}
+use Rattle.pb_names.specs.declared.fault.Fault.{Fault}
+use Rattle.pb_names.specs.declared.fault.Fault.TheVariants.{Memory}
+use Rattle.pb_names.specs.Faults.{Fails, by_memory, by_first}
 
 pub fails_memory : (f : Fault) (xs : List Fault) → f ≡ Memory → Fails f xs
 fails_memory f xs e = by_memory e

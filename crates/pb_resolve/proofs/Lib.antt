@@ -1,14 +1,10 @@
-pub mod NamesLemmas
 pub mod FaultLemmas
 pub mod TurnLemmas
 pub mod ListLemmas
 pub mod ScopeLemmas
 pub mod SumLemmas
-pub mod KindLemmas
-pub mod PlanLemmas
 pub mod LocalLemmas
 pub mod RuleLemmas
 pub mod SizeLemmas
 pub mod TransformLemmas
 pub mod ProgramLemmas
-pub mod LawLemmas

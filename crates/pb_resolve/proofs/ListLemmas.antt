@@ -4,10 +4,10 @@ use Rattle.std.proofs.Common.{rules, ◌≤◌}
 use Rattle.std.specs.Global.{Box, Vec}
 use Rattle.pb_syntax.specs.declared.tree.expression.Level.{Level}
 use Rattle.pb_syntax.specs.declared.tree.expression.ExprText.{Chain, the_lemmas}
-use Rattle.pb_resolve.specs.Bodies.{expr_of, expr_faults}
+use Rattle.pb_names.specs.Bodies.{expr_of, expr_faults}
 use Rattle.std.proofs.lemmas.List.{append-nil, drop_all}
 use Rattle.std.specs.List.{flat_map}
-use Rattle.pb_resolve.specs.Faults.{Fails}
+use Rattle.pb_names.specs.Faults.{Fails}
 use Rattle.pb_resolve.proofs.FaultLemmas.{fails_next, faultless_next}
 use Rattle.pb_syntax.specs.declared.tree.expression.Operator.{Operator}
 use Rattle.pb_syntax.specs.declared.tree.expression.ExprText.{ExprText}
@@ -15,8 +15,8 @@ use Rattle.pb_syntax.specs.Exprs.{bare}
 use Rattle.pb_syntax.specs.Exprs as text
 use Rattle.pb_program.specs.Exprs.{ExprValue}
 use Rattle.pb_program.specs.Exprs as to
-use Rattle.pb_resolve.specs.declared.fault.Fault.{Fault}
-use Rattle.pb_resolve.specs.Bodies.{Visible}
+use Rattle.pb_names.specs.declared.fault.Fault.{Fault}
+use Rattle.pb_names.specs.Bodies.{Visible}
 use Rattle.pb_resolve.specs.Working.{expr_in, faults_in, exprs_in, exprs_faults_in, args_in, args_faults_in, operand_in, operand_faults_in, operands_in, operands_faults_in}
 
 exprs_are : (v : Visible) (xs : List ExprText) → to.exprs (map (expr_in v) xs) ≡ exprs_in v xs

@@ -8,7 +8,7 @@ use Rattle.pb_syntax.specs.Stmts.{bare_stmt}
 use Rattle.pb_syntax.specs.WithinLimits.{StmtWithin}
 use Rattle.pb_program.specs.declared.meaning.Meaning.{Meaning}
 use Rattle.pb_program.specs.Forms.{DeclValue}
-use Rattle.pb_resolve.specs.Rules.{locals_of}
+use Rattle.pb_names.specs.Rules.{locals_of}
 use Rattle.pb_resolve.specs.Locals.{local_in, IsWithin}
 
 locals_are : (names : List (List ℕ × Meaning)) (ss : List StmtText) → flat_map (local_in names) ss ≡ locals_of names (map bare_stmt ss)

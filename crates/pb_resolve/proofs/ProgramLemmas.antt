@@ -7,13 +7,13 @@ use Rattle.pb_syntax.specs.Transforms.{TransformValue}
 use Rattle.pb_syntax.specs.Trees.{TransformTree, bare_transform}
 use Rattle.pb_syntax.specs.WithinLimits.{TransformWithin}
 use Rattle.pb_resolve.specs.Programs.{IsTransformWithin, first_in, named_faults_in, next_in, transform_in}
-use Rattle.pb_resolve.specs.Transforms.{all_names, first_names, named_faults, next_transform, transform_of, refusal_of, faults_of, IsResolved, IsRefused, IsRefusedFor}
+use Rattle.pb_names.specs.Transforms.{all_names, first_names, named_faults, next_transform, transform_of, refusal_of, faults_of, IsResolved, IsRefused, IsRefusedFor}
 use Rattle.pb_syntax.specs.declared.refusal.Refusal.{Refusal}
 use Rattle.pb_syntax.specs.declared.refusal.Refusal.TheVariants.{Memory}
 use Rattle.pb_program.specs.Trees.{ProgTransform}
-use Rattle.pb_resolve.specs.declared.fault.Fault.{Fault}
-use Rattle.pb_resolve.specs.Faults.{Fails, by_memory, by_first, IsFirst}
-use Rattle.pb_resolve.specs.Turns.{turns, turn_faults}
+use Rattle.pb_names.specs.declared.fault.Fault.{Fault}
+use Rattle.pb_names.specs.Faults.{Fails, by_memory, by_first, IsFirst}
+use Rattle.pb_names.specs.Turns.{turns, turn_faults}
 
 module _ (now known : List (List ℕ × ℕ)) (ts : List TransformValue) (i : ℕ) (left : first_names i now (map bare_transform (drop i ts)) ≡ first_names 0 known (map bare_transform ts)) where
   pub first_next : (t : TransformValue) (later : List (List ℕ × ℕ)) → i < length ts → t ≡ get_or ts i t → later ≡ first_in i now t

@@ -4,10 +4,10 @@ use Rattle.pb_syntax.specs.Trees.{RuleTree}
 use Rattle.pb_program.specs.Plans.{calls_of}
 use Rattle.pb_program.specs.Stmts.{stmts}
 use Rattle.pb_program.specs.Trees.{ProgRule}
-use Rattle.pb_resolve.specs.Bodies.{Visible}
-use Rattle.pb_resolve.specs.Kinds.{some_plans}
-use Rattle.pb_resolve.specs.Views.{Matrices, outs_of, after_outs, reads_of, after_reads, cond_of}
-use Rattle.pb_resolve.specs.Rules.{body_of, inner, is_cell, is_plan, kind_by, locals_of, plan_by, priority_of, rule_of}
+use Rattle.pb_names.specs.Bodies.{Visible}
+use Rattle.pb_names.specs.Kinds.{some_plans}
+use Rattle.pb_names.specs.Views.{Matrices, outs_of, after_outs, reads_of, after_reads, cond_of}
+use Rattle.pb_names.specs.Rules.{body_of, inner, is_cell, is_plan, kind_by, locals_of, plan_by, priority_of, rule_of}
 
 -- what is found of a rule, each part from what was seen before it
 pub record Found (ms : Matrices) (v : Visible) (r : RuleTree) (x : ProgRule) (v1 v2 : Visible) (planned cell : Bool) : Type 0 where

@@ -10,15 +10,15 @@ use Rattle.pb_program.specs.declared.statement.Stmt.{Stmt}
 use Rattle.pb_program.specs.Stmts.{StmtValue, bare_stmt as bare}
 use Rattle.pb_program.specs.Stmts as to
 use Rattle.pb_values.specs.Name.{NameValue}
-use Rattle.pb_resolve.specs.declared.fault.Fault.{Fault}
+use Rattle.pb_names.specs.declared.fault.Fault.{Fault}
 use Rattle.pb_resolve.specs.declared.scope.Mark.{Mark}
-use Rattle.pb_resolve.specs.Faults.{Fails}
+use Rattle.pb_names.specs.Faults.{Fails}
 use Rattle.pb_syntax.specs.declared.tree.view.UseText.{UseText}
 use Rattle.pb_syntax.specs.Trees.{RuleTree}
-use Rattle.pb_resolve.specs.Turns.{after_turns, turns, turn_faults}
-use Rattle.pb_resolve.specs.Bodies.{Visible, declare, after, stmt_of, stmt_faults}
-use Rattle.pb_resolve.specs.Views.{Place, bind, with_variables, binders, out_scope, after_out, after_read, after_outs, start}
-use Rattle.pb_resolve.specs.Rules.{inner}
+use Rattle.pb_names.specs.Turns.{after_turns, turns, turn_faults}
+use Rattle.pb_names.specs.Bodies.{Visible, declare, after, stmt_of, stmt_faults}
+use Rattle.pb_names.specs.Views.{Place, bind, with_variables, binders, out_scope, after_out, after_read, after_outs, start}
+use Rattle.pb_names.specs.Rules.{inner}
 use Rattle.pb_resolve.specs.Working.{stmt_in, stmt_faults_in, after_in, block_in, block_faults_in, body_in, body_faults_in, after_all}
 use Rattle.pb_resolve.proofs.FaultLemmas.{fails_left}
 

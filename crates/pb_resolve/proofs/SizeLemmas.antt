@@ -8,8 +8,8 @@ use Rattle.pb_syntax.specs.Forms.{FormValue, DeclValue}
 use Rattle.pb_syntax.specs.Limits.{alone, is_known}
 use Rattle.pb_syntax.specs.Limits as written
 use Rattle.pb_program.specs.declared.meaning.Meaning.TheVariants as meaning
-use Rattle.pb_resolve.specs.Names.{look}
-use Rattle.pb_resolve.specs.Transforms.{entries, put_size, sizes_in, sizes_of}
+use Rattle.pb_names.specs.Names.{look}
+use Rattle.pb_names.specs.Transforms.{entries, put_size, sizes_in, sizes_of}
 
 entries_from : (k : ℕ) (ns : List NameValue) (n : NameValue) → entries k (ns ++ n ∷ []) ≡ entries k ns ++ (n.bytes, meaning.Size (k + length ns)) ∷ []
 entries_from k [] n = ap (λ j. (n.bytes, meaning.Size j) ∷ []) (omega arith)

@@ -4,9 +4,9 @@ use Rattle.std.specs.List.{AllByRecursion, flat_map}
 use Rattle.pb_syntax.specs.Rules.{RuleValue}
 use Rattle.pb_syntax.specs.Trees.{bare_rule}
 use Rattle.pb_syntax.specs.WithinLimits.{RuleWithin}
-use Rattle.pb_resolve.specs.Bodies.{Visible}
-use Rattle.pb_resolve.specs.Views.{Matrices}
-use Rattle.pb_resolve.specs.Rules.{rule_of, rule_faults}
+use Rattle.pb_names.specs.Bodies.{Visible}
+use Rattle.pb_names.specs.Views.{Matrices}
+use Rattle.pb_names.specs.Rules.{rule_of, rule_faults}
 use Rattle.pb_resolve.specs.RuleWords.{rule_in, rule_faults_in, IsRuleWithin}
 
 pub rules_are : (ms : Matrices) (v : Visible) (rs : List RuleValue) → map (rule_in ms v) rs ≡ map (rule_of ms v) (map bare_rule rs)

@@ -2,9 +2,9 @@
 use Rattle.std.proofs.Common.{◌≡◌, ℕ, ◌+◌, ◌<◌, ◌≤◌, List, [], ◌∷◌, ◌++◌, length, get_or, drop, refl, ap, subst, ◌∙◌, sym, arith, add-one, append_assoc}
 use Rattle.std.proofs.Math.Seq.{drop-cons}
 use Rattle.std.proofs.lemmas.List.{append-nil, drop_all, length-append}
-use Rattle.pb_resolve.specs.declared.fault.Fault.{Fault}
-use Rattle.pb_resolve.specs.Faults.{Fails}
-use Rattle.pb_resolve.specs.Turns.{after_turns, turns, turn_faults}
+use Rattle.pb_names.specs.declared.fault.Fault.{Fault}
+use Rattle.pb_names.specs.Faults.{Fails}
+use Rattle.pb_names.specs.Turns.{after_turns, turns, turn_faults}
 use Rattle.pb_resolve.proofs.FaultLemmas.{fails_left}
 
 module _ {S A B : Type 0} (next : S → A → S) (made : S → A → B) (faults : S → A → List Fault) where

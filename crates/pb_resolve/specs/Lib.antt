@@ -1,17 +1,7 @@
-pub mod Names
-pub mod Faults
-pub mod Turns
-pub mod Bodies
 pub mod Working
-pub mod Sums
 pub mod Bounds
-pub mod Views
 pub mod SumValue
 pub mod Binders
-pub mod Kinds
-pub mod Slots
-pub mod Rules
 pub mod Locals
-pub mod Transforms
 pub mod RuleWords
 pub mod Programs

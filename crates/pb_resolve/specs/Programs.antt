@@ -4,8 +4,8 @@ use Rattle.pb_syntax.specs.Transforms.{TransformValue}
 use Rattle.pb_syntax.specs.Trees.{bare_transform}
 use Rattle.pb_syntax.specs.WithinLimits.{TransformWithin}
 use Rattle.pb_program.specs.Trees.{ProgTransform}
-use Rattle.pb_resolve.specs.declared.fault.Fault.{Fault}
-use Rattle.pb_resolve.specs.Transforms.{named_faults, next_transform, put_first, transform_of}
+use Rattle.pb_names.specs.declared.fault.Fault.{Fault}
+use Rattle.pb_names.specs.Transforms.{named_faults, next_transform, put_first, transform_of}
 
 unfoldable pub first_in : ℕ → List (List ℕ × ℕ) → TransformValue → List (List ℕ × ℕ)
 first_in k known t = put_first k known t.name

@@ -8,8 +8,8 @@ use Rattle.pb_syntax.specs.Exprs.{bare, exprs, operands}
 use Rattle.pb_syntax.specs.Stmts.{bare_stmt, stmts}
 use Rattle.pb_program.specs.Exprs.{ExprValue, ExprValues, OperandValues}
 use Rattle.pb_program.specs.Stmts.{StmtValue, StmtValues}
-use Rattle.pb_resolve.specs.declared.fault.Fault.{Fault}
-use Rattle.pb_resolve.specs.Bodies.{Visible, expr_of, exprs_of, operands_of, expr_faults, exprs_faults, operands_faults, stmt_of, stmts_of, stmt_faults, stmts_faults, after}
+use Rattle.pb_names.specs.declared.fault.Fault.{Fault}
+use Rattle.pb_names.specs.Bodies.{Visible, expr_of, exprs_of, operands_of, expr_faults, exprs_faults, operands_faults, stmt_of, stmts_of, stmt_faults, stmts_faults, after}
 
 unfoldable pub expr_in : Visible → ExprText → ExprValue
 expr_in v e = expr_of v (bare e)

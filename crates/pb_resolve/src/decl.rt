@@ -2,7 +2,7 @@ ghost use Rattle.std.specs.Prelude.{◌≡◌, ◌^◌, ◌≤◌, IfOk, unsigne
 ghost use Rattle.pb_linear.specs.Form.{numbers};
 ghost use Rattle.pb_program.specs.Forms.{constant_numbers};
 ghost use Rattle.pb_syntax.specs.WithinLimits.{DimsWithin};
-ghost use Rattle.pb_resolve.specs.Rules.{decl_of};
+ghost use Rattle.pb_names.specs.Rules.{decl_of};
 
 use crate::scope::{Scope, copy_name};
 use crate::sum::Sum;

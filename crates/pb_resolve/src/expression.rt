@@ -1,13 +1,12 @@
 ghost use Rattle.std.specs.Prelude.{◌≡◌, [], ◌++◌, map, IfOk, IfErr, OnOk};
 ghost use Rattle.std.specs.List.{flat_map};
 ghost use Rattle.pb_program.specs.Exprs.{bare, call, cell, operands};
-ghost use Rattle.pb_resolve.specs.Faults.{Fails};
-ghost use Rattle.pb_resolve.specs.Bodies.{called, called_faults, named, use_faults};
+ghost use Rattle.pb_names.specs.Faults.{Fails};
+ghost use Rattle.pb_names.specs.Bodies.{called, called_faults, named, use_faults};
 ghost use Rattle.pb_resolve.specs.Working.{expr_in, faults_in, exprs_in, exprs_faults_in, operand_in, operand_faults_in, operands_in, operands_faults_in};
 
-use crate::fault::Fault;
-use crate::make;
 use crate::scope::Scope;
+use pb_names::{Fault, make};
 use pb_program::Expr;
 use pb_syntax::{ExprText, Level, Operator};
 use pb_values::Name;

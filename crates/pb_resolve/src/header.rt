@@ -3,63 +3,17 @@ ghost use Rattle.std.specs.List.{AllByRecursion, flat_map};
 ghost use Rattle.pb_linear.specs.Limits.{is_zero_from};
 ghost use Rattle.pb_syntax.specs.WithinLimits.{DeclWithin};
 ghost use Rattle.pb_syntax.specs.declared.limits.TheConstants.{MOST_MATRICES};
-ghost use Rattle.pb_resolve.specs.Faults.{Fails};
-ghost use Rattle.pb_resolve.specs.Turns.{after_turns, turns, turn_faults};
-ghost use Rattle.pb_resolve.specs.Rules.{decl_of};
-ghost use Rattle.pb_resolve.specs.Transforms.{count_of, header_faults, header_form_faults, header_term_faults, least_at, matrix_faults, matrix_of, minimum_faults, next_matrix, next_minimum, ranges_of};
+ghost use Rattle.pb_names.specs.Faults.{Fails};
+ghost use Rattle.pb_names.specs.Turns.{after_turns, turns, turn_faults};
+ghost use Rattle.pb_names.specs.Rules.{decl_of};
+ghost use Rattle.pb_names.specs.Transforms.{count_of, header_faults, header_form_faults, header_term_faults, least_at, matrix_faults, matrix_of, minimum_faults, next_matrix, next_minimum, ranges_of};
 
-use crate::fault::Fault;
-use crate::matrices::{Matrices, Matrix};
-use crate::names::Names;
-use crate::outputs::is_size;
 use crate::scope::{Scope, copy_name};
 use pb_linear::Ranges;
+use pb_names::{Fault, Matrices, Matrix, Names, count_of, is_size};
 use pb_program::Decl;
 use pb_syntax::{DeclText, FormText, TermText};
 use pb_values::Name;
-
-/// The least value of the k-th size, or 0 where there is none.
-fn least_at(minimums: &Names<'_, u64>, names: &[Name], k: usize) -> u64
-    ensures { result ≡ least_at minimums.now names.now k }
-{
-    match names.get(k) {
-        Some(name) => match minimums.find(name.bytes()) {
-            Some(least) => least.max(1),
-            None => 1,
-        },
-        None => 0,
-    }
-}
-
-/// The ranges of at most 8 sizes.
-pub(crate) fn ranges(minimums: &Names<'_, u64>, names: &[Name]) -> Ranges
-    requires { length names.now ≤ 8 }
-    ensures { result ≡ ranges_of minimums.now names.now }
-{
-    Ranges {
-        count: names.len() as u8,
-        least: [
-            least_at(minimums, names, 0),
-            least_at(minimums, names, 1),
-            least_at(minimums, names, 2),
-            least_at(minimums, names, 3),
-            least_at(minimums, names, 4),
-            least_at(minimums, names, 5),
-            least_at(minimums, names, 6),
-            least_at(minimums, names, 7),
-        ],
-    }
-}
-
-/// How many dimensions a matrix has.
-fn count_of(dims: &[FormText]) -> u8
-    ensures { result ≡ count_of dims.now }
-{
-    match dims {
-        [_, _, ..] => 2,
-        _ => 1,
-    }
-}
 
 impl<'t, 'p> Scope<'t, 'p> {
     fn header_name(&self, name: &Name) -> Result<(), Fault>

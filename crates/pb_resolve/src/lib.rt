@@ -7,17 +7,9 @@
 
 mod decl;
 mod expression;
-mod fault;
 mod header;
-mod kind;
-mod laws;
 mod local;
-mod make;
-mod make_statement;
-mod matrices;
-mod names;
 mod outputs;
-mod plan;
 mod program;
 mod reads;
 mod rule;
@@ -28,6 +20,6 @@ mod sum;
 mod transform;
 mod view;
 
-pub use laws::a_tree_has_one_answer;
+pub use pb_names::a_tree_has_one_answer;
 pub use pb_program::Prog;
 pub use program::resolve;

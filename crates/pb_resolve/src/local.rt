@@ -1,10 +1,10 @@
 ghost use Rattle.std.specs.Prelude.{◌≡◌, [], map, IfOk, IfErr, OnOk};
 ghost use Rattle.std.specs.List.{flat_map};
-ghost use Rattle.pb_resolve.specs.Faults.{Fails};
-ghost use Rattle.pb_resolve.specs.Bodies.{named, use_faults, term_of, term_faults, local_form, form_faults};
+ghost use Rattle.pb_names.specs.Faults.{Fails};
+ghost use Rattle.pb_names.specs.Bodies.{named, use_faults, term_of, term_faults, local_form, form_faults};
 
-use crate::fault::Fault;
 use crate::scope::Scope;
+use pb_names::Fault;
 use pb_program::{LocalForm, LocalTerm, Named};
 use pb_syntax::{FormText, TermText};
 use pb_values::Name;

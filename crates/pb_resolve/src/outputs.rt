@@ -4,14 +4,13 @@ ghost use Rattle.pb_program.specs.declared.meaning.Meaning.TheVariants as meanin
 ghost use Rattle.pb_syntax.specs.declared.limits.TheConstants.{MOST_VIEWS};
 ghost use Rattle.pb_syntax.specs.Limits.{alone};
 ghost use Rattle.pb_syntax.specs.WithinLimits.{UseWithin};
-ghost use Rattle.pb_resolve.specs.Faults.{Fails};
+ghost use Rattle.pb_names.specs.Faults.{Fails};
 ghost use Rattle.pb_resolve.specs.Binders.{names_in};
-ghost use Rattle.pb_resolve.specs.Rules.{is_cell};
-ghost use Rattle.pb_resolve.specs.Views.{after_outs, bind, binders, bound_faults, coordinate_names, coordinates_faults, has_names, is_bad_output, is_row, is_size, out_faults, out_of, out_scope, outs_faults, outs_of, repeats, variables_faults, with_variables};
+ghost use Rattle.pb_names.specs.Rules.{is_cell};
+ghost use Rattle.pb_names.specs.Views.{after_outs, bind, binders, bound_faults, coordinate_names, coordinates_faults, has_names, is_bad_output, is_row, is_size, out_faults, out_of, out_scope, outs_faults, outs_of, repeats, variables_faults, with_variables};
 
-use crate::fault::Fault;
-use crate::matrices::Matrices;
 use crate::scope::{Scope, copy_name};
+use pb_names::{Fault, Matrices, alone, is_row, is_size};
 use pb_program::{Meaning, Read};
 use pb_syntax::{FormText, UseText, ViewText};
 use pb_values::Name;
@@ -22,48 +21,6 @@ pub(crate) enum Binders<'t> {
     None,
     One(&'t Name),
     Two(&'t Name, &'t Name),
-}
-
-/// The name that a form is, if it is a name alone.
-pub(crate) fn alone(form: &FormText) -> Option<&Name>
-    ensures { option_copied result ≡ alone form.now }
-{
-    if form.minus {
-        return None;
-    }
-    match form.terms.as_slice() {
-        [only] => {
-            if only.factor != 1 {
-                return None;
-            }
-            if only.quotient != 0 {
-                return None;
-            }
-            only.name.as_ref()
-        }
-        _ => None,
-    }
-}
-
-/// Whether a name names a size.
-pub(crate) fn is_size(what: Option<Meaning>) -> bool
-    ensures { result ≡ is_size what }
-{
-    match what {
-        Some(Meaning::Size(_)) => true,
-        _ => false,
-    }
-}
-
-/// Whether a view is a row or a column.
-fn is_row(view: &ViewText) -> bool
-    ensures { result ≡ is_row view.now }
-{
-    match view {
-        ViewText::Row(_) => true,
-        ViewText::Column(_) => true,
-        _ => false,
-    }
 }
 
 impl<'t> Binders<'t> {

@@ -2,16 +2,15 @@ ghost use Rattle.std.specs.Prelude.{◌≡◌, ◌+◌, ◌^◌, ◌≤◌, ◌<
 ghost use Rattle.std.specs.List.{AllByRecursion, flat_map};
 ghost use Rattle.pb_program.specs.Forms.{nothing};
 ghost use Rattle.pb_syntax.specs.WithinLimits.{CondWithin, UseWithin, ViewWithin};
-ghost use Rattle.pb_resolve.specs.Faults.{Fails};
+ghost use Rattle.pb_names.specs.Faults.{Fails};
 ghost use Rattle.pb_program.specs.declared.meaning.Meaning.TheVariants as meaning;
 ghost use Rattle.pb_syntax.specs.declared.limits.TheConstants.{MOST_VIEWS};
-ghost use Rattle.pb_resolve.specs.Views.{after_reads, bind, bound_faults, cond_faults, cond_of, read_faults, read_of, reads_faults, reads_of, view_of};
+ghost use Rattle.pb_names.specs.Views.{after_reads, bind, bound_faults, cond_faults, cond_of, read_faults, read_of, reads_faults, reads_of, view_of};
 
-use crate::fault::Fault;
-use crate::matrices::{Matrices, Matrix};
 use crate::scope::{Scope, copy_name};
 use crate::sum::Sum;
 use pb_linear::{Form, VForm};
+use pb_names::{Fault, Matrices, Matrix};
 use pb_program::{Cond, Coordinate, Meaning, Read, ReadView};
 use pb_syntax::{CondText, UseText, ViewText};
 use pb_values::Name;

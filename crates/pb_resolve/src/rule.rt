@@ -6,50 +6,16 @@ ghost use Rattle.pb_program.specs.Trees.{bare_rule as resolved_rule};
 ghost use Rattle.pb_syntax.specs.Stmts.{bare_stmt};
 ghost use Rattle.pb_syntax.specs.Trees.{bare_rule};
 ghost use Rattle.pb_syntax.specs.WithinLimits.{MarkWithin, RuleWithin, StmtWithin};
-ghost use Rattle.pb_resolve.specs.Faults.{Fails};
-ghost use Rattle.pb_resolve.specs.Rules.{inner, is_single, kind_by, locals_of, plan_by, priority_of, rule_faults, rule_of};
+ghost use Rattle.pb_names.specs.Faults.{Fails};
+ghost use Rattle.pb_names.specs.Rules.{inner, is_single, kind_by, locals_of, plan_by, priority_of, rule_faults, rule_of};
 ghost use Rattle.pb_resolve.specs.RuleWords.{rule_in, rule_faults_in, IsRuleWithin};
 ghost use Rattle.pb_resolve.specs.Locals.{IsWithin, local_in};
 
-use crate::fault::Fault;
-use crate::kind::some_plans;
-use crate::matrices::Matrices;
-use crate::plan::calls;
 use crate::scope::Scope;
+use pb_names::{Fault, Matrices, calls, is_single, kind_by, priority_of, some_plans};
 use pb_program::{Body, Decl, Plan, Rule, RuleKind, Stmt};
 use pb_syntax::{MarkText, RuleText, StmtText, UseText};
 use std::alloc::AllocError;
-
-/// The priority of a mark.
-fn priority_of(mark: MarkText) -> u32
-    requires { MarkWithin mark }
-    ensures { result ≡ priority_of mark }
-{
-    match mark {
-        MarkText::Unmarked => 0,
-        MarkText::Primary => 0,
-        MarkText::Secondary => 1,
-        MarkText::Priority(k) => k as u32,
-    }
-}
-
-fn kind_by(plan: bool, cell: bool) -> RuleKind
-    ensures { result ≡ kind_by plan cell }
-{
-    if plan {
-        return RuleKind::Plan;
-    }
-    if cell { RuleKind::Cell } else { RuleKind::Wide }
-}
-
-fn is_single(outs: &[UseText]) -> bool
-    ensures { result ≡ is_single outs.now }
-{
-    match outs {
-        [_] => true,
-        _ => false,
-    }
-}
 
 impl<'t, 'p> Scope<'t, 'p> {
     /// Adds the matrix that a statement declares, if it declares one.
@@ -102,7 +68,7 @@ impl<'t, 'p> Scope<'t, 'p> {
         }
     }
 
-    #[tactic(auto, using(crate::proofs::FaultLemmas::fails_left, crate::proofs::FaultLemmas::fails_right, crate::proofs::FaultLemmas::fails_memory, crate::proofs::ScopeLemmas::body_is, crate::proofs::ScopeLemmas::body_faults_are), unfolding(crate::specs::Kinds::some_plans_in))]
+    #[tactic(auto, using(crate::proofs::FaultLemmas::fails_left, crate::proofs::FaultLemmas::fails_right, crate::proofs::FaultLemmas::fails_memory, crate::proofs::ScopeLemmas::body_is, crate::proofs::ScopeLemmas::body_faults_are), unfolding(pb_names::specs::Kinds::some_plans_in))]
     fn rule_within(&mut self, matrices: &Matrices<'t>, r: &'t RuleText) -> Result<Rule, Fault>
         requires { RuleWithin (bare_rule r.now) }
         ensures found { IfOk result (λ x. resolved_rule x ≡ rule_of matrices.now self.old (bare_rule r.now)) }

@@ -1,8 +1,7 @@
 ghost use Rattle.std.specs.Prelude.{◌≡◌, IfOk};
-ghost use Rattle.pb_resolve.specs.Bodies.{function_of};
+ghost use Rattle.pb_names.specs.Bodies.{function_of};
 
-use crate::fault::Fault;
-use crate::names::Names;
+use pb_names::{Fault, Names};
 use pb_program::{Called, Callee, Function, Meaning, Named};
 use pb_values::Name;
 use std::alloc::{AllocError, Global};
@@ -19,7 +18,7 @@ pub(crate) struct Scope<'t, 'p> {
 }
 
 impl<'t, 'p> Model for Scope<'t, 'p> {
-    ghost use Rattle.pb_resolve.specs.Bodies.{Visible};
+    ghost use Rattle.pb_names.specs.Bodies.{Visible};
 
     ghost Value = { Visible };
 
@@ -75,10 +74,10 @@ pub(crate) fn function_of(name: &[u8]) -> Option<Function>
 
 impl<'t, 'p> Scope<'t, 'p> {
     ghost use Rattle.std.specs.Prelude.{◌+◌, [], ◌∷◌, ◌++◌, None, IfErr, OnOk, take, length};
-    ghost use Rattle.pb_resolve.specs.Faults.{Fails};
-    ghost use Rattle.pb_resolve.specs.declared.fault.Fault.TheVariants.{Memory};
-    ghost use Rattle.pb_resolve.specs.Names.{look};
-    ghost use Rattle.pb_resolve.specs.Bodies.{named, called, use_faults, called_faults, declared_faults};
+    ghost use Rattle.pb_names.specs.Faults.{Fails};
+    ghost use Rattle.pb_names.specs.declared.fault.Fault.TheVariants.{Memory};
+    ghost use Rattle.pb_names.specs.Names.{look};
+    ghost use Rattle.pb_names.specs.Bodies.{named, called, use_faults, called_faults, declared_faults};
 
     /// What the header of a transform sees: the transforms, and its sizes.
     pub(crate) fn new(
@@ -133,7 +132,7 @@ impl<'t, 'p> Scope<'t, 'p> {
         }
     }
 
-    ghost use Rattle.pb_resolve.specs.Bodies.{called_name};
+    ghost use Rattle.pb_names.specs.Bodies.{called_name};
 
     fn callee(&self, name: &[u8]) -> Option<Callee>
         ensures { result ≡ called_name self.now name.now }

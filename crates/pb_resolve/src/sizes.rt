@@ -1,13 +1,11 @@
 ghost use Rattle.std.specs.Prelude.{◌≡◌, ◌≤◌, IfErr, OnOk, length};
 ghost use Rattle.pb_syntax.specs.Limits.{alone};
 ghost use Rattle.pb_syntax.specs.declared.limits.TheConstants.{MOST_SIZES};
-ghost use Rattle.pb_resolve.specs.declared.fault.Fault.TheVariants.{Memory};
-ghost use Rattle.pb_resolve.specs.Transforms.{entries, put_size, sizes_in, sizes_of};
+ghost use Rattle.pb_names.specs.declared.fault.Fault.TheVariants.{Memory};
+ghost use Rattle.pb_names.specs.Transforms.{entries, put_size, sizes_in, sizes_of};
 
-use crate::fault::Fault;
-use crate::names::Names;
-use crate::outputs::alone;
 use crate::scope::copy_name;
+use pb_names::{Fault, Names, alone};
 use pb_program::Meaning;
 use pb_syntax::{DeclText, FormText};
 use pb_values::Name;

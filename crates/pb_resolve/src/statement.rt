@@ -3,13 +3,12 @@ ghost use Rattle.std.specs.List.{flat_map};
 ghost use Rattle.pb_program.specs.declared.meaning.Meaning.TheVariants.{Number, Matrix};
 ghost use Rattle.pb_program.specs.Exprs.{bare};
 ghost use Rattle.pb_program.specs.Stmts.{bare_stmt, let_number, let_matrix, assign, call_stmt, assign_cell, stmts};
-ghost use Rattle.pb_resolve.specs.Faults.{Fails};
-ghost use Rattle.pb_resolve.specs.Bodies.{named, local, called, declare, use_faults, called_faults, declared_faults, local_form, form_faults};
+ghost use Rattle.pb_names.specs.Faults.{Fails};
+ghost use Rattle.pb_names.specs.Bodies.{named, local, called, declare, use_faults, called_faults, declared_faults, local_form, form_faults};
 ghost use Rattle.pb_resolve.specs.Working.{expr_in, faults_in, args_in, args_faults_in, stmt_in, stmt_faults_in, after_in, block_in, block_faults_in, body_in, after_all};
 
-use crate::fault::Fault;
-use crate::make_statement as make;
 use crate::scope::Scope;
+use pb_names::{Fault, make_statement as make};
 use pb_program::{Meaning, Stmt};
 use pb_syntax::{ExprText, FormText, StmtText};
 use pb_values::Name;

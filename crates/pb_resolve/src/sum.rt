@@ -1,7 +1,7 @@
 ghost use Rattle.std.specs.Prelude.{◌≡◌, ◌^◌, ◌<◌, ◌≤◌, ◌+◌, ◌*◌, ℤ, pos, ◌+ℤ◌, unsigned_abs, IsTrue, true, if◌then◌else◌};
 ghost use Rattle.std.specs.List.{list_all};
 ghost use Rattle.pb_resolve.specs.Bounds.{is_within};
-ghost use Rattle.pb_resolve.specs.Sums.{add_to};
+ghost use Rattle.pb_names.specs.Sums.{add_to};
 
 use pb_linear::{Form, VForm};
 use pb_program::{Coordinate, Meaning};
@@ -71,7 +71,7 @@ fn add_if(right: bool, row: [i64; 8], k: u32, d: i64, terms: u64) -> [i64; 8]
 
 impl Sum {
     ghost use Rattle.pb_program.specs.Forms.{nothing};
-    ghost use Rattle.pb_resolve.specs.Sums.{add_named, add_number};
+    ghost use Rattle.pb_names.specs.Sums.{add_named, add_number};
     ghost use Rattle.pb_resolve.specs.SumValue.{value_of};
 
     /// The sum of no terms.
@@ -241,7 +241,7 @@ impl Sum {
         }
     }
 
-    ghost use Rattle.pb_resolve.specs.Sums.{add_size};
+    ghost use Rattle.pb_names.specs.Sums.{add_size};
 
     #[tactic(auto, using(crate::proofs::SumLemmas::within_more, crate::proofs::SumLemmas::row_more))]
     fn with_size(self, k: u32, part: u8, d: i64) -> Sum

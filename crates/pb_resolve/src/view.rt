@@ -1,14 +1,14 @@
 ghost use Rattle.std.specs.Prelude.{◌≡◌, ◌+◌, ◌^◌, ◌≤◌, ◌<◌, [], ◌∷◌, IfErr, OnOk, length, unsigned_abs};
 ghost use Rattle.std.specs.List.{AllByRecursion, flat_map};
 ghost use Rattle.pb_syntax.specs.WithinLimits.{FormWithin, TermWithin};
-ghost use Rattle.pb_resolve.specs.Faults.{Fails};
-ghost use Rattle.pb_resolve.specs.Sums.{add_term, add_terms, collected, signed};
+ghost use Rattle.pb_names.specs.Faults.{Fails};
+ghost use Rattle.pb_names.specs.Sums.{add_term, add_terms, collected, signed};
 ghost use Rattle.pb_resolve.specs.SumValue.{value_of};
-ghost use Rattle.pb_resolve.specs.Views.{view_name_faults, view_term_faults, view_form_faults, forms_of, is_in_views};
+ghost use Rattle.pb_names.specs.Views.{view_name_faults, view_term_faults, view_form_faults, forms_of, is_in_views};
 
-use crate::fault::Fault;
 use crate::scope::{Scope, copy_name};
 use crate::sum::Sum;
+use pb_names::Fault;
 use pb_program::{Coordinate, Meaning};
 use pb_syntax::{FormText, TermText, ViewText};
 use pb_values::Name;

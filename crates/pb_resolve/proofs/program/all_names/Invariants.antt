@@ -1,6 +1,6 @@
 use Rattle.std.proofs.Common.{◌≡◌, [], map, drop}
 use Rattle.pb_syntax.specs.Trees.{bare_transform}
-use Rattle.pb_resolve.specs.Transforms.{first_names}
+use Rattle.pb_names.specs.Transforms.{first_names}
 use Rattle.pb_resolve.proofs.program.all_names.Given as goal
 
 abbrev pub invariant-loop-k : goal.invariant-loop-k

@@ -1,5 +1,5 @@
 use Rattle.std.proofs.Common.{◌≡◌, drop}
-use Rattle.pb_resolve.specs.Transforms.{entries, sizes_of}
+use Rattle.pb_names.specs.Transforms.{entries, sizes_of}
 use Rattle.pb_resolve.proofs.sizes.sizes.Given as goal
 
 abbrev pub invariant-loop-next : goal.invariant-loop-next

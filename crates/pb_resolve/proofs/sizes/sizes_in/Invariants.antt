@@ -1,5 +1,5 @@
 use Rattle.std.proofs.Common.{◌≡◌, drop}
-use Rattle.pb_resolve.specs.Transforms.{entries, sizes_in}
+use Rattle.pb_names.specs.Transforms.{entries, sizes_in}
 use Rattle.pb_resolve.proofs.sizes.sizes_in.Given as goal
 
 abbrev pub invariant-loop-next : goal.invariant-loop-next

@@ -1,11 +1,11 @@
 use Rattle.std.proofs.Common.{rules, [], ◌++◌, map, subst}
 use Rattle.std.specs.List.{flat_map}
 use Rattle.pb_syntax.specs.Trees.{bare_rule, bare_transform}
-use Rattle.pb_resolve.specs.Faults.{Fails}
-use Rattle.pb_resolve.specs.Turns.{turn_faults}
-use Rattle.pb_resolve.specs.Bodies.{Visible}
-use Rattle.pb_resolve.specs.Rules.{rule_faults}
-use Rattle.pb_resolve.specs.Transforms.{decls_faults, matrices_of, minimum_faults, next_minimum, transform_faults}
+use Rattle.pb_names.specs.Faults.{Fails}
+use Rattle.pb_names.specs.Turns.{turn_faults}
+use Rattle.pb_names.specs.Bodies.{Visible}
+use Rattle.pb_names.specs.Rules.{rule_faults}
+use Rattle.pb_names.specs.Transforms.{decls_faults, matrices_of, minimum_faults, next_minimum, transform_faults}
 use Rattle.pb_resolve.proofs.FaultLemmas.{fails_left, fails_right}
 use Rattle.pb_resolve.proofs.transform.transform.Goals as goal
 

@@ -1,7 +1,7 @@
 use Rattle.std.proofs.Common.{rules, ◌≡◌, ◌++◌, ap, ◌∙◌, sym, subst, IfErr}
 use Rattle.pb_program.specs.Exprs.{bare}
 use Rattle.pb_program.specs.Exprs as to
-use Rattle.pb_resolve.specs.Faults.{Fails}
+use Rattle.pb_names.specs.Faults.{Fails}
 use Rattle.pb_resolve.specs.Working.{expr_in, faults_in, operand_in, operands_in, operands_faults_in}
 use Rattle.pb_resolve.proofs.FaultLemmas.{fails_right, built_next}
 use Rattle.pb_resolve.proofs.ListLemmas.{chain_in, chain_faults_in, operand_fails, operand_passes, operands_faultless}

@@ -3,7 +3,7 @@ use Rattle.pb_program.specs.Stmts.{bare_stmt}
 use Rattle.pb_syntax.specs.declared.tree.statement.StmtText.{For, the_lemmas}
 use Rattle.pb_program.specs.declared.meaning.Meaning.TheVariants.{Number}
 use Rattle.pb_resolve.specs.declared.scope.Mark.{Mark}
-use Rattle.pb_resolve.specs.Bodies.{declare}
+use Rattle.pb_names.specs.Bodies.{declare}
 use Rattle.pb_resolve.specs.Working.{after_in}
 use Rattle.pb_resolve.proofs.ScopeLemmas.{back, back_loop, statement_fails}
 use Rattle.pb_resolve.proofs.scope.Scope.+statement.Goals as goal

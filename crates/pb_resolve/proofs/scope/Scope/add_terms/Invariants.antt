@@ -1,7 +1,7 @@
 use Rattle.std.proofs.Common.{◌≡◌, ◌+◌, ◌≤◌, drop}
 use Rattle.std.specs.List.{AllByRecursion}
 use Rattle.pb_syntax.specs.WithinLimits.{TermWithin}
-use Rattle.pb_resolve.specs.Sums.{add_terms}
+use Rattle.pb_names.specs.Sums.{add_terms}
 use Rattle.pb_resolve.specs.SumValue.{value_of}
 use Rattle.pb_resolve.proofs.scope.Scope.add_terms.Given as goal
 

@@ -1,5 +1,5 @@
 use Rattle.std.proofs.Common.{rules}
-use Rattle.pb_resolve.specs.Views.{cond_faults}
+use Rattle.pb_names.specs.Views.{cond_faults}
 use Rattle.pb_resolve.proofs.FaultLemmas.{fails_next}
 use Rattle.pb_resolve.proofs.scope.Scope.conditions.Goals as goal
 

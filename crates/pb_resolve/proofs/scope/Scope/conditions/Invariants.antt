@@ -1,7 +1,7 @@
 use Rattle.std.proofs.Common.{◌≡◌, ◌++◌, map, drop}
 use Rattle.std.specs.List.{AllByRecursion, flat_map}
 use Rattle.pb_syntax.specs.WithinLimits.{CondWithin}
-use Rattle.pb_resolve.specs.Views.{cond_of, cond_faults}
+use Rattle.pb_names.specs.Views.{cond_of, cond_faults}
 use Rattle.pb_resolve.proofs.scope.Scope.conditions.Given as goal
 
 abbrev pub invariant-loop-next : goal.invariant-loop-next

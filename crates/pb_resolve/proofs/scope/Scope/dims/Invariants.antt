@@ -1,6 +1,6 @@
 use Rattle.std.proofs.Common.{◌≡◌, ◌++◌, map, drop}
 use Rattle.std.specs.List.{flat_map}
-use Rattle.pb_resolve.specs.Bodies.{local_form, form_faults}
+use Rattle.pb_names.specs.Bodies.{local_form, form_faults}
 use Rattle.pb_resolve.proofs.scope.Scope.dims.Given as goal
 
 abbrev pub invariant-loop-next : goal.invariant-loop-next

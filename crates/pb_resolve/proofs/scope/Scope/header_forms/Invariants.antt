@@ -1,6 +1,6 @@
 use Rattle.std.proofs.Common.{◌≡◌, drop}
 use Rattle.std.specs.List.{flat_map}
-use Rattle.pb_resolve.specs.Transforms.{header_form_faults}
+use Rattle.pb_names.specs.Transforms.{header_form_faults}
 use Rattle.pb_resolve.proofs.scope.Scope.header_forms.Given as goal
 
 abbrev pub invariant-loop-next : goal.invariant-loop-next

@@ -1,5 +1,5 @@
 use Rattle.std.proofs.Common.{rules}
-use Rattle.pb_resolve.specs.Transforms.{next_matrix, matrix_of, matrix_faults}
+use Rattle.pb_names.specs.Transforms.{next_matrix, matrix_of, matrix_faults}
 use Rattle.pb_resolve.proofs.TurnLemmas.{add_fails}
 use Rattle.pb_resolve.proofs.scope.Scope.matrices.Goals as goal
 

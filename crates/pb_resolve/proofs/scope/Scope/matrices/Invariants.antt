@@ -1,7 +1,7 @@
 use Rattle.std.proofs.Common.{◌≡◌, ◌+◌, drop, length}
 use Rattle.std.specs.List.{AllByRecursion}
 use Rattle.pb_syntax.specs.WithinLimits.{DeclWithin}
-use Rattle.pb_resolve.specs.Transforms.{next_matrix, matrix_of, matrix_faults}
+use Rattle.pb_names.specs.Transforms.{next_matrix, matrix_of, matrix_faults}
 use Rattle.pb_resolve.proofs.TurnLemmas.{Added}
 use Rattle.pb_resolve.proofs.scope.Scope.matrices.Given as goal
 

@@ -1,5 +1,5 @@
 use Rattle.std.proofs.Common.{rules, []}
-use Rattle.pb_resolve.specs.Transforms.{next_minimum, minimum_faults}
+use Rattle.pb_names.specs.Transforms.{next_minimum, minimum_faults}
 use Rattle.pb_resolve.proofs.TurnLemmas.{pass_fails}
 use Rattle.pb_resolve.proofs.scope.Scope.minimums.Goals as goal
 

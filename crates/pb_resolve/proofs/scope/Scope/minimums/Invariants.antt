@@ -1,5 +1,5 @@
 use Rattle.std.proofs.Common.{[]}
-use Rattle.pb_resolve.specs.Transforms.{next_minimum, minimum_faults}
+use Rattle.pb_names.specs.Transforms.{next_minimum, minimum_faults}
 use Rattle.pb_resolve.proofs.TurnLemmas.{Passed}
 use Rattle.pb_resolve.proofs.scope.Scope.minimums.Given as goal
 

@@ -1,6 +1,6 @@
 use Rattle.std.proofs.Common.{◌≡◌, ◌++◌, map, drop}
 use Rattle.std.specs.List.{flat_map}
-use Rattle.pb_resolve.specs.Bodies.{named, use_faults}
+use Rattle.pb_names.specs.Bodies.{named, use_faults}
 use Rattle.pb_resolve.proofs.scope.Scope.names.Given as goal
 
 abbrev pub invariant-loop-next : goal.invariant-loop-next

@@ -5,10 +5,10 @@ use Rattle.pb_program.specs.Plans.{calls_of}
 use Rattle.pb_syntax.specs.Rules.{RuleValue}
 use Rattle.pb_syntax.specs.Stmts.{bare_stmt}
 use Rattle.pb_syntax.specs.Trees.{bare_rule}
-use Rattle.pb_resolve.specs.Bodies.{Visible}
-use Rattle.pb_resolve.specs.Kinds.{some_plans, some_plans_in}
-use Rattle.pb_resolve.specs.Views.{after_outs, after_reads, cond_of, outs_of, reads_of}
-use Rattle.pb_resolve.specs.Rules.{body_of, is_cell, locals_of, plan_by, priority_of}
+use Rattle.pb_names.specs.Bodies.{Visible}
+use Rattle.pb_names.specs.Kinds.{some_plans, some_plans_in}
+use Rattle.pb_names.specs.Views.{after_outs, after_reads, cond_of, outs_of, reads_of}
+use Rattle.pb_names.specs.Rules.{body_of, is_cell, locals_of, plan_by, priority_of}
 use Rattle.pb_resolve.proofs.ScopeLemmas.{body_is}
 use Rattle.pb_resolve.proofs.RuleLemmas.{rule_is}
 use Rattle.pb_resolve.proofs.scope.Scope.rule_within.Goals as goal

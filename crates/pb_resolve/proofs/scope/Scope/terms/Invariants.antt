@@ -1,6 +1,6 @@
 use Rattle.std.proofs.Common.{◌≡◌, ◌++◌, map, drop}
 use Rattle.std.specs.List.{flat_map}
-use Rattle.pb_resolve.specs.Bodies.{term_of, term_faults}
+use Rattle.pb_names.specs.Bodies.{term_of, term_faults}
 use Rattle.pb_resolve.proofs.scope.Scope.terms.Given as goal
 
 abbrev pub invariant-loop-next : goal.invariant-loop-next

@@ -1,0 +1,4 @@
+pub mod NamesLemmas
+pub mod KindLemmas
+pub mod PlanLemmas
+pub mod LawLemmas

@@ -1,0 +1,10 @@
+pub mod Names
+pub mod Faults
+pub mod Turns
+pub mod Bodies
+pub mod Sums
+pub mod Views
+pub mod Kinds
+pub mod Slots
+pub mod Rules
+pub mod Transforms

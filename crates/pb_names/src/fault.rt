@@ -1,0 +1,36 @@
+use pb_syntax::Refusal;
+use pb_values::Name;
+use std::alloc::{AllocError, AllocFailed};
+
+/// What is wrong with a name: it is there already; it isn't there; it is no size variable; or, by its place, it is a matrix
+/// that a rule can't write so. `Memory`: memory ran out.
+#[derive(Drop)]
+pub enum Fault {
+    Duplicate(Name),
+    Unknown(Name),
+    NotBound(Name),
+    BadOutput(u32),
+    Memory,
+}
+
+impl From<AllocError> for Fault {
+    ghost use Rattle.std.specs.Prelude.{◌≡◌};
+    ghost use Rattle.pb_names.specs.declared.fault.Fault.TheVariants.{Memory};
+
+    ghost from_gives = { λ _ e. e ≡ Memory };
+
+    fn from(_error: AllocError) -> Fault {
+        Fault::Memory
+    }
+}
+
+impl<T: Drop> From<AllocFailed<T>> for Fault {
+    ghost use Rattle.std.specs.Prelude.{◌≡◌};
+    ghost use Rattle.pb_names.specs.declared.fault.Fault.TheVariants.{Memory};
+
+    ghost from_gives = { λ _ e. e ≡ Memory };
+
+    fn from(_error: AllocFailed<T>) -> Fault {
+        Fault::Memory
+    }
+}

@@ -1,0 +1,24 @@
+//! Names of a program: as definitions, what each part of a tree is resolved to and what is wrong with its names; the laws
+//! of these; and the parts with which `pb_resolve` builds.
+//!
+//! In: trees, names, resolved expressions and statements. Out: maps of names in order of declaration; resolved expressions
+//! and statements; the calls of a plan. The theorem: a tree is one program, or is refused for one fault.
+#![tactic(auto)]
+
+mod fault;
+mod kind;
+mod laws;
+pub mod make;
+pub mod make_statement;
+mod matrices;
+mod names;
+mod parts;
+mod plan;
+
+pub use fault::Fault;
+pub use kind::some_plans;
+pub use laws::a_tree_has_one_answer;
+pub use matrices::{Matrices, Matrix};
+pub use names::Names;
+pub use parts::{alone, count_of, is_row, is_single, is_size, kind_by, priority_of, ranges};
+pub use plan::calls;
