@@ -8,3 +8,4 @@ pub mod Trees
 pub mod Conditions
 pub mod Areas
 pub mod WellFormed
+pub mod Places

@@ -5,3 +5,5 @@ pub mod PlanLemmas
 pub mod RuleLemmas
 pub mod ThereLemmas
 pub mod SoundLemmas
+pub mod UnplacedTypes
+pub mod UnplacedPlans

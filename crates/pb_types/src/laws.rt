@@ -1,4 +1,5 @@
-ghost use Rattle.std.specs.Prelude.{◌≡◌, List, []};
+ghost use Rattle.std.specs.Prelude.{◌≡◌, List, [], length};
+ghost use Rattle.pb_program.specs.Places.{unplaced_prog};
 ghost use Rattle.pb_program.specs.Trees.{ProgTransform};
 ghost use Rattle.pb_program.specs.WellFormed.{IsWellFormed};
 ghost use Rattle.pb_types.specs.Types.{broken, PlansAreSound};
@@ -8,4 +9,10 @@ ghost use Rattle.pb_types.specs.Types.{broken, PlansAreSound};
 #[tactic(auto, using(crate::proofs::SoundLemmas::plans_sound))]
 pub fn plans_are_sound()
     ensures { (ts : List ProgTransform) → IsWellFormed ts → broken ts ≡ [] → PlansAreSound ts }
+{}
+
+/// A law: programs that differ in places alone have the same number of places at which a rule of types is broken.
+#[tactic(auto, using(crate::proofs::UnplacedPlans::same_broken))]
+pub fn types_dont_depend_on_places()
+    ensures { (q p : List ProgTransform) → unplaced_prog q ≡ unplaced_prog p → length (broken q) ≡ length (broken p) }
 {}
