@@ -7,3 +7,4 @@ pub mod ThereLemmas
 pub mod SoundLemmas
 pub mod UnplacedTypes
 pub mod UnplacedPlans
+pub mod LawLemmas

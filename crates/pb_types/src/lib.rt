@@ -17,4 +17,4 @@ mod statement;
 mod views;
 
 pub use check::check_types;
-pub use laws::{plans_are_sound, types_dont_depend_on_places};
+pub use laws::{plans_are_sound, types_dont_depend_on_places, types_have_one_answer};
