@@ -1,13 +1,11 @@
-// A library with one function.
+//! The phases that judge a program, one after the other.
+//!
+//! In: the tree of a program text. Out: the program that it is, or why the first phase that finds a fault refuses it. The
+//! theorem: a tree is accepted as one program, or refused for one reason, and places play no part in which of the two.
 #![tactic(auto)]
 
-ghost use Rattle.std.specs.Prelude.{◌≡◌};
-ghost use Rattle.pb_check.specs.Echo.{echo_of};
+mod accept;
+mod laws;
 
-// The `ensures` clause is the contract: what `echo` returns is `echo_of` of its argument, a definition
-// in `specs/Echo.antt`, which a caller's clause can cite too.
-pub fn echo(x: usize) -> usize
-    ensures { result ≡ echo_of x }
-{
-    x
-}
+pub use accept::accept_tree;
+pub use laws::{a_tree_is_accepted_or_refused, acceptance_doesnt_depend_on_places};

@@ -5,3 +5,4 @@ pub mod LawLemmas
 pub mod UnplacedBodies
 pub mod UnplacedViews
 pub mod UnplacedPrograms
+pub mod ToldLemmas
