@@ -1,0 +1,138 @@
+-- The line on `err` for a program that is refused.
+use Rattle.std.specs.Prelude.{ℕ, zero, suc, ◌+◌, List, [], ◌∷◌, ◌++◌, Option, Some, None, codes, decimal, slice_get}
+use Rattle.pb_values.specs.Name.{NameValue}
+use Rattle.pb_linear.specs.declared.sizes.Sizes.{Sizes}
+use Rattle.pb_linear.specs.Sizes.{sizes_of}
+use Rattle.pb_program.specs.Forms.{DeclValue}
+use Rattle.pb_program.specs.Trees.{ProgTransform}
+use Rattle.pb_syntax.specs.declared.refusal.Item.{Item}
+use Rattle.pb_syntax.specs.declared.refusal.Item.TheVariants.{Transforms, Rules, Matrices, Sizes as ItemSizes, Outputs, Reads, Conditions, Minimums, Targets, Arguments, Terms, Number, Statements, Nesting}
+use Rattle.pb_syntax.specs.declared.refusal.Refusal.{Refusal}
+use Rattle.pb_syntax.specs.declared.refusal.Refusal.TheVariants.{TooLong, BadToken, BadSyntax, OverLimit, DuplicateName, UnknownName, SizeNotBound, BadOutput, BadType, NegativeDim, OverlapOutputs, NotABox}
+
+-- the word for what is too many
+abbrev pub item_word : Item → List ℕ
+item_word Transforms = codes "transforms"
+item_word Rules = codes "rules"
+item_word Matrices = codes "matrices"
+item_word ItemSizes = codes "sizes"
+item_word Outputs = codes "outputs"
+item_word Reads = codes "reads"
+item_word Conditions = codes "conditions"
+item_word Minimums = codes "minimums"
+item_word Targets = codes "targets"
+item_word Arguments = codes "arguments"
+item_word Terms = codes "terms"
+item_word Number = codes "number"
+item_word Statements = codes "statements"
+item_word Nesting = codes "nesting"
+
+-- a place in the text, and the line's end
+abbrev pub at_byte : ℕ → List ℕ
+at_byte at = (codes "byte " ++ decimal at) ++ 10 ∷ []
+
+-- a name or word at a place
+abbrev pub named : List ℕ → ℕ → List ℕ
+named name at = name ++ (codes " at " ++ at_byte at)
+
+-- the name of a transform, by its number
+abbrev pub name_of : Option ProgTransform → List ℕ
+name_of None = []
+name_of (Some t) = t.name.bytes
+
+abbrev pub transform_text : List ProgTransform → ℕ → List ℕ
+transform_text ts t = name_of (slice_get ts t)
+
+-- the name of a matrix, by its number, after a point
+abbrev pub decl_text : Option DeclValue → List ℕ
+decl_text None = []
+decl_text (Some d) = codes "." ++ d.name.bytes
+
+abbrev pub matrix_in : Option ProgTransform → ℕ → List ℕ
+matrix_in None matrix = []
+matrix_in (Some t) matrix = decl_text (slice_get t.matrices matrix)
+
+abbrev pub matrix_text : List ProgTransform → ℕ → ℕ → List ℕ
+matrix_text ts t matrix = matrix_in (slice_get ts t) matrix
+
+abbrev pub axis_text : ℕ → List ℕ
+axis_text zero = codes "x"
+axis_text (suc n) = codes "y"
+
+-- `n=1,m=2`: sizes with their names, each after a separator
+abbrev pub sizes_text : List ℕ → List NameValue → List ℕ → List ℕ
+sizes_text separator (n ∷ names) (k ∷ sizes) = separator ++ (n.bytes ++ (codes "=" ++ (decimal k ++ sizes_text (codes ",") names sizes)))
+sizes_text separator [] sizes = []
+sizes_text separator (n ∷ names) [] = []
+
+abbrev pub sizes_in : Option ProgTransform → List ℕ → List ℕ
+sizes_in None sizes = []
+sizes_in (Some t) sizes = sizes_text [] t.sizes sizes
+
+-- `T.B x at n=1`
+abbrev pub negative_text : List ProgTransform → ℕ → ℕ → ℕ → Sizes → List ℕ
+negative_text ts t matrix axis sizes =
+    transform_text ts t ++ (matrix_text ts t matrix ++ (codes " " ++ (axis_text axis ++ (codes " at " ++ (sizes_in (slice_get ts t) (sizes_of sizes) ++ 10 ∷ [])))))
+
+-- `T rule 0`
+abbrev pub rule_text : List ProgTransform → ℕ → ℕ → List ℕ
+rule_text ts t rule = transform_text ts t ++ (codes " rule " ++ decimal rule)
+
+-- two outputs of a rule; a condition of a rule
+abbrev pub outputs_text : ℕ → ℕ → List ℕ
+outputs_text first second = (codes " outputs " ++ decimal first) ++ ((codes " and " ++ decimal second) ++ 10 ∷ [])
+
+abbrev pub condition_text : ℕ → List ℕ
+condition_text condition = (codes " condition " ++ decimal condition) ++ 10 ∷ []
+
+-- the refusals of the phases that are built
+abbrev pub HasLine : Refusal → Type 0
+HasLine TooLong = Unit {0}
+HasLine (BadToken at) = Unit {0}
+HasLine (BadSyntax at) = Unit {0}
+HasLine (OverLimit what at) = Unit {0}
+HasLine (DuplicateName name at) = Unit {0}
+HasLine (UnknownName name at) = Unit {0}
+HasLine (SizeNotBound name at) = Unit {0}
+HasLine (BadOutput at) = Unit {0}
+HasLine (BadType at) = Unit {0}
+HasLine (NegativeDim t matrix axis sizes) = Unit {0}
+HasLine (OverlapOutputs t rule first second) = Unit {0}
+HasLine (NotABox t rule condition) = Unit {0}
+HasLine other = ⊥
+
+-- the code and the name
+abbrev pub code_text : Refusal → List ℕ
+code_text TooLong = codes "P1 TooLong"
+code_text (BadToken at) = codes "P2 BadToken: "
+code_text (BadSyntax at) = codes "P3 BadSyntax: "
+code_text (OverLimit what at) = codes "P4 OverLimit: "
+code_text (DuplicateName name at) = codes "P5 DuplicateName: "
+code_text (UnknownName name at) = codes "P6 UnknownName: "
+code_text (SizeNotBound name at) = codes "P7 SizeNotBound: "
+code_text (NegativeDim t matrix axis sizes) = codes "P8 NegativeDim: "
+code_text (BadOutput at) = codes "P9 BadOutput: "
+code_text (OverlapOutputs t rule first second) = codes "P10 OverlapOutputs: "
+code_text (BadType at) = codes "P11 BadType: "
+code_text (NotABox t rule condition) = codes "P12 NotABox: "
+code_text other = []
+
+-- where the fault is, and the line's end
+abbrev pub cause_text : List ProgTransform → Refusal → List ℕ
+cause_text ts TooLong = 10 ∷ []
+cause_text ts (BadToken at) = at_byte at
+cause_text ts (BadSyntax at) = at_byte at
+cause_text ts (OverLimit what at) = named (item_word what) at
+cause_text ts (DuplicateName name at) = named name.bytes at
+cause_text ts (UnknownName name at) = named name.bytes at
+cause_text ts (SizeNotBound name at) = named name.bytes at
+cause_text ts (BadOutput at) = at_byte at
+cause_text ts (BadType at) = at_byte at
+cause_text ts (NegativeDim t matrix axis sizes) = negative_text ts t matrix axis sizes
+cause_text ts (OverlapOutputs t rule first second) = rule_text ts t rule ++ outputs_text first second
+cause_text ts (NotABox t rule condition) = rule_text ts t rule ++ condition_text condition
+cause_text ts other = []
+
+-- the line of a refusal; the line of a later phase comes with the phase, and out of memory has none
+abbrev pub refusal_line : List ProgTransform → Refusal → List ℕ
+refusal_line ts e = code_text e ++ cause_text ts e
