@@ -354,3 +354,10 @@ same_program y x e = sym (program_kept y) ∙ ap program_of e ∙ program_kept x
 
 pub same_faults : (y x : List TransformTree) → unplaced y ≡ unplaced x → map unplaced_fault (faults_of y) ≡ map unplaced_fault (faults_of x)
 same_faults y x e = sym (all_faults_kept y) ∙ ap faults_of e ∙ all_faults_kept x
+
+none_mapped : {A B : Type 0} (f : A → B) (xs : List A) → map f xs ≡ [] → xs ≡ []
+none_mapped f [] e = refl
+none_mapped f (x ∷ xs) e = cc
+
+pub faultless_again : (y x : List TransformTree) → unplaced y ≡ unplaced x → faults_of x ≡ [] → faults_of y ≡ []
+faultless_again y x e none = none_mapped unplaced_fault (faults_of y) (same_faults y x e ∙ ap (map unplaced_fault) none)

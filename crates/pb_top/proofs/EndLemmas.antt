@@ -136,7 +136,7 @@ module _ (words : List (List ℕ)) (shelf : ShelfChange) (out err : SinkChange) 
       → IfOk line (StopsWith (λ r. r ≡ reply)) → LineIsWritten line out err status → Ends words shelf out err status
   line_ends reply (Ok Memory) status sound answers is written = memory_ends status written.0 written.1 written.2
   line_ends reply (Ok (Refused code line)) status sound answers is written =
-      err_ends code (string_bytes line) status sound is.0 (subst (Answers words shelf.before) (sym is.1) answers) written
+      err_ends code line.items status sound is.0 (subst (Answers words shelf.before) (sym is.1) answers) written
   line_ends reply (Ok (Unread line)) status sound answers is written = absurd is
   line_ends reply (Err e) status sound answers is written = memory_ends status written.0 written.1 written.2
 
@@ -145,7 +145,7 @@ module _ (words : List (List ℕ)) (shelf : ShelfChange) (out err : SinkChange) 
       → ShelfReplies names (Answers words) shelf found → IsWritten found out err status → Ends words shelf out err status
   found_ends names (Ok text) status file_word says written = out_ends text.items status says.0 says.1 written
   found_ends names (Err Memory) status file_word says written = memory_ends status written.0 written.1 written.2
-  found_ends names (Err (Refused code line)) status file_word says written = err_ends code (string_bytes line) status says.0 says.1 says.2 written
+  found_ends names (Err (Refused code line)) status file_word says written = err_ends code line.items status says.0 says.1 says.2 written
   found_ends names (Err (Unread line)) status file_word says written =
       fault_ends (string_bytes line) status (record {
         cause = says.cause;

@@ -108,7 +108,7 @@ pub all_stop : (whole last : ShelfChange) (texts : List (List ℕ)) (i : ℕ) (n
     → ShelfStops (name ∷ []) (λ told r. Takes told (limited (name ∷ [])) (Err r)) last stop → ShelfStops texts (λ told r. Takes told (limited texts) (Err r)) whole stop
 all_stop whole last texts i name contents Memory at same sound now first asked read stops = tt
 all_stop whole last texts i name contents (Refused status line) at same sound now first asked read stops =
-    let reply = refusal_reply status (string_bytes line) in (
+    let reply = refusal_reply status line.items in (
       sym now ∙ stops.0 ∙ sound,
       stops.1,
       read (Err reply)

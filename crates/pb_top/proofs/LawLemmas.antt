@@ -3,12 +3,6 @@ use Rattle.std.proofs.Common.{◌≡◌, ℕ, ◌≤◌, length, arith, List, []
 use Rattle.std.proofs.lemmas.Bool.{cases_lt}
 use Rattle.pb_outside.specs.Shelf.{Files}
 use Rattle.pb_values.specs.declared.outcome.Kind.{Kind}
-use Rattle.pb_prog.specs.Canonical.{canonical}
-use Rattle.pb_syntax.specs.Trees.{TransformTree}
-use Rattle.pb_syntax.specs.declared.limits.TheConstants.{MOST_BYTES}
-use Rattle.pb_front.specs.Reading.{IsRead}
-use Rattle.pb_front.proofs.CanonicalLemmas.{read_again, its_own}
-use Rattle.pb_front.proofs.ReadLemmas.{one_tree, one_refusal as one_refusal_of, not_both}
 use Rattle.pb_words.specs.declared.ask.Ask.{Ask}
 use Rattle.pb_words.specs.declared.ask.Ask.TheVariants.{Check, Choices, Run, Tune, Demo}
 use Rattle.pb_words.proofs.LineLemmas.{one_reading}
@@ -17,11 +11,8 @@ use Rattle.pb_matrix.specs.Value.{MatrixValue}
 use Rattle.pb_matrix.specs.Reading.{matrix_read}
 use Rattle.pb_matrix.specs.declared.matrix.MatrixRefusal.{MatrixRefusal}
 use Rattle.pb_matrix.specs.declared.matrix.MatrixRefusal.TheVariants.{BadHeader, BadNumber, TooFew, TooMany, Memory}
-use Rattle.pb_top.specs.declared.reply.Status.TheVariants.{Program}
 use Rattle.pb_top.specs.Reply.{Reply, IsFaultyInput, done_reply, refusal_reply}
-use Rattle.pb_top.specs.Refusals.{refusal_line}
-use Rattle.pb_top.specs.Steps.{Takes, Accepts}
-use Rattle.pb_top.specs.Check.{CheckAnswers}
+use Rattle.pb_top.specs.Steps.{Takes}
 use Rattle.pb_top.specs.OneRule.{WritesSums, InputAnswers, RunsOneRule}
 use Rattle.pb_top.specs.Tokens.{tokens_of}
 use Rattle.pb_top.specs.Answer.{RunLine, built_run, taken_words, limited, RunAnswers, content_at, WorkAnswers, AskAnswers, Answers}
@@ -30,6 +21,7 @@ use Rattle.pb_top.specs.Ends.{Shows, IsAnswered, IsAnswerStatus, OutBreaks, ErrB
 use Rattle.pb_top.specs.declared.program.Sign.{Sign}
 use Rattle.pb_top.proofs.FrameLemmas.{one_form}
 use Rattle.pb_top.proofs.StepLemmas.{then_one, takes_one}
+use Rattle.pb_top.proofs.AcceptLemmas.{check_one}
 use Rattle.pb_top.proofs.EndLemmas.{other_status}
 
 abbrev as_sum : ℤ → Result ℤ Kind
@@ -72,24 +64,13 @@ one_run program word file input first second (inl (names, signs, rule, left)) (i
 one_run program word file input first second (inr (none, is)) (inl (names, signs, rule, right)) = absurd (none names signs rule)
 one_run program word file input first second (inr (none, is)) (inr (none_too, other_is)) = is ∙ sym other_is
 
-accepts_one : (program : List ℕ) (x y : Result (List TransformTree) Reply) → Accepts program x → Accepts program y → x ≡ y
-accepts_one program (Ok tree) (Ok other) read again = ap Ok (one_tree program tree other read again)
-accepts_one program (Ok tree) (Err reply) read (why, refused, is) = absurd (not_both program tree why read refused)
-accepts_one program (Err reply) (Ok tree) (why, refused, is) read = absurd (not_both program tree why read refused)
-accepts_one program (Err reply) (Err other) (why, refused, is) (more, again, other_is) =
-    ap Err (is ∙ ap (λ w. refusal_reply Program (refusal_line w)) (one_refusal_of program why more refused again) ∙ sym other_is)
-
-one_check : (program : List ℕ) (first second : Reply) → CheckAnswers program first → CheckAnswers program second → first ≡ second
-one_check program =
-    then_one (Accepts program) (λ tree reply. reply ≡ done_reply (canonical tree)) (accepts_one program) (λ tree x y is other_is. is ∙ sym other_is)
-
 one_line : (line : Option RunLine) (contents : List (List ℕ)) (first second : Reply) → RunAnswers line contents first → RunAnswers line contents second → first ≡ second
 one_line (Some line) contents first second left right =
     one_run (content_at contents 0) line.transform line.input (content_at contents 1) first second left right
 one_line None contents first second left right = left ∙ sym right
 
 one_work : (ask : Ask) (place : ℕ) (others contents : List (List ℕ)) (first second : Reply) → WorkAnswers ask place others contents first → WorkAnswers ask place others contents second → first ≡ second
-one_work Check place others contents first second left right = one_check (content_at contents 0) first second left right
+one_work Check place others contents first second left right = check_one (content_at contents 0) first second left right
 one_work Choices place others contents first second left right = left ∙ sym right
 one_work (Run workers depth grain pool trace) place others contents first second left right = one_line (built_run place pool trace others) contents first second left right
 one_work (Tune up_to) place others contents first second left right = left ∙ sym right
@@ -109,14 +90,6 @@ one_reply_lem words files first second (inl (ask, place, line, left)) (inl (othe
 one_reply_lem words files first second (inl (ask, place, line, left)) (inr (outside, is)) = absurd (outside (ask, place, line))
 one_reply_lem words files first second (inr (outside, is)) (inl (ask, place, line, right)) = absurd (outside (ask, place, line))
 one_reply_lem words files first second (inr (outside, is)) (inr (outside_too, other_is)) = is ∙ sym other_is
-
--- what is written of a program is written of itself
-pub checked_stays : (program text : List ℕ) → CheckAnswers program (done_reply text) → length text ≤ MOST_BYTES → CheckAnswers text (done_reply text)
-checked_stays program text (inr (why, refused, is)) short = absurd (omega (arith, ap (λ (r : Reply). r.status) is))
-checked_stays program text (inl (tree, read, is)) short =
-    let same : canonical tree ≡ text = sym (ap (λ (r : Reply). r.out) is) in
-    let a = read_again program tree read (subst (λ t. length t ≤ MOST_BYTES) (sym same) short) in
-    inl (a.0, subst (λ t. IsRead t a.0) same a.1, is ∙ ap done_reply (sym (its_own program tree a.0 read a.1)))
 
 -- a call ends with an answer or with one of three faults
 fault_or_not : (status : ℕ) → IsAnswerStatus status ⊎ (status ≡ 9) ⊎ (status ≡ 10) ⊎ (status ≡ 11)

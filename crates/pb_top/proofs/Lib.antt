@@ -10,3 +10,5 @@ pub mod WorkLemmas
 pub mod EndLemmas
 pub mod LawLemmas
 pub mod SomeLemmas
+pub mod LineLemmas
+pub mod AcceptLemmas

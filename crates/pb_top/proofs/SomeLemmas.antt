@@ -27,8 +27,7 @@ use Rattle.pb_matrix.specs.declared.matrix.MatrixRefusal.{MatrixRefusal}
 use Rattle.pb_matrix.specs.declared.matrix.MatrixRefusal.TheVariants.{BadHeader, BadNumber, TooFew, TooMany, Memory}
 use Rattle.pb_top.specs.declared.reply.Status.TheVariants.{Program}
 use Rattle.pb_top.specs.Reply.{Reply, IsFaultyInput, done_reply, refusal_reply, not_built, usage}
-use Rattle.pb_top.specs.Refusals.{refusal_line}
-use Rattle.pb_top.specs.Steps.{Takes, Accepts}
+use Rattle.pb_top.specs.Steps.{Takes}
 use Rattle.pb_top.specs.Program.{Names, head_of, tail_tokens, are_free, sign_token, IsOneRule}
 use Rattle.pb_top.specs.Found.{AreTerms, named_at, middle_of, IsFramed}
 use Rattle.pb_top.specs.OneRule.{sum_at, IsRow, WritesSums, InputAnswers, RunsOneRule}
@@ -39,6 +38,7 @@ use Rattle.pb_top.specs.declared.program.Sign.TheVariants.{Plus, Minus}
 use Rattle.pb_top.proofs.ProgramLemmas.{terms_begin}
 use Rattle.pb_top.proofs.FrameLemmas.{tokens_framed, rule_spelled, one_form}
 use Rattle.pb_top.proofs.StepLemmas.{then_some, takes_some}
+use Rattle.pb_top.proofs.AcceptLemmas.{check_some}
 
 abbrev as_sum : ℤ → Result ℤ Kind
 as_sum z = Ok z
@@ -223,15 +223,8 @@ line_some (Some line) contents =
     run_by (content_at contents 0) line.transform line.input (content_at contents 1) (rule_or_not (tokens_of (content_at contents 0)))
 line_some None contents = (not_built, refl)
 
-accepts_by : (program : List ℕ) → ((tree : List TransformTree) × IsRead program tree) ⊎ ((why : Refusal) × IsRefused program why)
-    → (outcome : Result (List TransformTree) Reply) × Accepts program outcome
-accepts_by program (inl (tree, read)) = (Ok tree, read)
-accepts_by program (inr (why, refused)) = (Err (refusal_reply Program (refusal_line why)), (why, refused, refl))
-
 work_some : (ask : Ask) (place : ℕ) (others contents : List (List ℕ)) → (reply : Reply) × WorkAnswers ask place others contents reply
-work_some Check place others contents =
-    then_some (Accepts (content_at contents 0)) (λ tree reply. reply ≡ done_reply (canonical tree)) (accepts_by (content_at contents 0) (some_reading (content_at contents 0)))
-    (λ tree. (done_reply (canonical tree), refl))
+work_some Check place others contents = check_some (content_at contents 0)
 work_some Choices place others contents = (not_built, refl)
 work_some (Run workers depth grain pool trace) place others contents = line_some (built_run place pool trace others) contents
 work_some (Tune up_to) place others contents = (not_built, refl)

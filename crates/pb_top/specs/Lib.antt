@@ -2,7 +2,6 @@
 pub mod Sinks
 pub mod Texts
 pub mod Reply
-pub mod Refusals
 pub mod Steps
 pub mod Check
 pub mod Tokens

@@ -3,9 +3,12 @@ use Rattle.std.specs.Prelude.{◌≡◌, ℕ, ◌<◌, ◌≤◌, List, [], ◌�
 use Rattle.pb_outside.specs.Shelf.{Files, content_of}
 use Rattle.pb_syntax.specs.declared.refusal.Refusal.{Refusal}
 use Rattle.pb_syntax.specs.Trees.{TransformTree}
+use Rattle.pb_program.specs.Trees.{ProgTransform}
 use Rattle.pb_front.specs.Reading.{IsRead, IsRefused}
+use Rattle.pb_names.specs.Transforms.{IsResolved, IsRefused as HasBadNames}
+use Rattle.pb_check.specs.Phases.{IsSound, IsRefused as IsUnsound}
+use Rattle.pb_lines.specs.Lines.{refusal_line}
 use Rattle.pb_top.specs.declared.reply.Status.TheVariants.{Program}
-use Rattle.pb_top.specs.Refusals.{refusal_line}
 use Rattle.pb_top.specs.Reply.{Reply, refusal_reply, no_file, file_too_long}
 
 -- a step gives something to the next, or its reply ends the work
@@ -29,7 +32,21 @@ Takes told (file ∷ files) (Err reply) =
     TakesFile told file.0 file.1 (Err reply)
     ⊎ ((bytes : List ℕ) × TakesFile told file.0 file.1 (Ok bytes) × Takes told files (Err reply))
 
--- the tree of a program, or the line of its refusal
-abbrev pub Accepts : List ℕ → Result (List TransformTree) Reply → Type 0
-Accepts program (Ok tree) = IsRead program tree
-Accepts program (Err reply) = (why : Refusal) × IsRefused program why × (reply ≡ refusal_reply Program (refusal_line why))
+-- the line of a refusal of a program with these transforms
+abbrev pub Refuses : List ProgTransform → (Refusal → Type 0) → Reply → Type 0
+Refuses p IsWhy reply = (why : Refusal) × IsWhy why × (reply ≡ refusal_reply Program (refusal_line p why))
+
+-- the tree of a program's text, or the line of its refusal
+abbrev pub Reads : List ℕ → Result (List TransformTree) Reply → Type 0
+Reads text (Ok tree) = IsRead text tree
+Reads text (Err reply) = Refuses [] (IsRefused text) reply
+
+-- the program that a tree is, with each name resolved, or the line of its refusal
+abbrev pub Resolves : List TransformTree → Result (List ProgTransform) Reply → Type 0
+Resolves tree (Ok p) = IsResolved tree p
+Resolves tree (Err reply) = Refuses [] (HasBadNames tree) reply
+
+-- a program that every further phase accepts, or the line of its refusal
+abbrev pub Accepts : List ProgTransform → Result (Unit {0}) Reply → Type 0
+Accepts p (Ok accepted) = IsSound p
+Accepts p (Err reply) = Refuses p (IsUnsound p) reply

@@ -20,7 +20,7 @@ IsRefusal status = (0 < status_code status) × ((status_code status < 9) ⊎ (11
 -- the work stops with a reply that the relation says, or out of memory
 abbrev pub StopsWith : (Reply → Type 0) → Stop → Type 0
 StopsWith Says Memory = Unit {0}
-StopsWith Says (Refused status line) = IsRefusal status × Says (refusal_reply status (string_bytes line))
+StopsWith Says (Refused status line) = IsRefusal status × Says (refusal_reply status line.items)
 StopsWith Says (Unread line) = ⊥
 
 -- the line of a file that couldn't be read
@@ -56,7 +56,7 @@ pub record NamesFault (names : List (List ℕ)) (shelf : ShelfChange) (line : Li
 -- the work stops over the files with these names
 abbrev pub ShelfStops : List (List ℕ) → (Option Files → Reply → Type 0) → ShelfChange → Stop → Type 0
 ShelfStops names Says shelf Memory = Unit {0}
-ShelfStops names Says shelf (Refused status line) = IsSound shelf × IsRefusal status × Says shelf.before (refusal_reply status (string_bytes line))
+ShelfStops names Says shelf (Refused status line) = IsSound shelf × IsRefusal status × Says shelf.before (refusal_reply status line.items)
 ShelfStops names Says shelf (Unread line) = NamesFault names shelf (string_bytes line)
 
 -- the bytes of the files with these names, or the work stops
@@ -89,7 +89,7 @@ WritesTo text sink other good status =
 -- how what stops the work is written
 abbrev pub StopIsWritten : Stop → SinkChange → SinkChange → ℕ → Type 0
 StopIsWritten Memory out err status = (status ≡ 11) × IsIdle out × IsIdle err
-StopIsWritten (Refused code line) out err status = WritesTo (string_bytes line) err out (status_code code) status
+StopIsWritten (Refused code line) out err status = WritesTo line.items err out (status_code code) status
 StopIsWritten (Unread line) out err status = WritesTo (string_bytes line) err out 9 status
 
 -- how what the work ended with is written

@@ -29,7 +29,7 @@ fn write_stop<O: Sink, E: Sink>(stop: &Stop, out: &mut O, err: &mut E) -> u8
 {
     match stop {
         Stop::Memory => Status::NoMemory.code(),
-        Stop::Refused(status, line) => status_of(put_all(err, line.as_bytes()), *status),
+        Stop::Refused(status, line) => status_of(put_all(err, line), *status),
         Stop::Unread(line) => status_of(put_all(err, line.as_bytes()), Status::ReadFault),
     }
 }

@@ -14,7 +14,6 @@ mod laws;
 mod one_rule;
 mod program;
 mod put;
-mod refusal;
 mod reply;
 mod run;
 mod tokens;

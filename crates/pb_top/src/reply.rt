@@ -59,7 +59,7 @@ pub enum Stop {
     /// Memory ran out.
     Memory,
     /// A status other than those of faults, and a line for `err`.
-    Refused(Status, String),
+    Refused(Status, Vec<u8>),
     /// A file couldn't be read: the line for `err` that names it.
     Unread(String),
 }
@@ -91,7 +91,7 @@ pub fn usage(alloc: Global) -> Result<Stop, AllocError>
     ensures { IfOk result (StopsWith (λ reply. reply ≡ usage)) }
 {
     let text = String::from_str(alloc, USAGE)?;
-    Ok(Stop::Refused(Status::Usage, text))
+    Ok(Stop::Refused(Status::Usage, text.into_bytes()))
 }
 
 /// What is asked isn't built yet.
@@ -99,7 +99,7 @@ pub fn not_built(alloc: Global) -> Result<Stop, AllocError>
     ensures { IfOk result (StopsWith (λ reply. reply ≡ not_built)) }
 {
     let line = String::from_str(alloc, "N1 NotBuilt\n")?;
-    Ok(Stop::Refused(Status::NotBuilt, line))
+    Ok(Stop::Refused(Status::NotBuilt, line.into_bytes()))
 }
 
 /// A file that isn't there.
@@ -107,7 +107,7 @@ pub fn no_file(alloc: Global, name: &str) -> Result<Stop, AllocError>
     ensures { IfOk result (StopsWith (λ reply. reply ≡ no_file name.now)) }
 {
     let line = format!(in alloc; "I1 NoFile: {name}\n")?;
-    Ok(Stop::Refused(Status::File, line))
+    Ok(Stop::Refused(Status::File, line.into_bytes()))
 }
 
 /// A file that is longer than its limit.
@@ -115,7 +115,7 @@ pub fn file_too_long(alloc: Global, name: &str) -> Result<Stop, AllocError>
     ensures { IfOk result (StopsWith (λ reply. reply ≡ file_too_long name.now)) }
 {
     let line = format!(in alloc; "I2 FileTooLong: {name}\n")?;
-    Ok(Stop::Refused(Status::File, line))
+    Ok(Stop::Refused(Status::File, line.into_bytes()))
 }
 
 /// A file that couldn't be read.
@@ -143,5 +143,5 @@ pub fn faulty_input(alloc: Global, file: &str, refusal: MatrixRefusal) -> Result
         )?,
         MatrixRefusal::Memory => return Err(AllocError),
     };
-    Ok(Stop::Refused(Status::Input, line))
+    Ok(Stop::Refused(Status::Input, line.into_bytes()))
 }

@@ -1,0 +1,53 @@
+-- Each refusal of a phase has a line.
+use Rattle.std.proofs.Common.{◌≡◌, ◌⊎◌, inl, inr, ℕ, List, [], ◌∷◌, refl, sym, subst, ◌∙◌}
+use Rattle.pb_syntax.specs.declared.refusal.Refusal.{Refusal}
+use Rattle.pb_syntax.specs.declared.refusal.Refusal.TheVariants.{TooLong, BadToken, BadSyntax, OverLimit, BadType, Memory}
+use Rattle.pb_syntax.specs.Trees.{TransformTree}
+use Rattle.pb_syntax.specs.WithinLimits.{IsWithinLimits}
+use Rattle.pb_lexer.proofs.LexemeLemmas.{lexemes}
+use Rattle.pb_grammar.proofs.Within.{within_limits}
+use Rattle.pb_front.specs.Reading.{IsRead, IsRefused}
+use Rattle.pb_names.specs.declared.fault.Fault.{Fault}
+use Rattle.pb_names.specs.declared.fault.Fault.TheVariants as fault
+use Rattle.pb_names.specs.Transforms.{faults_of, refusal_of, IsRefused as HasBadNames, IsRefusedFor}
+use Rattle.pb_program.specs.Trees.{ProgTransform}
+use Rattle.pb_check.specs.Phases.{IsRefused as IsUnsound}
+use Rattle.pb_lines.specs.Lines.{HasLine}
+
+text_refusal : (text : List ℕ) (e : Refusal) → IsRefused text e → HasLine e
+text_refusal text TooLong causes = tt
+text_refusal text (BadToken at) causes = tt
+text_refusal text (BadSyntax at) causes = tt
+text_refusal text (OverLimit what at) causes = tt
+text_refusal text other causes = absurd causes
+
+pub text_line : (text : List ℕ) (e : Refusal) → (e ≡ Memory) ⊎ IsRefused text e → (e ≡ Memory → ⊥) → HasLine e
+text_line text e (inl is) other = absurd (other is)
+text_line text e (inr causes) other = text_refusal text e causes
+
+fault_line : (f : Fault) → (refusal_of f ≡ Memory → ⊥) → HasLine (refusal_of f)
+fault_line (fault.Duplicate n) other = tt
+fault_line (fault.Unknown n) other = tt
+fault_line (fault.NotBound n) other = tt
+fault_line (fault.BadOutput at) other = tt
+fault_line fault.Memory other = absurd (other refl)
+
+first_line : (fs : List Fault) (e : Refusal) → IsRefusedFor fs e → (e ≡ Memory → ⊥) → HasLine e
+first_line [] e causes other = absurd causes
+first_line (f ∷ fs) e causes other = subst HasLine (sym causes) (fault_line f (λ is. other (causes ∙ is)))
+
+pub names_line : (tree : List TransformTree) (e : Refusal) → (e ≡ Memory) ⊎ HasBadNames tree e → (e ≡ Memory → ⊥) → HasLine e
+names_line tree e (inl is) other = absurd (other is)
+names_line tree e (inr causes) other = first_line (faults_of tree) e causes other
+
+phase_refusal : (p : List ProgTransform) (e : Refusal) → IsUnsound p e → HasLine e
+phase_refusal p (BadType at) causes = tt
+phase_refusal p other causes = absurd causes
+
+pub phase_line : (p : List ProgTransform) (e : Refusal) → (e ≡ Memory) ⊎ IsUnsound p e → (e ≡ Memory → ⊥) → HasLine e
+phase_line p e (inl is) other = absurd (other is)
+phase_line p e (inr causes) other = phase_refusal p e causes
+
+-- a tree that was read is within the limits
+pub read_within : (text : List ℕ) (tree : List TransformTree) → IsRead text tree → IsWithinLimits tree
+read_within text tree read = within_limits read.tokens tree (lexemes text read.tokens read.spelled) read.accepted
