@@ -65,9 +65,63 @@ fn refused_rows() -> [Row; 6] {
     ]
 }
 
+// One program, with one part changed in each row.
+fn misnamed_rows() -> [Row; 5] {
+    [
+        check(
+            &[(
+                "p",
+                "transform T from A[n] to B[n] { to (B.cell(i) b) from () { b = z; } }",
+            )],
+            3,
+            "",
+            "P6 UnknownName: z at byte 63\n",
+        ),
+        check(
+            &[(
+                "p",
+                "transform T from A[n] to B[n] { to (B.cell(i) b) from () { b = 1 < 2; } }",
+            )],
+            3,
+            "",
+            "P11 BadType: byte 63\n",
+        ),
+        check(
+            &[(
+                "p",
+                "transform T from A[n] to B[n] { to (A.cell(i) b) from () { b = 1; } }",
+            )],
+            3,
+            "",
+            "P9 BadOutput: byte 36\n",
+        ),
+        check(
+            &[(
+                "p",
+                "transform T from A[n], A[n] to B[n] { to (B.cell(i) b) from () { b = 1; } }",
+            )],
+            3,
+            "",
+            "P5 DuplicateName: A at byte 23\n",
+        ),
+        check(
+            &[(
+                "p",
+                "transform T from A[2*n] to B[n] { to (B.cell(i) b) from () { b = 1; } }",
+            )],
+            3,
+            "",
+            "P7 SizeNotBound: n at byte 21\n",
+        ),
+    ]
+}
+
 #[test]
 fn refused_programs_are_named(rt: HostRuntime) -> Result<(), Fail> {
     for row in refused_rows() {
+        holds(&rt, rt.alloc(), &row)?;
+    }
+    for row in misnamed_rows() {
         holds(&rt, rt.alloc(), &row)?;
     }
     Ok(())
