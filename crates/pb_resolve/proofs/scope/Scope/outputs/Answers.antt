@@ -1,5 +1,5 @@
 use Rattle.std.proofs.Common.{rules}
-use Rattle.pb_resolve.specs.Views.{Place, after_out, out_at, out_faults_at, start}
+use Rattle.pb_names.specs.Views.{Place, after_out, out_at, out_faults_at, start}
 use Rattle.pb_resolve.proofs.TurnLemmas.{turn_fails}
 use Rattle.pb_resolve.proofs.scope.Scope.outputs.Goals as goal
 

@@ -1,7 +1,7 @@
 use Rattle.std.proofs.Common.{drop}
 use Rattle.std.specs.List.{AllByRecursion}
 use Rattle.pb_syntax.specs.WithinLimits.{UseWithin}
-use Rattle.pb_resolve.specs.Views.{after_out, out_at, out_faults_at, start}
+use Rattle.pb_names.specs.Views.{after_out, out_at, out_faults_at, start}
 use Rattle.pb_resolve.proofs.TurnLemmas.{Turned}
 use Rattle.pb_resolve.proofs.scope.Scope.outputs.Given as goal
 
