@@ -2,3 +2,16 @@ pub mod NamesLemmas
 pub mod KindLemmas
 pub mod PlanLemmas
 pub mod LawLemmas
+pub mod SumLemmas
+pub mod ListFits
+pub mod FormsFit
+pub mod BodiesFit
+pub mod LookLemmas
+pub mod ViewsFit
+pub mod OutsFit
+pub mod PlansFit
+pub mod RulesFit
+pub mod SizeNames
+pub mod SizesFit
+pub mod DistinctFit
+pub mod TransformsFit

@@ -1,8 +1,10 @@
-ghost use Rattle.std.specs.Prelude.{◌≡◌, ◌⊎◌, List};
+ghost use Rattle.std.specs.Prelude.{◌≡◌, ◌⊎◌, List, []};
 ghost use Rattle.pb_program.specs.Trees.{ProgTransform};
+ghost use Rattle.pb_program.specs.WellFormed.{IsWellFormed};
 ghost use Rattle.pb_syntax.specs.Trees.{TransformTree};
+ghost use Rattle.pb_syntax.specs.WithinLimits.{IsWithinLimits};
 ghost use Rattle.pb_syntax.specs.declared.refusal.Refusal.{Refusal};
-ghost use Rattle.pb_names.specs.Transforms.{HasRefusal, IsRefused, IsResolved, program_of};
+ghost use Rattle.pb_names.specs.Transforms.{HasRefusal, IsRefused, IsResolved, faults_of, program_of};
 
 /// A law: each tree is one program or refused for one reason, and never both.
 #[tactic(auto, using(crate::proofs::LawLemmas::some_answer, crate::proofs::LawLemmas::no_two, crate::proofs::LawLemmas::same_program, crate::proofs::LawLemmas::same_refusal))]
@@ -11,4 +13,9 @@ pub fn a_tree_has_one_answer()
     ensures one_program { (tree : List TransformTree) (p q : List ProgTransform) → IsResolved tree p → IsResolved tree q → p ≡ q }
     ensures one_refusal { (tree : List TransformTree) (e f : Refusal) → IsRefused tree e → IsRefused tree f → e ≡ f }
     ensures not_both { (tree : List TransformTree) (p : List ProgTransform) (e : Refusal) → IsResolved tree p → IsRefused tree e → ⊥ }
+{}
+
+/// A law: a tree within the limits, whose names have no fault, is a well-formed program.
+pub fn a_faultless_tree_is_well_formed()
+    ensures { (tree : List TransformTree) → IsWithinLimits tree → faults_of tree ≡ [] → IsWellFormed (program_of tree) }
 {}
