@@ -13,6 +13,7 @@ use Rattle.pb_syntax.specs.Trees.{TransformTree}
 use Rattle.pb_syntax.specs.WithinLimits.{Counts, DeclWithin, IsWithinLimits, MinimumWithin, RuleWithin, TransformWithin}
 use Rattle.pb_program.specs.declared.meaning.Meaning.{Meaning}
 use Rattle.pb_program.specs.Forms.{DeclValue}
+use Rattle.pb_program.specs.Trees.{ProgTransform}
 use Rattle.pb_program.specs.WellFormed.{AreDistinct, AreRanges, Around, IsBound, IsDecl, IsRule, IsTransform, IsWellFormed}
 use Rattle.pb_names.specs.declared.matrices.Matrix.{Matrix}
 use Rattle.pb_names.specs.Names.{look}
@@ -20,7 +21,7 @@ use Rattle.pb_names.specs.Turns.{after_turns, turn_faults}
 use Rattle.pb_names.specs.Bodies.{Visible, function_of}
 use Rattle.pb_names.specs.Views.{is_size}
 use Rattle.pb_names.specs.Rules.{decl_of, rule_faults, rule_of}
-use Rattle.pb_names.specs.Transforms.{Minimums, all_matrices, all_names, between, count_of, decls_faults, decls_of, entries, faults_of, first_names, given, least_at, least_or, matrices_of, matrix_faults, minimum_faults, minimums_of, named_faults, next_matrix, next_minimum, next_transform, program_of, put_first, ranges_of, seen, sizes, transform_faults, transform_of}
+use Rattle.pb_names.specs.Transforms.{IsResolved, Minimums, all_matrices, all_names, between, count_of, decls_faults, decls_of, entries, faults_of, first_names, given, least_at, least_or, matrices_of, matrix_faults, minimum_faults, minimums_of, named_faults, next_matrix, next_minimum, next_transform, program_of, put_first, ranges_of, seen, sizes, transform_faults, transform_of}
 use Rattle.pb_names.proofs.ListFits.{after_append, all_append, all_mapped, both, found_fits, turns_fit, turns_map, within_mapped}
 use Rattle.pb_names.proofs.LookLemmas.{none_duplicate, none_found}
 use Rattle.pb_names.proofs.FormsFit.{Fit}
@@ -192,3 +193,6 @@ well_formed ts w e =
       distinct = subst AreDistinct (sym (names_kept (transform_of all) (λ t. t.name) (λ t. t.name) (λ t. refl) ts)) (apart (λ t. t.name) (λ known t. 0) (named_faults all) (new_transform all) [] ts e).1;
       transforms = subst (AllByRecursion (IsTransform count)) (turns_map next_transform (transform_of all) [] ts) fit;
     }
+
+pub resolved_well_formed : (ts : List TransformTree) (p : List ProgTransform) → IsWithinLimits ts → IsResolved ts p → IsWellFormed p
+resolved_well_formed ts p w r = subst IsWellFormed (sym r.program) (well_formed ts w r.faultless)

@@ -1,13 +1,10 @@
 -- The size variables of a transform, one after the other.
-use Rattle.std.proofs.Common.{◌≡◌, ℕ, ◌+◌, ◌<◌, ◌≤◌, Bool, true, false, ◌||◌, List, [], ◌∷◌, ◌++◌, Option, Some, None, is_some, if◌then◌else◌, length, get_or, drop, map, refl, ap, ◌∙◌, sym, arith, add-one}
-use Rattle.std.specs.Str.{bytes_eq}
+use Rattle.std.proofs.Common.{◌≡◌, ℕ, ◌+◌, ◌<◌, ◌≤◌, Bool, true, false, List, [], ◌∷◌, ◌++◌, Option, Some, None, is_some, if◌then◌else◌, length, get_or, drop, refl, ap, ◌∙◌, sym, arith, add-one}
 use Rattle.std.proofs.Math.Seq.{drop-cons}
-use Rattle.std.proofs.lemmas.List.{drop_all, length-append, map-append, length-map}
+use Rattle.std.proofs.lemmas.List.{drop_all, length-append}
 use Rattle.pb_values.specs.Name.{NameValue}
 use Rattle.pb_syntax.specs.Forms.{FormValue, DeclValue}
-use Rattle.pb_syntax.specs.Limits.{alone, is_known}
-use Rattle.pb_syntax.specs.Limits as written
-use Rattle.pb_program.specs.declared.meaning.Meaning.TheVariants as meaning
+use Rattle.pb_syntax.specs.Limits.{alone}
 use Rattle.pb_names.specs.Names.{look}
 use Rattle.pb_names.specs.Transforms.{entries, put_size, sizes_in, sizes_of}
 
