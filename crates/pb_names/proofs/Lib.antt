@@ -6,3 +6,16 @@ pub mod UnplacedBodies
 pub mod UnplacedViews
 pub mod UnplacedPrograms
 pub mod ToldLemmas
+pub mod SumLemmas
+pub mod ListFits
+pub mod FormsFit
+pub mod BodiesFit
+pub mod LookLemmas
+pub mod ViewsFit
+pub mod OutsFit
+pub mod PlansFit
+pub mod RulesFit
+pub mod SizeNames
+pub mod SizesFit
+pub mod DistinctFit
+pub mod TransformsFit

@@ -3,6 +3,7 @@ pub mod Faults
 pub mod Turns
 pub mod Bodies
 pub mod Sums
+pub mod Bounds
 pub mod Views
 pub mod Kinds
 pub mod Slots

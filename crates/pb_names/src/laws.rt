@@ -1,6 +1,8 @@
-ghost use Rattle.std.specs.Prelude.{◌≡◌, ◌⊎◌, List, map};
+ghost use Rattle.std.specs.Prelude.{◌≡◌, ◌⊎◌, List, [], map};
 ghost use Rattle.pb_program.specs.Trees.{ProgTransform};
+ghost use Rattle.pb_program.specs.WellFormed.{IsWellFormed};
 ghost use Rattle.pb_syntax.specs.Trees.{TransformTree};
+ghost use Rattle.pb_syntax.specs.WithinLimits.{IsWithinLimits};
 ghost use Rattle.pb_syntax.specs.declared.refusal.Refusal.{Refusal};
 ghost use Rattle.pb_syntax.specs.declared.refusal.Refusal.TheVariants.{Memory};
 ghost use Rattle.pb_program.specs.Places.{unplaced_prog};
@@ -23,4 +25,9 @@ pub fn a_tree_has_one_answer()
 pub fn names_dont_depend_on_places()
     ensures faults { (y x : List TransformTree) → unplaced y ≡ unplaced x → map unplaced_fault (faults_of y) ≡ map unplaced_fault (faults_of x) }
     ensures program { (y x : List TransformTree) → unplaced y ≡ unplaced x → unplaced_prog (program_of y) ≡ unplaced_prog (program_of x) }
+{}
+
+/// A law: a tree within the limits, whose names have no fault, is a well-formed program.
+pub fn a_faultless_tree_is_well_formed()
+    ensures { (tree : List TransformTree) → IsWithinLimits tree → faults_of tree ≡ [] → IsWellFormed (program_of tree) }
 {}

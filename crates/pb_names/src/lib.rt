@@ -17,7 +17,9 @@ mod plan;
 
 pub use fault::Fault;
 pub use kind::some_plans;
-pub use laws::{a_tree_has_one_answer, names_dont_depend_on_places};
+pub use laws::{
+    a_faultless_tree_is_well_formed, a_tree_has_one_answer, names_dont_depend_on_places,
+};
 pub use matrices::{Matrices, Matrix};
 pub use names::Names;
 pub use parts::{alone, count_of, is_row, is_single, is_size, kind_by, priority_of, ranges};

@@ -58,12 +58,7 @@ pub fn parentheses(alloc: Global, at: u32, inner: Expr) -> Result<Expr, AllocErr
 }
 
 /// An operand with the unary operator at `at` before it.
-pub fn signed(
-    alloc: Global,
-    at: u32,
-    sign: UnarySign,
-    operand: Expr,
-) -> Result<Expr, AllocError>
+pub fn signed(alloc: Global, at: u32, sign: UnarySign, operand: Expr) -> Result<Expr, AllocError>
     ensures { IfOk result (λ e. bare e ≡ signed at sign (bare operand)) }
 {
     Ok(Expr::Signed {

@@ -40,11 +40,7 @@ impl<'t> Matrices<'t> {
     }
 
     /// Adds a matrix with the next number.
-    pub fn add(
-        &mut self,
-        name: &'t [u8],
-        dims: u8,
-    ) -> Result<(), AllocFailed<(&'t [u8], Matrix)>>
+    pub fn add(&mut self, name: &'t [u8], dims: u8) -> Result<(), AllocFailed<(&'t [u8], Matrix)>>
         requires few { length self.old.names < 2 ^ 32 }
         requires new { look name.now self.old.names ≡ None }
         ensures { OnOk result (self.new ≡ record { names = self.old.names ++ (name.now, record { number = length self.old.names; dims = dims }) ∷ []; inputs = self.old.inputs }) }

@@ -2,7 +2,6 @@ pub mod FaultLemmas
 pub mod TurnLemmas
 pub mod ListLemmas
 pub mod ScopeLemmas
-pub mod SumLemmas
 pub mod LocalLemmas
 pub mod RuleLemmas
 pub mod SizeLemmas

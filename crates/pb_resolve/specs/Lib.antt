@@ -1,5 +1,4 @@
 pub mod Working
-pub mod Bounds
 pub mod SumValue
 pub mod Binders
 pub mod Locals

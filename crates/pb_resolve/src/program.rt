@@ -1,6 +1,7 @@
 ghost use Rattle.std.specs.Prelude.{◌≡◌, ◌≤◌, ◌⊎◌, [], map, IfOk, IfErr, OnOk, length};
 ghost use Rattle.std.specs.List.{AllByRecursion};
 ghost use Rattle.pb_program.specs.Trees.{bare_prog, bare_transform as resolved_transform};
+ghost use Rattle.pb_program.specs.WellFormed.{IsWellFormed};
 ghost use Rattle.pb_syntax.specs.declared.limits.TheConstants.{MOST_TRANSFORMS};
 ghost use Rattle.pb_syntax.specs.Trees.{bare_text, bare_transform};
 ghost use Rattle.pb_names.specs.Faults.{Fails};
@@ -125,6 +126,7 @@ fn resolved(alloc: Global, ts: &[TransformText]) -> Result<Vec<Transform>, Fault
 pub fn resolve(alloc: Global, text: &Text) -> Result<Prog, Refusal>
     requires { IsWithinLimits (bare_text text.now) }
     ensures found { IfOk result (λ p. IsResolved (bare_text text.now) (bare_prog p)) }
+    ensures well_formed { IfOk result (λ p. IsWellFormed (bare_prog p)) }
     ensures refused { IfErr result (λ e. (e ≡ refused.Memory) ⊎ IsRefused (bare_text text.now) e) }
 {
     match resolved(alloc, text.transforms.as_slice()) {

@@ -12,7 +12,7 @@ use pb_values::Name;
 use std::alloc::Global;
 
 /// Adds the size variable that a dimension is, if it is one that isn't known.
-#[tactic(auto, using(crate::proofs::SizeLemmas::entries_more))]
+#[tactic(auto, using(pb_names::proofs::SizeNames::entries_more))]
 fn put_size<'t>(
     alloc: Global,
     names: &mut Names<'t, Meaning>,

@@ -1,6 +1,6 @@
 ghost use Rattle.std.specs.Prelude.{◌≡◌, ◌^◌, ◌<◌, ◌≤◌, ◌+◌, ◌*◌, ℤ, pos, ◌+ℤ◌, unsigned_abs, IsTrue, true, if◌then◌else◌};
 ghost use Rattle.std.specs.List.{list_all};
-ghost use Rattle.pb_resolve.specs.Bounds.{is_within};
+ghost use Rattle.pb_names.specs.Bounds.{is_within};
 ghost use Rattle.pb_names.specs.Sums.{add_to};
 
 use pb_linear::{Form, VForm};
@@ -28,7 +28,7 @@ pub(crate) struct Sum {
 }
 
 /// A number of a sum with one more term.
-#[tactic(auto, using(crate::proofs::SumLemmas::within_added))]
+#[tactic(auto, using(pb_names::proofs::SumLemmas::within_added))]
 fn plus(number: &i64, d: i64, terms: u64) -> i64
     requires terms { terms < 2 ^ 20 }
     requires small { IsTrue (is_within terms number.now) }
@@ -40,7 +40,7 @@ fn plus(number: &i64, d: i64, terms: u64) -> i64
 }
 
 /// Adds to a coefficient of a row.
-#[tactic(auto, using(crate::proofs::SumLemmas::row_more, crate::proofs::SumLemmas::row_set, crate::proofs::SumLemmas::row_at))]
+#[tactic(auto, using(pb_names::proofs::SumLemmas::row_more, pb_names::proofs::SumLemmas::row_set, pb_names::proofs::SumLemmas::row_at))]
 fn add_to(mut row: [i64; 8], k: u32, d: i64, terms: u64) -> [i64; 8]
     requires terms { terms < 2 ^ 20 }
     requires small { IsTrue (list_all (is_within terms) row) }
@@ -55,7 +55,7 @@ fn add_to(mut row: [i64; 8], k: u32, d: i64, terms: u64) -> [i64; 8]
 }
 
 /// Adds to a coefficient of a row, if it is the right one.
-#[tactic(auto, using(crate::proofs::SumLemmas::row_more))]
+#[tactic(auto, using(pb_names::proofs::SumLemmas::row_more))]
 fn add_if(right: bool, row: [i64; 8], k: u32, d: i64, terms: u64) -> [i64; 8]
     requires terms { terms < 2 ^ 20 }
     requires small { IsTrue (list_all (is_within terms) row) }
@@ -93,7 +93,7 @@ impl Sum {
     }
 
     /// With one more number.
-    #[tactic(auto, using(crate::proofs::SumLemmas::within_more, crate::proofs::SumLemmas::row_more))]
+    #[tactic(auto, using(pb_names::proofs::SumLemmas::within_more, pb_names::proofs::SumLemmas::row_more))]
     pub(crate) fn with_number(self, d: i64) -> Sum
         requires terms { self.terms < 2 ^ 20 }
         requires d { unsigned_abs d ≤ 2 ^ 20 }
@@ -151,7 +151,7 @@ impl Sum {
         }
     }
 
-    #[tactic(auto, using(crate::proofs::SumLemmas::within_more, crate::proofs::SumLemmas::row_more))]
+    #[tactic(auto, using(pb_names::proofs::SumLemmas::within_more, pb_names::proofs::SumLemmas::row_more))]
     fn with_x(self, d: i64) -> Sum
         requires terms { self.terms < 2 ^ 20 }
         requires d { unsigned_abs d ≤ 2 ^ 20 }
@@ -182,7 +182,7 @@ impl Sum {
         }
     }
 
-    #[tactic(auto, using(crate::proofs::SumLemmas::within_more, crate::proofs::SumLemmas::row_more))]
+    #[tactic(auto, using(pb_names::proofs::SumLemmas::within_more, pb_names::proofs::SumLemmas::row_more))]
     fn with_y(self, d: i64) -> Sum
         requires terms { self.terms < 2 ^ 20 }
         requires d { unsigned_abs d ≤ 2 ^ 20 }
@@ -243,7 +243,7 @@ impl Sum {
 
     ghost use Rattle.pb_names.specs.Sums.{add_size};
 
-    #[tactic(auto, using(crate::proofs::SumLemmas::within_more, crate::proofs::SumLemmas::row_more))]
+    #[tactic(auto, using(pb_names::proofs::SumLemmas::within_more, pb_names::proofs::SumLemmas::row_more))]
     fn with_size(self, k: u32, part: u8, d: i64) -> Sum
         requires terms { self.terms < 2 ^ 20 }
         requires d { unsigned_abs d ≤ 2 ^ 20 }
@@ -280,7 +280,7 @@ impl Sum {
     }
 
     /// The coordinate that a sum of at most 8 terms is.
-    #[tactic(auto, using(crate::proofs::SumLemmas::within_number, crate::proofs::SumLemmas::row_numbers))]
+    #[tactic(auto, using(pb_names::proofs::SumLemmas::within_number, pb_names::proofs::SumLemmas::row_numbers))]
     pub(crate) fn into_coordinate(self) -> Coordinate
         requires { self.terms ≤ 8 }
         ensures { result ≡ value_of self }

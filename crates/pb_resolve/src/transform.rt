@@ -81,7 +81,7 @@ impl<'t, 'p> Scope<'t, 'p> {
 }
 
 /// What the header of a transform sees; the names of its sizes are added to `found`.
-#[tactic(auto, using(crate::proofs::FaultLemmas::fails_memory, crate::proofs::SizeLemmas::sizes_few))]
+#[tactic(auto, using(crate::proofs::FaultLemmas::fails_memory, pb_names::proofs::SizeNames::sizes_few))]
 fn seen<'t, 'p>(
     alloc: Global,
     transforms: &'p Names<'t, u32>,

@@ -1,7 +1,7 @@
 use Rattle.std.proofs.Common.{w64}
 use Rattle.std.proofs.lemmas.Int.{to_z-of_z}
-use Rattle.pb_resolve.proofs.SumLemmas.{within_fits}
-use Rattle.pb_resolve.proofs.SumLemmas.{within_number, row_numbers}
+use Rattle.pb_names.proofs.SumLemmas.{within_fits}
+use Rattle.pb_names.proofs.SumLemmas.{within_number, row_numbers}
 use Rattle.pb_resolve.proofs.sum.Sum.into_coordinate.Goals as goal
 
 pub invariant_of-rest : goal.invariant_of-rest

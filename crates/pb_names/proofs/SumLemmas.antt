@@ -4,7 +4,7 @@ use Rattle.std.proofs.lemmas.Int.{ints}
 use Rattle.std.proofs.lemmas.Bool.Decides.{nat_tests}
 use Rattle.std.specs.List.{list_all}
 use Rattle.pb_linear.specs.Limits.{is_number}
-use Rattle.pb_resolve.specs.Bounds.{is_within}
+use Rattle.pb_names.specs.Bounds.{is_within}
 
 pub within_more : (n : ℕ) (z : ℤ) → IsTrue (is_within n z) → IsTrue (is_within (n + 1) z)
 within_more n z h = grind (arith, nat_tests)
