@@ -1,0 +1,51 @@
+ghost use Rattle.std.specs.Prelude.{◌≡◌, ◌≤◌, ◌^◌, ℤ, pos, ◌+ℤ◌, IsTrue, unsigned_abs};
+ghost use Rattle.pb_linear.specs.Limits.{is_number};
+ghost use Rattle.pb_linear.specs.Form.{numbers};
+ghost use Rattle.pb_linear.specs.Numbers.{difference, multiple};
+ghost use Rattle.pb_program.specs.Forms.{constant_numbers};
+ghost use Rattle.pb_region.specs.Gaps.{raised};
+ghost use Rattle.pb_region.specs.Small.{AreSmall};
+
+use pb_linear::Form;
+
+/// The form of a constant.
+pub(crate) fn constant(k: i64) -> Form
+    requires { unsigned_abs k ≤ 2 ^ 23 }
+    ensures { numbers result ≡ constant_numbers k }
+{
+    Form {
+        constant: k,
+        whole: [0; 8],
+        half: [0; 8],
+        third: [0; 8],
+        quarter: [0; 8],
+    }
+}
+
+/// The form with a greater constant.
+pub(crate) fn raised(form: &Form, k: i64) -> Form
+    requires more { unsigned_abs k ≤ 2 ^ 23 }
+    requires small { unsigned_abs form.now.constant ≤ 2 ^ 25 }
+    ensures { numbers result ≡ raised k (numbers form.now) }
+{
+    Form {
+        constant: form.constant + k,
+        whole: form.whole,
+        half: form.half,
+        third: form.third,
+        quarter: form.quarter,
+    }
+}
+
+/// The difference of two forms.
+#[tactic(auto, using(crate::proofs::FormLemmas::numbers_are, crate::proofs::FormLemmas::no_refusal))]
+pub(crate) fn difference(left: &Form, right: &Form) -> Form
+    requires left { AreSmall (numbers left.now) }
+    requires right { AreSmall (numbers right.now) }
+    ensures { numbers result ≡ difference (numbers left.now) (numbers right.now) }
+{
+    match left.sub(right) {
+        Ok(form) => form,
+        Err(_) => unreachable!(),
+    }
+}
