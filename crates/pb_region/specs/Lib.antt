@@ -1,2 +1,5 @@
-pub mod Gaps
 pub mod Small
+pub mod Gaps
+pub mod Ends
+pub mod Boxes
+pub mod Overlaps

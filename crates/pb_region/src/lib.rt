@@ -1,5 +1,7 @@
 //! Comes in: a program whose names are resolved and whose types are right.
 #![tactic(auto)]
 
+mod bounds;
+mod ends;
 mod forms;
 mod gap;

@@ -1,0 +1,6 @@
+/// The axes of a matrix.
+#[derive(Clone, Copy)]
+pub(crate) enum Axis {
+    X,
+    Y,
+}
