@@ -1,2 +1,4 @@
 pub mod FormLemmas
 pub mod GapLemmas
+pub mod BoundLemmas
+pub mod OverlapLemmas

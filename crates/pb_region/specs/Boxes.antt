@@ -1,6 +1,6 @@
 -- Which conditions bound a box, the bounds that they give, and the box of each output of a rule.
-use Rattle.std.specs.Prelude.{ℕ, ℤ, pos, negsuc, int_le, Bool, true, false, ◌&&◌, ◌||◌, not, List, [], ◌∷◌, map, filter}
-use Rattle.std.specs.List.{list_any}
+use Rattle.std.specs.Prelude.{ℕ, ℤ, pos, negsuc, int_le, Bool, true, false, ◌&&◌, ◌||◌, not, List, [], ◌∷◌, map, Option, Some, None, if◌then◌else◌}
+use Rattle.std.specs.List.{filter_map, list_any}
 use Rattle.std.specs.Ordering.{int_eq}
 use Rattle.pb_linear.specs.Form.{numbers}
 use Rattle.pb_linear.specs.Numbers.{Numbers, exact_value, multiple}
@@ -14,6 +14,8 @@ use Rattle.pb_program.specs.Forms.{CoordinateValue, DeclValue}
 use Rattle.pb_program.specs.Trees.{ProgRule}
 use Rattle.pb_region.specs.declared.bounds.Axis.{Axis}
 use Rattle.pb_region.specs.declared.bounds.Axis.TheVariants as axis
+use Rattle.pb_region.specs.declared.bounds.Side.{Side}
+use Rattle.pb_region.specs.declared.bounds.Side.TheVariants as side
 use Rattle.pb_region.specs.Ends.{Ends, ends_of}
 use Rattle.pb_region.specs.Gaps.{gap, raised}
 
@@ -40,17 +42,18 @@ abbrev pub coefficient : Axis → CoordinateValue → ℤ
 coefficient axis.X g = g.x
 coefficient axis.Y g = g.y
 
--- `rest - v` is at most 0: v is at least the rest
-unfoldable pub lower : Axis → List CoordinateValue → List Numbers
-lower a gaps = map (λ g. g.rest) (filter (λ g. int_eq (coefficient a g) (negsuc 0)) gaps)
-
 -- 1 minus a form
 abbrev pub from_one : Numbers → Numbers
 from_one n = raised (pos 1) (multiple (negsuc 0) n)
 
--- `rest + v` is at most 0: v is below 1 minus the rest
-unfoldable pub upper : Axis → List CoordinateValue → List Numbers
-upper a gaps = map (λ g. from_one g.rest) (filter (λ g. int_eq (coefficient a g) (pos 1)) gaps)
+-- where `rest - v` is at most 0, v is at least the rest; where `rest + v` is at most 0, v is below 1 minus the rest
+abbrev pub bound : Side → Axis → CoordinateValue → Option Numbers
+bound side.Lower a g = if int_eq (coefficient a g) (negsuc 0) then Some g.rest else None
+bound side.Upper a g = if int_eq (coefficient a g) (pos 1) then Some (from_one g.rest) else None
+
+-- the bounds that conditions give, in their order
+unfoldable pub bounds : Side → Axis → List CoordinateValue → List Numbers
+bounds s a gaps = filter_map (bound s a) gaps
 
 -- ---- boxes
 -- the bounds of x and y: at least each lower one, below each upper one
@@ -62,7 +65,7 @@ pub record Limits : Type 0 where
 
 -- the bounds that a rule for single cells has by its conditions, and any other rule by the ends of the output
 abbrev pub limits : RuleKind → List CoordinateValue → Ends → Limits
-limits kind.Cell gaps e = record { lower_x = lower axis.X gaps; upper_x = upper axis.X gaps; lower_y = lower axis.Y gaps; upper_y = upper axis.Y gaps }
+limits kind.Cell gaps e = record { lower_x = bounds side.Lower axis.X gaps; upper_x = bounds side.Upper axis.X gaps; lower_y = bounds side.Lower axis.Y gaps; upper_y = bounds side.Upper axis.Y gaps }
 limits _ gaps e = record { lower_x = e.x.low.rest ∷ []; upper_x = e.x.high.rest ∷ []; lower_y = e.y.low.rest ∷ []; upper_y = e.y.high.rest ∷ [] }
 
 abbrev pub is_wide : RuleKind → Bool

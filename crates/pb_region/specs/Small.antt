@@ -6,10 +6,11 @@ use Rattle.pb_program.specs.declared.view.Cond.{Cond}
 use Rattle.pb_program.specs.declared.view.Read.{Read}
 use Rattle.pb_program.specs.Forms.{CoordinateValue, DeclValue}
 use Rattle.pb_program.specs.WellFormed.{is_small}
+use Rattle.pb_region.specs.Ends.{Ends, Interval}
 
--- each number of a form is at most 2^23 in absolute value
+-- each coefficient of a form is at most 2^23 in absolute value, and the constant at most 2^24
 pub record AreSmall (n : Numbers) : Type 0 where
-  pub constant : unsigned_abs n.constant ≤ 2 ^ 23
+  pub constant : unsigned_abs n.constant ≤ 2 ^ 24
   pub whole : IsTrue (list_all is_small n.whole)
   pub half : IsTrue (list_all is_small n.half)
   pub third : IsTrue (list_all is_small n.third)
@@ -25,12 +26,28 @@ pub record IsSmallDecl (d : DeclValue) : Type 0 where
   pub w : AreSmall d.w
   pub h : AreSmall d.h
 
+-- the constants of a cell's coordinates are at most 2^23, so that one more is small too
 pub record IsSmallRead (r : Read) : Type 0 where
   pub x0 : IsSmall r.x0
   pub y0 : IsSmall r.y0
   pub x1 : IsSmall r.x1
   pub y1 : IsSmall r.y1
+  pub start_x : unsigned_abs r.x0.rest.constant ≤ 2 ^ 23
+  pub start_y : unsigned_abs r.y0.rest.constant ≤ 2 ^ 23
 
 pub record IsSmallCond (c : Cond) : Type 0 where
   pub left : IsSmall c.left
   pub right : IsSmall c.right
+
+-- a condition with its terms collected, whose constant is far from the limit
+pub record IsNear (g : CoordinateValue) : Type 0 where
+  pub constant : unsigned_abs g.rest.constant ≤ 2 ^ 25
+
+-- ends of what a view shows
+pub record IsSmallInterval (i : Interval) : Type 0 where
+  pub low : AreSmall i.low.rest
+  pub high : AreSmall i.high.rest
+
+pub record AreSmallEnds (e : Ends) : Type 0 where
+  pub x : IsSmallInterval e.x
+  pub y : IsSmallInterval e.y

@@ -3,7 +3,7 @@ ghost use Rattle.std.specs.List.{All};
 ghost use Rattle.pb_linear.specs.Form.{numbers};
 ghost use Rattle.pb_program.specs.Forms.{over_sizes};
 ghost use Rattle.pb_region.specs.Ends.{between, by_dims, coordinate_of, ends_by, ends_of, from_start, next, nowhere, one_place, unmarked};
-ghost use Rattle.pb_region.specs.Small.{IsSmall, IsSmallDecl, IsSmallRead};
+ghost use Rattle.pb_region.specs.Small.{AreSmall, AreSmallEnds, IsSmall, IsSmallDecl, IsSmallInterval, IsSmallRead};
 
 use crate::forms::{constant, raised};
 use pb_linear::{Form, VForm};
@@ -47,7 +47,7 @@ fn over_sizes(rest: Form) -> VForm
 }
 
 fn next(c: &Coordinate) -> VForm
-    requires { IsSmall c.now }
+    requires { unsigned_abs c.now.rest.constant ≤ 2 ^ 23 }
     ensures { coordinate_of result ≡ next c.now }
 {
     VForm {
@@ -58,8 +58,10 @@ fn next(c: &Coordinate) -> VForm
 }
 
 fn one_place(c: &Coordinate) -> Interval
-    requires { IsSmall c.now }
-    ensures { result ≡ one_place c.now }
+    requires small { IsSmall c.now }
+    requires next { unsigned_abs c.now.rest.constant ≤ 2 ^ 23 }
+    ensures found { result ≡ one_place c.now }
+    ensures small { IsSmallInterval result }
 {
     Interval {
         low: c.form,
@@ -68,7 +70,10 @@ fn one_place(c: &Coordinate) -> Interval
 }
 
 fn between(low: &Coordinate, high: &Coordinate) -> Interval
-    ensures { result ≡ between low.now high.now }
+    requires low { IsSmall low.now }
+    requires high { IsSmall high.now }
+    ensures found { result ≡ between low.now high.now }
+    ensures small { IsSmallInterval result }
 {
     Interval {
         low: low.form,
@@ -77,7 +82,9 @@ fn between(low: &Coordinate, high: &Coordinate) -> Interval
 }
 
 fn from_start(side: &Form) -> Interval
-    ensures { result ≡ from_start (numbers side.now) }
+    requires { AreSmall (numbers side.now) }
+    ensures found { result ≡ from_start (numbers side.now) }
+    ensures small { IsSmallInterval result }
 {
     Interval {
         low: over_sizes(constant(0)),
@@ -87,7 +94,9 @@ fn from_start(side: &Form) -> Interval
 
 /// An interval of the y axis; in one dimension it is one place, 0.
 fn by_dims(read: &Read, interval: Interval) -> Interval
-    ensures { result ≡ by_dims read.now interval }
+    requires { IsSmallInterval interval }
+    ensures found { result ≡ by_dims read.now interval }
+    ensures small { IsSmallInterval result }
 {
     if read.dims == 1 {
         one_place(&Coordinate {
@@ -100,8 +109,10 @@ fn by_dims(read: &Read, interval: Interval) -> Interval
 }
 
 fn ends_by(read: &Read, matrix: &Decl) -> Ends
-    requires { IsSmallRead read.now }
-    ensures { result ≡ ends_by read.now.view read.now matrix.now }
+    requires read { IsSmallRead read.now }
+    requires matrix { IsSmallDecl matrix.now }
+    ensures found { result ≡ ends_by read.now.view read.now matrix.now }
+    ensures small { AreSmallEnds result }
 {
     match read.view {
         ReadView::Cell => Ends {
@@ -128,7 +139,8 @@ fn ends_by(read: &Read, matrix: &Decl) -> Ends
 }
 
 fn nowhere() -> Interval
-    ensures { result ≡ nowhere.x }
+    ensures found { result ≡ nowhere.x }
+    ensures small { IsSmallInterval result }
 {
     Interval {
         low: over_sizes(constant(0)),
@@ -139,8 +151,10 @@ fn nowhere() -> Interval
 /// The ends of a view of one of these matrices.
 #[tactic(auto, unfolding(crate::specs::Ends::ends_of))]
 pub(crate) fn ends_of(matrices: &[Decl], read: &Read) -> Ends
-    requires { IsSmallRead read.now }
-    ensures { result ≡ ends_of matrices.now read.now }
+    requires read { IsSmallRead read.now }
+    requires matrices { All IsSmallDecl matrices.now }
+    ensures found { result ≡ ends_of matrices.now read.now }
+    ensures small { AreSmallEnds result }
 {
     match matrices.get(read.matrix as usize) {
         Some(matrix) => ends_by(read, matrix),

@@ -1,4 +1,4 @@
-ghost use Rattle.std.specs.Prelude.{◌≡◌, ◌≤◌, ◌^◌, ℤ, pos, ◌+ℤ◌, IsTrue, unsigned_abs};
+ghost use Rattle.std.specs.Prelude.{◌≡◌, ◌≤◌, ◌^◌, ℤ, pos, negsuc, ◌+ℤ◌, IsTrue, unsigned_abs};
 ghost use Rattle.pb_linear.specs.Limits.{is_number};
 ghost use Rattle.pb_linear.specs.Form.{numbers};
 ghost use Rattle.pb_linear.specs.Numbers.{difference, multiple};
@@ -45,6 +45,18 @@ pub(crate) fn difference(left: &Form, right: &Form) -> Form
     ensures { numbers result ≡ difference (numbers left.now) (numbers right.now) }
 {
     match left.sub(right) {
+        Ok(form) => form,
+        Err(_) => unreachable!(),
+    }
+}
+
+/// The negative of a form.
+#[tactic(auto, using(crate::proofs::FormLemmas::numbers_are))]
+pub(crate) fn negative(form: &Form) -> Form
+    ensures numbers { numbers result ≡ multiple (negsuc 0) (numbers form.now) }
+    ensures small { unsigned_abs result.constant ≡ unsigned_abs form.now.constant }
+{
+    match form.scale(-1) {
         Ok(form) => form,
         Err(_) => unreachable!(),
     }

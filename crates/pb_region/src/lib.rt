@@ -5,3 +5,4 @@ mod bounds;
 mod ends;
 mod forms;
 mod gap;
+mod overlap;
