@@ -24,3 +24,7 @@ more_pieces g f xs i d h =
 
 pub no_pieces : (ms : List DeclValue) (r : Read) (xs : List CoordinateValue) → length ms ≤ r.matrix → xs ≡ xs ++ map gap (view_conditions ms r)
 no_pieces ms r xs h = rw (slice_get_past ms r.matrix h, append-nil) refl
+
+-- one more item of a list that is mapped
+pub map_more : {A B : Type 0} (f : A → B) (xs : List A) (i : ℕ) (d : A) → i < length xs → map f (take (i + 1) xs) ≡ map f (take i xs) ++ f (get_or xs i d) ∷ []
+map_more f xs i d h = rw (take_more xs i d h, map-append) refl

@@ -2,3 +2,4 @@ pub mod FormLemmas
 pub mod GapLemmas
 pub mod BoundLemmas
 pub mod OverlapLemmas
+pub mod SmallLemmas

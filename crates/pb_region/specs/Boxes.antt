@@ -64,9 +64,9 @@ pub record Limits : Type 0 where
   pub upper_y : List Numbers
 
 -- the bounds that a rule for single cells has by its conditions, and any other rule by the ends of the output
-abbrev pub limits : RuleKind → List CoordinateValue → Ends → Limits
-limits kind.Cell gaps e = record { lower_x = bounds side.Lower axis.X gaps; upper_x = bounds side.Upper axis.X gaps; lower_y = bounds side.Lower axis.Y gaps; upper_y = bounds side.Upper axis.Y gaps }
-limits _ gaps e = record { lower_x = e.x.low.rest ∷ []; upper_x = e.x.high.rest ∷ []; lower_y = e.y.low.rest ∷ []; upper_y = e.y.high.rest ∷ [] }
+abbrev pub limits_of : RuleKind → List CoordinateValue → Ends → Limits
+limits_of kind.Cell gaps e = record { lower_x = bounds side.Lower axis.X gaps; upper_x = bounds side.Upper axis.X gaps; lower_y = bounds side.Lower axis.Y gaps; upper_y = bounds side.Upper axis.Y gaps }
+limits_of _ gaps e = record { lower_x = e.x.low.rest ∷ []; upper_x = e.x.high.rest ∷ []; lower_y = e.y.low.rest ∷ []; upper_y = e.y.high.rest ∷ [] }
 
 abbrev pub is_wide : RuleKind → Bool
 is_wide kind.Cell = false
@@ -81,17 +81,17 @@ pub record BoxValue : Type 0 where
   pub limits : Limits
 
 -- the conditions of a rule with their terms collected
-abbrev pub gaps : List DeclValue → ProgRule → List CoordinateValue
-gaps matrices r = map gap (conditions matrices r)
+abbrev pub gaps_of : List DeclValue → ProgRule → List CoordinateValue
+gaps_of matrices r = map gap (conditions matrices r)
 
 -- the box of an output of the rule with this number
 abbrev pub box : List ℕ → List DeclValue → ℕ → ProgRule → Read → BoxValue
 box leasts matrices number r out = record {
   rule = number;
   priority = r.priority;
-  guarded = list_any (is_guard leasts) (gaps matrices r);
+  guarded = list_any (is_guard leasts) (gaps_of matrices r);
   wide = is_wide r.kind;
-  limits = limits r.kind (gaps matrices r) (ends_of matrices out);
+  limits = limits_of r.kind (gaps_of matrices r) (ends_of matrices out);
 }
 
 -- the boxes of a rule, one for each output

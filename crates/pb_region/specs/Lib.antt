@@ -3,3 +3,4 @@ pub mod Gaps
 pub mod Ends
 pub mod Boxes
 pub mod Overlaps
+pub mod Rules

@@ -1,10 +1,13 @@
 -- Numbers so small that no sum of them passes the limit of forms.
-use Rattle.std.specs.Prelude.{ℕ, ◌^◌, ◌≤◌, IsTrue, unsigned_abs}
-use Rattle.std.specs.List.{list_all}
+use Rattle.std.specs.Prelude.{ℕ, ◌^◌, ◌≤◌, IsTrue, unsigned_abs, length}
+use Rattle.std.specs.List.{All, list_all}
 use Rattle.pb_linear.specs.Numbers.{Numbers}
+use Rattle.pb_linear.specs.Sizes.{IsRanges}
+use Rattle.pb_syntax.specs.declared.limits.TheConstants.{MOST_CONDITIONS, MOST_MATRICES, MOST_VIEWS}
 use Rattle.pb_program.specs.declared.view.Cond.{Cond}
 use Rattle.pb_program.specs.declared.view.Read.{Read}
 use Rattle.pb_program.specs.Forms.{CoordinateValue, DeclValue}
+use Rattle.pb_program.specs.Trees.{ProgRule, ProgTransform}
 use Rattle.pb_program.specs.WellFormed.{is_small}
 use Rattle.pb_region.specs.Ends.{Ends, Interval}
 
@@ -39,10 +42,6 @@ pub record IsSmallCond (c : Cond) : Type 0 where
   pub left : IsSmall c.left
   pub right : IsSmall c.right
 
--- a condition with its terms collected, whose constant is far from the limit
-pub record IsNear (g : CoordinateValue) : Type 0 where
-  pub constant : unsigned_abs g.rest.constant ≤ 2 ^ 25
-
 -- ends of what a view shows
 pub record IsSmallInterval (i : Interval) : Type 0 where
   pub low : AreSmall i.low.rest
@@ -51,3 +50,18 @@ pub record IsSmallInterval (i : Interval) : Type 0 where
 pub record AreSmallEnds (e : Ends) : Type 0 where
   pub x : IsSmallInterval e.x
   pub y : IsSmallInterval e.y
+
+-- of a transform: some sizes are in range, and its sides are small
+pub record IsSmallTransform (t : ProgTransform) : Type 0 where
+  pub ranges : IsRanges t.ranges
+  pub few : length t.matrices ≤ MOST_MATRICES
+  pub matrices : All IsSmallDecl t.matrices
+
+-- of a rule: its views and conditions are few and small
+pub record IsSmallRule (r : ProgRule) : Type 0 where
+  pub few_outs : length r.outs ≤ MOST_VIEWS
+  pub few_reads : length r.reads ≤ MOST_VIEWS
+  pub few_conds : length r.conds ≤ MOST_CONDITIONS
+  pub outs : All IsSmallRead r.outs
+  pub reads : All IsSmallRead r.reads
+  pub conds : All IsSmallCond r.conds

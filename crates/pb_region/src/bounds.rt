@@ -1,15 +1,14 @@
-ghost use Rattle.std.specs.Prelude.{◌≡◌, ◌≤◌, ◌^◌, ◌++◌, IfErr, IfOk, OnOk, map, option_map, negsuc, not, position, unsigned_abs};
-ghost use Rattle.std.specs.List.{All, list_any};
+ghost use Rattle.std.specs.Prelude.{◌≡◌, ◌<◌, ◌^◌, ◌++◌, IfErr, IfOk, OnOk, map, option_map, negsuc, not, position, unsigned_abs};
+ghost use Rattle.std.specs.List.{list_any};
 ghost use Rattle.std.specs.Option.{option_to_list};
 ghost use Rattle.pb_linear.specs.Form.{numbers};
 ghost use Rattle.pb_linear.specs.Sizes.{IsRanges, leasts_of};
 ghost use Rattle.pb_syntax.specs.declared.refusal.Refusal.TheVariants.{Memory};
 ghost use Rattle.pb_region.specs.Boxes.{coefficient, from_one, is_box, is_guard, is_unit, bound, bounds};
-ghost use Rattle.pb_region.specs.Small.{IsNear};
 
 use crate::forms::{negative, raised};
+use crate::gap::Gap;
 use pb_linear::{Form, Ranges};
-use pb_program::Coordinate;
 use pb_syntax::Refusal;
 use std::alloc::Global;
 
@@ -27,7 +26,7 @@ pub(crate) enum Side {
     Upper,
 }
 
-fn coefficient(axis: Axis, gap: &Coordinate) -> i64
+fn coefficient(axis: Axis, gap: &Gap) -> i64
     ensures { result ≡ coefficient axis gap.now }
 {
     match axis {
@@ -43,7 +42,7 @@ fn is_unit(k: i64) -> bool
 }
 
 /// Whether a condition bounds a box, or has no rule variable.
-fn is_box(gap: &Coordinate) -> bool
+fn is_box(gap: &Gap) -> bool
     ensures { result ≡ is_box gap.now }
 {
     let x = gap.form.x;
@@ -52,21 +51,21 @@ fn is_box(gap: &Coordinate) -> bool
 }
 
 /// The number of the first condition that bounds no box.
-pub(crate) fn first_no_box(gaps: &[Coordinate]) -> Option<usize>
+pub(crate) fn first_no_box(gaps: &[Gap]) -> Option<usize>
     ensures { result ≡ position (λ g. not (is_box g)) gaps.now }
 {
     gaps.iter().position(|gap| !is_box(gap))
 }
 
 /// Whether a condition has no rule variable and isn't true at all sizes in range.
-fn is_guard(ranges: &Ranges, gap: &Coordinate) -> bool
+fn is_guard(ranges: &Ranges, gap: &Gap) -> bool
     requires { IsRanges ranges.now }
     ensures { result ≡ is_guard (leasts_of ranges.now) gap.now }
 {
     gap.form.x == 0 && gap.form.y == 0 && !gap.form.rest.everywhere_le0(ranges)
 }
 
-pub(crate) fn is_guarded(ranges: &Ranges, gaps: &[Coordinate]) -> bool
+pub(crate) fn is_guarded(ranges: &Ranges, gaps: &[Gap]) -> bool
     requires { IsRanges ranges.now }
     ensures { result ≡ list_any (is_guard (leasts_of ranges.now)) gaps.now }
 {
@@ -75,15 +74,14 @@ pub(crate) fn is_guarded(ranges: &Ranges, gaps: &[Coordinate]) -> bool
 
 /// 1 minus a form.
 fn from_one(form: &Form) -> Form
-    requires { unsigned_abs form.now.constant ≤ 2 ^ 25 }
+    requires { unsigned_abs form.now.constant < 2 ^ 26 }
     ensures { numbers result ≡ from_one (numbers form.now) }
 {
     raised(&negative(form), 1)
 }
 
 /// The bound that a condition gives on an axis, if it gives one there.
-fn bound(side: Side, axis: Axis, gap: &Coordinate) -> Option<Form>
-    requires { IsNear gap.now }
+fn bound(side: Side, axis: Axis, gap: &Gap) -> Option<Form>
     ensures { option_map numbers result ≡ bound side axis gap.now }
 {
     let coefficient = coefficient(axis, gap);
@@ -110,9 +108,8 @@ pub(crate) fn bounds(
     alloc: Global,
     side: Side,
     axis: Axis,
-    gaps: &[Coordinate],
+    gaps: &[Gap],
 ) -> Result<Vec<Form>, Refusal>
-    requires { All IsNear gaps.now }
     ensures found { IfOk result (λ bs. map numbers bs.items ≡ bounds side axis gaps.now) }
     ensures refused { IfErr result (λ e. e ≡ Memory) }
 {

@@ -1,4 +1,4 @@
-ghost use Rattle.std.specs.Prelude.{◌≡◌, ◌≤◌, ◌^◌, ℤ, pos, negsuc, ◌+ℤ◌, IsTrue, unsigned_abs};
+ghost use Rattle.std.specs.Prelude.{◌≡◌, ◌≤◌, ◌^◌, ◌+◌, ℤ, pos, negsuc, ◌+ℤ◌, IsTrue, unsigned_abs};
 ghost use Rattle.pb_linear.specs.Limits.{is_number};
 ghost use Rattle.pb_linear.specs.Form.{numbers};
 ghost use Rattle.pb_linear.specs.Numbers.{difference, multiple};
@@ -24,9 +24,9 @@ pub(crate) fn constant(k: i64) -> Form
 
 /// The form with a greater constant.
 pub(crate) fn raised(form: &Form, k: i64) -> Form
-    requires more { unsigned_abs k ≤ 2 ^ 23 }
-    requires small { unsigned_abs form.now.constant ≤ 2 ^ 25 }
-    ensures { numbers result ≡ raised k (numbers form.now) }
+    requires { unsigned_abs form.now.constant + unsigned_abs k ≤ 2 ^ 26 }
+    ensures numbers { numbers result ≡ raised k (numbers form.now) }
+    ensures small { unsigned_abs result.constant ≤ unsigned_abs form.now.constant + unsigned_abs k }
 {
     Form {
         constant: form.constant + k,
@@ -42,7 +42,8 @@ pub(crate) fn raised(form: &Form, k: i64) -> Form
 pub(crate) fn difference(left: &Form, right: &Form) -> Form
     requires left { AreSmall (numbers left.now) }
     requires right { AreSmall (numbers right.now) }
-    ensures { numbers result ≡ difference (numbers left.now) (numbers right.now) }
+    ensures numbers { numbers result ≡ difference (numbers left.now) (numbers right.now) }
+    ensures small { unsigned_abs result.constant ≤ 2 ^ 25 }
 {
     match left.sub(right) {
         Ok(form) => form,

@@ -11,6 +11,26 @@ use crate::forms::{constant, difference, raised};
 use pb_linear::{Form, VForm};
 use pb_program::{Cond, Coordinate, Decl, Read, ReadView};
 use pb_syntax::{Refusal, Relation};
+use std::marker::Model;
+
+/// A condition with its terms collected, which says that this is at most 0.
+#[derive(Drop)]
+pub(crate) struct Gap {
+    pub(crate) form: VForm,
+    pub(crate) quotient: bool,
+}
+
+impl Model for Gap {
+    ghost use Rattle.std.specs.Prelude.{◌<◌, ◌^◌, unsigned_abs};
+    ghost use Rattle.pb_linear.specs.Form.{numbers};
+    ghost use Rattle.pb_program.specs.Forms.{CoordinateValue};
+
+    ghost Value = { CoordinateValue };
+
+    ghost view = { λ g. record { x = g.form.x; y = g.form.y; rest = numbers g.form.rest; quotient = g.quotient } };
+
+    ghost invariant = { λ g. unsigned_abs g.form.rest.constant < 2 ^ 26 };
+}
 
 fn over_sizes(form: &Form) -> Coordinate
     ensures { result ≡ over_sizes (numbers form.now) }
@@ -25,16 +45,16 @@ fn over_sizes(form: &Form) -> Coordinate
     }
 }
 
-/// A condition with its terms collected: `left` plus `more` minus `right`.
+/// The gap of a condition: `left` plus `more` minus `right`.
 #[tactic(auto, unfolding(crate::specs::Gaps::gap))]
-fn gap(left: &Coordinate, more: u8, right: &Coordinate) -> Coordinate
+fn gap_of(left: &Coordinate, more: u8, right: &Coordinate) -> Gap
     requires left { IsSmall left.now }
     requires more { more ≤ 1 }
     requires right { IsSmall right.now }
     ensures { result ≡ gap (at_most left.now more right.now) }
 {
     let rest = difference(&left.form.rest, &right.form.rest);
-    Coordinate {
+    Gap {
         form: VForm {
             x: left.form.x - right.form.x,
             y: left.form.y - right.form.y,
@@ -45,7 +65,7 @@ fn gap(left: &Coordinate, more: u8, right: &Coordinate) -> Coordinate
 }
 
 fn push_gap(
-    gaps: &mut Vec<Coordinate>,
+    gaps: &mut Vec<Gap>,
     left: &Coordinate,
     more: u8,
     right: &Coordinate,
@@ -56,11 +76,11 @@ fn push_gap(
     ensures found { OnOk result (gaps.new.items ≡ gaps.old.items ++ map gap (at_most left.now more right.now ∷ [])) }
     ensures refused { IfErr result (λ e. e ≡ Memory) }
 {
-    gaps.push(gap(left, more, right))?;
+    gaps.push(gap_of(left, more, right))?;
     Ok(())
 }
 
-fn cell_gaps(gaps: &mut Vec<Coordinate>, at: &Coordinate, side: &Form) -> Result<(), Refusal>
+fn cell_gaps(gaps: &mut Vec<Gap>, at: &Coordinate, side: &Form) -> Result<(), Refusal>
     requires at { IsSmall at.now }
     requires side { AreSmall (numbers side.now) }
     ensures found { OnOk result (gaps.new.items ≡ gaps.old.items ++ map gap (cell_conditions at.now (numbers side.now))) }
@@ -71,7 +91,7 @@ fn cell_gaps(gaps: &mut Vec<Coordinate>, at: &Coordinate, side: &Form) -> Result
 }
 
 fn region_gaps(
-    gaps: &mut Vec<Coordinate>,
+    gaps: &mut Vec<Gap>,
     low: &Coordinate,
     high: &Coordinate,
     side: &Form,
@@ -88,7 +108,7 @@ fn region_gaps(
 }
 
 /// The conditions of a view of a matrix.
-fn matrix_gaps(gaps: &mut Vec<Coordinate>, read: &Read, matrix: &Decl) -> Result<(), Refusal>
+fn matrix_gaps(gaps: &mut Vec<Gap>, read: &Read, matrix: &Decl) -> Result<(), Refusal>
     requires read { IsSmallRead read.now }
     requires matrix { IsSmallDecl matrix.now }
     ensures found { OnOk result (gaps.new.items ≡ gaps.old.items ++ map gap (by_view read.now.view read.now matrix.now)) }
@@ -115,7 +135,7 @@ fn matrix_gaps(gaps: &mut Vec<Coordinate>, read: &Read, matrix: &Decl) -> Result
     }
 }
 
-fn view_gaps(gaps: &mut Vec<Coordinate>, matrices: &[Decl], read: &Read) -> Result<(), Refusal>
+fn view_gaps(gaps: &mut Vec<Gap>, matrices: &[Decl], read: &Read) -> Result<(), Refusal>
     requires read { IsSmallRead read.now }
     requires matrices { All IsSmallDecl matrices.now }
     ensures found { OnOk result (gaps.new.items ≡ gaps.old.items ++ map gap (view_conditions matrices.now read.now)) }
@@ -130,7 +150,7 @@ fn view_gaps(gaps: &mut Vec<Coordinate>, matrices: &[Decl], read: &Read) -> Resu
 /// The conditions of some views, one view after the other.
 #[tactic(auto, using(crate::proofs::GapLemmas::more_pieces))]
 pub(crate) fn views_gaps(
-    gaps: &mut Vec<Coordinate>,
+    gaps: &mut Vec<Gap>,
     matrices: &[Decl],
     views: &[Read],
 ) -> Result<(), Refusal>
@@ -146,7 +166,7 @@ pub(crate) fn views_gaps(
 }
 
 /// What a written condition says.
-fn written_gaps(gaps: &mut Vec<Coordinate>, cond: &Cond) -> Result<(), Refusal>
+fn written_gaps(gaps: &mut Vec<Gap>, cond: &Cond) -> Result<(), Refusal>
     requires { IsSmallCond cond.now }
     ensures found { OnOk result (gaps.new.items ≡ gaps.old.items ++ map gap (written cond.now)) }
     ensures refused { IfErr result (λ e. e ≡ Memory) }
@@ -165,7 +185,7 @@ fn written_gaps(gaps: &mut Vec<Coordinate>, cond: &Cond) -> Result<(), Refusal>
 }
 
 #[tactic(auto, using(crate::proofs::GapLemmas::more_pieces))]
-pub(crate) fn conds_gaps(gaps: &mut Vec<Coordinate>, conds: &[Cond]) -> Result<(), Refusal>
+pub(crate) fn conds_gaps(gaps: &mut Vec<Gap>, conds: &[Cond]) -> Result<(), Refusal>
     requires { All IsSmallCond conds.now }
     ensures found { OnOk result (gaps.new.items ≡ gaps.old.items ++ map gap (flat_map written conds.now)) }
     ensures refused { IfErr result (λ e. e ≡ Memory) }

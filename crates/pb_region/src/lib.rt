@@ -2,6 +2,7 @@
 #![tactic(auto)]
 
 mod bounds;
+mod boxes;
 mod ends;
 mod forms;
 mod gap;

@@ -5,8 +5,8 @@ use Rattle.pb_linear.specs.Numbers.{difference}
 use Rattle.pb_program.specs.Forms.{CoordinateValue}
 use Rattle.pb_region.specs.Gaps.{raised}
 use Rattle.pb_region.proofs.GapLemmas.{same_gap}
-use Rattle.pb_region.proofs.gap.gap.Goals as goal
-use Rattle.pb_region.proofs.gap.gap.Goals.{Joined-left, then-left, else-left}
+use Rattle.pb_region.proofs.gap.gap_of.Goals as goal
+use Rattle.pb_region.proofs.gap.gap_of.Goals.{Joined-left, then-left, else-left}
 
 quotient : (c : Joined-left) → c.if-left.result ≡ (c.args.left.now.quotient || c.args.right.now.quotient)
 quotient c =
@@ -19,4 +19,4 @@ returns c =
     let l = c.left.view_is in
     let r = c.right.view_is in
     let more : to_z w64 (of_z w64 c.from.result) ≡ pos c.args.more = omega (arith, ints) in
-    same_gap _ _ _ _ _ (omega (arith, ints, ap (λ (v : CoordinateValue). v.x) l, ap (λ (v : CoordinateValue). v.x) r)) (omega (arith, ints, ap (λ (v : CoordinateValue). v.y) l, ap (λ (v : CoordinateValue). v.y) r)) (rw more at c.raised.ensures ∙ ap (raised (pos c.args.more)) (c.difference-rest.ensures ∙ ap (λ (v : CoordinateValue). difference v.rest (numbers c.right.inside.form.rest)) l ∙ ap (λ (v : CoordinateValue). difference c.args.left.now.rest v.rest) r)) (quotient c)
+    same_gap _ _ _ _ _ (omega (arith, ints, ap (λ (v : CoordinateValue). v.x) l, ap (λ (v : CoordinateValue). v.x) r)) (omega (arith, ints, ap (λ (v : CoordinateValue). v.y) l, ap (λ (v : CoordinateValue). v.y) r)) (rw more at c.raised.ensures.numbers ∙ ap (raised (pos c.args.more)) (c.difference-rest.ensures.numbers ∙ ap (λ (v : CoordinateValue). difference v.rest (numbers c.right.inside.form.rest)) l ∙ ap (λ (v : CoordinateValue). difference c.args.left.now.rest v.rest) r)) (quotient c)
