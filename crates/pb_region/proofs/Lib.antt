@@ -3,3 +3,4 @@ pub mod GapLemmas
 pub mod BoundLemmas
 pub mod OverlapLemmas
 pub mod SmallLemmas
+pub mod RuleLemmas

@@ -7,3 +7,7 @@ mod ends;
 mod forms;
 mod gap;
 mod overlap;
+mod place;
+mod rule;
+
+pub use rule::conditions;

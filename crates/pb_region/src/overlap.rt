@@ -1,4 +1,4 @@
-ghost use Rattle.std.specs.Prelude.{◌≡◌, ℕ, ◌<◌, ◌≤◌, IsTrue, IsFalse, MatchOption, length, false};
+ghost use Rattle.std.specs.Prelude.{◌≡◌, ℕ, ◌<◌, ◌≤◌, IsTrue, IsFalse, IfSome, MatchOption, length, false};
 ghost use Rattle.std.specs.List.{All};
 ghost use Rattle.pb_linear.specs.Form.{numbers};
 ghost use Rattle.pb_linear.specs.Sizes.{IsRanges, leasts_of};
@@ -82,7 +82,8 @@ fn overlap_after(
     requires matrices { All IsSmallDecl matrices.now }
     requires outs { All IsSmallRead outs.now }
     requires there { first < length outs.now }
-    ensures { let at = overlap_at (leasts_of ranges.now) matrices.now outs.now first in MatchOption result ((j : ℕ) → at j ≡ false) (IsFirst at) }
+    ensures found { let at = overlap_at (leasts_of ranges.now) matrices.now outs.now first in MatchOption result ((j : ℕ) → at j ≡ false) (IsFirst at) }
+    ensures there { IfSome result (λ j. j < length outs.now) }
 {
     for second in first + 1..outs.len() {
         if overlap_at(ranges, matrices, outs, first, second) {
@@ -102,7 +103,8 @@ pub(crate) fn first_overlap(
     requires ranges { IsRanges ranges.now }
     requires matrices { All IsSmallDecl matrices.now }
     requires outs { All IsSmallRead outs.now }
-    ensures { let leasts = leasts_of ranges.now in MatchOption result (HasNoOverlap leasts matrices.now outs.now) (λ p. (p.1 < length outs.now) × IsFirstOverlap leasts matrices.now outs.now p.0 p.1) }
+    ensures found { let leasts = leasts_of ranges.now in MatchOption result (HasNoOverlap leasts matrices.now outs.now) (λ p. IsFirstOverlap leasts matrices.now outs.now p.0 p.1) }
+    ensures there { IfSome result (λ p. (p.0 < length outs.now) × (p.1 < length outs.now)) }
 {
     for first in 0..outs.len() {
         if let Some(second) = overlap_after(ranges, matrices, outs, first) {
