@@ -4,3 +4,4 @@ pub mod BoundLemmas
 pub mod OverlapLemmas
 pub mod SmallLemmas
 pub mod RuleLemmas
+pub mod DimLemmas

@@ -3,6 +3,7 @@ use Rattle.std.proofs.Common.{◌≡◌, refl, ◌<◌, ◌≤◌, ℕ, List, ma
 use Rattle.std.proofs.lemmas.Option.{slice_get-get_or, slice_get-map, slice_get_past}
 use Rattle.std.proofs.lemmas.List.{length-map}
 use Rattle.pb_program.specs.Trees.{ProgRule, ProgTransform}
+use Rattle.pb_region.specs.Dims.{AtTransform}
 use Rattle.pb_region.specs.Rules.{AtRule}
 
 pub held_at : {A B : Type 0} (f : A → B) (xs : List A) (k : ℕ) (x : A) → k < length xs → x ≡ get_or xs k x → slice_get (map f xs) k ≡ Some (f x)
@@ -22,3 +23,6 @@ module _ (ts : List ProgTransform) (t r : ℕ) (P : ProgTransform → ProgRule �
 
   pub no_rule : (x : ProgTransform) → slice_get ts t ≡ Some x → slice_get x.rules r ≡ None → AtRule ts t r P
   no_rule x at none = rw (at, none) tt
+
+pub at_transform : (ts : List ProgTransform) (t : ℕ) (P : ProgTransform → Type 0) (x : ProgTransform) → slice_get ts t ≡ Some x → P x → AtTransform ts t P
+at_transform ts t P x at h = rw at h

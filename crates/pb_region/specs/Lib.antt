@@ -4,3 +4,4 @@ pub mod Ends
 pub mod Boxes
 pub mod Overlaps
 pub mod Rules
+pub mod Dims

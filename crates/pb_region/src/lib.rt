@@ -3,6 +3,7 @@
 
 mod bounds;
 mod boxes;
+mod dims;
 mod ends;
 mod forms;
 mod gap;
@@ -10,4 +11,5 @@ mod overlap;
 mod place;
 mod rule;
 
+pub use dims::check_dims;
 pub use rule::conditions;
