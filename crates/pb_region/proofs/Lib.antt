@@ -5,3 +5,4 @@ pub mod OverlapLemmas
 pub mod SmallLemmas
 pub mod RuleLemmas
 pub mod DimLemmas
+pub mod ReadLemmas

@@ -5,3 +5,4 @@ pub mod Boxes
 pub mod Overlaps
 pub mod Rules
 pub mod Dims
+pub mod Reads

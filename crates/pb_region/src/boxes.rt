@@ -84,7 +84,7 @@ fn limits_of(alloc: Global, kind: RuleKind, gaps: &[Gap], ends: &Ends) -> Result
     }
 }
 
-fn is_wide(kind: RuleKind) -> bool
+pub(crate) fn is_wide(kind: RuleKind) -> bool
     ensures { result ≡ is_wide kind }
 {
     !matches!(kind, RuleKind::Cell)

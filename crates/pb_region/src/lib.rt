@@ -9,7 +9,9 @@ mod forms;
 mod gap;
 mod overlap;
 mod place;
+mod reads;
 mod rule;
 
 pub use dims::check_dims;
+pub use reads::read_boxes;
 pub use rule::conditions;
