@@ -6,3 +6,4 @@ pub mod SmallLemmas
 pub mod RuleLemmas
 pub mod DimLemmas
 pub mod ReadLemmas
+pub mod InsideLemmas

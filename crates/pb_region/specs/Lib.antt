@@ -6,3 +6,4 @@ pub mod Overlaps
 pub mod Rules
 pub mod Dims
 pub mod Reads
+pub mod Inside
