@@ -7,3 +7,8 @@ pub mod RuleLemmas
 pub mod DimLemmas
 pub mod ReadLemmas
 pub mod InsideLemmas
+pub mod GuardLemmas
+pub mod AreaLemmas
+pub mod FreeLemmas
+pub mod AnswerLemmas
+pub mod BoxLemmas

@@ -32,3 +32,7 @@ IsRefused number_t number_r t r (NotABox transform rule condition) = (transform 
 IsRefused number_t number_r t r (OverlapOutputs transform rule first second) = (transform ≡ number_t) × (rule ≡ number_r) × (first_no_box t r ≡ None)
     × IsFirstOverlap (leasts_of t.ranges) t.matrices r.outs first second
 IsRefused number_t number_r t r _ = ⊥
+
+pub record HasRefusal (number_t number_r : ℕ) (t : ProgTransform) (r : ProgRule) : Type 0 where
+  pub why : Refusal
+  pub told : IsRefused number_t number_r t r why
