@@ -12,3 +12,4 @@ pub mod AreaLemmas
 pub mod FreeLemmas
 pub mod AnswerLemmas
 pub mod BoxLemmas
+pub mod NegativeLemmas

@@ -1,6 +1,7 @@
 ghost use Rattle.std.specs.Prelude.{◌≡◌, ◌↔◌, ◌⊎◌, ℕ, ℤ, pos, ◌≤ℤ◌, false, List, Some, slice_get};
 ghost use Rattle.std.specs.List.{AllByRecursion};
-ghost use Rattle.pb_linear.specs.Sizes.{InRange, leasts_of};
+ghost use Rattle.pb_linear.specs.Sizes.{InRange, leasts_of, sizes_of};
+ghost use Rattle.pb_linear.specs.declared.sizes.Sizes.{Sizes};
 ghost use Rattle.pb_syntax.specs.declared.refusal.Refusal.{Refusal};
 ghost use Rattle.pb_program.specs.declared.rule.RuleKind.TheVariants.{Cell};
 ghost use Rattle.pb_program.specs.declared.view.Read.{Read};
@@ -10,6 +11,8 @@ ghost use Rattle.pb_program.specs.Forms.{coordinate_at, DeclValue};
 ghost use Rattle.pb_program.specs.Trees.{ProgRule, ProgTransform};
 ghost use Rattle.pb_program.specs.WellFormed.{IsFree, IsRule};
 ghost use Rattle.pb_region.specs.Boxes.{box};
+ghost use Rattle.pb_region.specs.Dims.{AreSides, IsFirstNegative};
+ghost use Rattle.pb_region.specs.Dims as Dims;
 ghost use Rattle.pb_region.specs.Ends.{area_at, ends_of};
 ghost use Rattle.pb_region.specs.Gaps.{gap};
 ghost use Rattle.pb_region.specs.Inside.{bounding, guards, IsInside};
@@ -58,4 +61,12 @@ pub fn a_rule_has_one_answer()
     ensures some { (number_t number_r : ℕ) (t : ProgTransform) (r : ProgRule) → IsAccepted t r ⊎ HasRefusal number_t number_r t r }
     ensures one_refusal { (number_t number_r : ℕ) (t : ProgTransform) (r : ProgRule) (e f : Refusal) → IsRefused number_t number_r t r e → IsRefused number_t number_r t r f → e ≡ f }
     ensures not_both { (number_t number_r : ℕ) (t : ProgTransform) (r : ProgRule) (e : Refusal) → IsAccepted t r → IsRefused number_t number_r t r e → ⊥ }
+{}
+
+/// A law: a transform whose sides are never negative isn't refused, and two first negative sides are one, with the same
+/// sizes.
+pub fn a_negative_side_is_told_once()
+    ensures not_both { (number : ℕ) (t : ProgTransform) (e : Refusal) → AreSides t → Dims.IsRefused number t e → ⊥ }
+    ensures matrix { (leasts : List ℕ) (ms : List DeclValue) (i a j b : ℕ) (s u : Sizes) → IsFirstNegative leasts ms i a s → IsFirstNegative leasts ms j b u → i ≡ j }
+    ensures side { (leasts : List ℕ) (ms : List DeclValue) (i a j b : ℕ) (s u : Sizes) → IsFirstNegative leasts ms i a s → IsFirstNegative leasts ms j b u → (a ≡ b) × (sizes_of s ≡ sizes_of u) }
 {}
