@@ -1,8 +1,8 @@
 -- The ends of a view are those of the area that it shows.
-use Rattle.std.proofs.Common.{◌≡◌, ◌∙◌, ap, sym, refl, subst, ◌≤ℤ◌, ◌<ℤ◌, ◌↔◌, ℕ, List, [], ◌∷◌, Bool, true, false, Option, Some, None, slice_get, ℤ, pos, ◌+ℤ◌, ◌*ℤ◌, arith}
+use Rattle.std.proofs.Common.{◌≡◌, ◌∙◌, ap, sym, refl, subst, ◌↔◌, ℕ, List, [], ◌∷◌, Bool, true, false, Some, slice_get, ℤ, pos, ◌+ℤ◌, ◌*ℤ◌, arith}
 use Rattle.std.specs.Prelude.{◌==◌, if◌then◌else◌}
 use Rattle.std.proofs.lemmas.Int.{ints}
-use Rattle.std.proofs.Math.IntN.{*ℤ-zero, zero-*ℤ}
+use Rattle.std.proofs.Math.IntN.{zero-*ℤ}
 use Rattle.pb_linear.specs.Numbers.{Numbers, exact_value}
 use Rattle.pb_linear.proofs.Values.{exact_value-multiple}
 use Rattle.pb_program.specs.declared.rule.RuleKind.{RuleKind}
@@ -14,8 +14,7 @@ use Rattle.pb_program.specs.Areas.{Area, IsIn, Span, area_by, area_of}
 use Rattle.pb_program.specs.Areas as area
 use Rattle.pb_program.specs.Forms.{CoordinateValue, DeclValue, constant_numbers, coordinate_at, nothing, over_sizes}
 use Rattle.pb_region.specs.Boxes.{Limits, limits_of}
-use Rattle.pb_region.specs.Ends.{Ends, Interval, area_at, between, by_dims, ends_by, ends_of, from_start, next, one_place}
-use Rattle.pb_region.specs.Gaps.{raised}
+use Rattle.pb_region.specs.Ends.{Ends, Interval, area_at, between, ends_by, ends_of, from_start, next, one_place}
 use Rattle.pb_region.specs.Inside.{IsInside}
 use Rattle.pb_region.proofs.FormLemmas.{raised_value}
 use Rattle.pb_region.proofs.OverlapLemmas.{at_start}

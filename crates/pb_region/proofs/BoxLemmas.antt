@@ -1,5 +1,5 @@
 -- The box of a rule for single cells, and where the rule applies.
-use Rattle.std.proofs.Common.{◌≡◌, sym, subst, ◌↔◌, ℕ, List, map, ℤ}
+use Rattle.std.proofs.Common.{◌≡◌, sym, subst, ◌↔◌, ℕ, List, ℤ}
 use Rattle.std.specs.List.{AllByRecursion}
 use Rattle.pb_linear.specs.Sizes.{leasts_of}
 use Rattle.pb_program.specs.declared.rule.RuleKind.{RuleKind}
@@ -7,8 +7,8 @@ use Rattle.pb_program.specs.declared.rule.RuleKind.TheVariants as kind
 use Rattle.pb_program.specs.declared.view.Read.{Read}
 use Rattle.pb_program.specs.Conditions.{Applies, Holds, conditions}
 use Rattle.pb_program.specs.Trees.{ProgRule, ProgTransform}
-use Rattle.pb_region.specs.Boxes.{Limits, box, gaps_of, limits_of}
-use Rattle.pb_region.specs.Ends.{Ends, ends_of}
+use Rattle.pb_region.specs.Boxes.{box, gaps_of, limits_of}
+use Rattle.pb_region.specs.Ends.{ends_of}
 use Rattle.pb_region.specs.Inside.{IsInside, bounding, guards, is_guarding}
 use Rattle.pb_region.specs.Rules.{IsAccepted}
 use Rattle.pb_region.proofs.InsideLemmas.{all_boxes, all_split, inside_is}

@@ -1,5 +1,5 @@
 -- Where the outputs of a rule have no rule variables, none of its conditions has one.
-use Rattle.std.proofs.Common.{◌≡◌, ◌∙◌, ap, sym, refl, subst, ℕ, ◌≤◌, List, [], ◌∷◌, ◌++◌, length, Bool, true, false, ◌&&◌, Option, Some, None, slice_get, ℤ, pos, ◌-ℤ◌, arith}
+use Rattle.std.proofs.Common.{◌≡◌, ap, refl, ℕ, List, [], ◌∷◌, ◌++◌, Bool, true, false, Option, Some, None, slice_get, ℤ, pos, ◌-ℤ◌, arith}
 use Rattle.std.specs.Prelude.{filter, ◌==◌, if◌then◌else◌}
 use Rattle.std.specs.List.{AllByRecursion, flat_map}
 use Rattle.std.proofs.lemmas.Int.{ints}
@@ -16,7 +16,7 @@ use Rattle.pb_program.specs.Conditions.{Condition, at_most, by_relation, by_view
 use Rattle.pb_program.specs.Forms.{CoordinateValue, DeclValue, nothing, over_sizes}
 use Rattle.pb_program.specs.Trees.{ProgRule}
 use Rattle.pb_program.specs.WellFormed.{IsCondition, IsCoordinate, IsFree, IsRule, IsView, variables}
-use Rattle.pb_region.specs.Boxes.{is_free, is_zero}
+use Rattle.pb_region.specs.Boxes.{is_zero}
 use Rattle.pb_region.specs.Gaps.{gap}
 use Rattle.pb_region.specs.Inside.{guards, is_guarding}
 

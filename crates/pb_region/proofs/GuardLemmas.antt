@@ -1,13 +1,13 @@
 -- Conditions without a rule variable: guards, and all conditions of a rule whose outputs have none.
-use Rattle.std.proofs.Common.{◌≡◌, ◌∙◌, ap, sym, refl, ◌↔◌, ℕ, ◌≤◌, List, [], ◌∷◌, ◌++◌, map, length, Bool, true, false, not, ◌&&◌, ◌||◌, Option, Some, None, slice_get, ℤ, pos, negsuc, ◌+ℤ◌, ◌-ℤ◌, ◌*ℤ◌, ◌≤ℤ◌, arith}
-use Rattle.std.specs.Prelude.{filter, ◌==◌, if◌then◌else◌}
-use Rattle.std.specs.List.{AllByRecursion, flat_map, list_any}
-use Rattle.std.proofs.Math.IntN.{*ℤ-zero, zero-*ℤ}
+use Rattle.std.proofs.Common.{◌≡◌, ap, sym, refl, ◌↔◌, ℕ, List, [], ◌∷◌, map, Bool, true, false, not, ◌||◌, ℤ, pos, ◌*ℤ◌, ◌≤ℤ◌, arith}
+use Rattle.std.specs.Prelude.{filter}
+use Rattle.std.specs.List.{AllByRecursion, list_any}
+use Rattle.std.proofs.Math.IntN.{zero-*ℤ}
 use Rattle.std.proofs.lemmas.Int.{ints}
 use Rattle.std.proofs.lemmas.Bool.{and_parts}
 use Rattle.std.proofs.lemmas.Bool.Decides.{Decides-int_eq}
 use Rattle.pb_linear.specs.Numbers.{exact_value}
-use Rattle.pb_linear.specs.Sizes.{InRange, le_everywhere}
+use Rattle.pb_linear.specs.Sizes.{InRange}
 use Rattle.pb_linear.proofs.SizesLemmas.{le_everywhere-at, le_everywhere-from}
 use Rattle.pb_program.specs.Conditions.{Condition, Holds}
 use Rattle.pb_program.specs.Forms.{CoordinateValue, coordinate_at}
@@ -70,7 +70,7 @@ module _ (leasts : List ℕ) where
       let rest = guards_hold cs in
       let kept = λ (sizes : List ℕ) (x y : ℤ). all_filter (Holds sizes x y) is_guarding (is_guarding c) c cs refl in (
         λ h sizes r x y. (kept sizes x y).1 (λ free. h.0 free sizes r x y, rest.0 h.1 sizes r x y),
-        λ h. (λ free sizes r x y. ((kept sizes x y).0 (h sizes r x y)).0 free, rest.1 (λ sizes r x y. ((kept sizes x y).0 (h sizes r x y)).1))
+        λ h. (λ free sizes r x y. ((kept sizes x y).0 (h sizes r x y)).0 free, rest.1 (λ sizes r x y. ((kept sizes x y).0 (h sizes r x y)).1)),
       )
 
   pub unguarded_is : (cs : List Condition) → (list_any (is_guard leasts) (map gap cs) ≡ false) ↔ ((sizes : List ℕ) → InRange leasts sizes → (x y : ℤ) → AllByRecursion (Holds sizes x y) (filter is_guarding cs))

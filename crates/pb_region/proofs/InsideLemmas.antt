@@ -1,9 +1,7 @@
 -- The bounds of conditions hold at a place exactly where the conditions with a rule variable do.
-use Rattle.std.proofs.Common.{◌≡◌, ◌∙◌, ap, sym, refl, subst, ◌⊎◌, inl, inr, ◌↔◌, ℕ, ◌<◌, ◌≤◌, zero, suc, length, get_or, List, [], ◌∷◌, map, Bool, true, false, not, ◌&&◌, ◌||◌, Option, Some, None, ℤ, pos, negsuc, ◌+ℤ◌, ◌-ℤ◌, ◌*ℤ◌, ◌≤ℤ◌, ◌<ℤ◌, unsigned_abs, arith}
+use Rattle.std.proofs.Common.{◌≡◌, ap, sym, refl, ◌⊎◌, inl, inr, ◌↔◌, ℕ, ◌<◌, ◌≤◌, zero, suc, length, get_or, List, [], ◌∷◌, map, Bool, true, false, not, ◌&&◌, ◌||◌, Option, Some, None, ℤ, pos, negsuc, ◌+ℤ◌, ◌-ℤ◌, ◌*ℤ◌, ◌≤ℤ◌, ◌<ℤ◌, arith}
 use Rattle.std.specs.Prelude.{filter, int_le, IfSome, nat_lt, position}
 use Rattle.std.specs.List.{AllByRecursion, cons_option, position_or_len}
-use Rattle.std.specs.Ordering.{int_eq}
-use Rattle.std.proofs.Math.IntN.{*ℤ-zero, zero-*ℤ}
 use Rattle.std.proofs.lemmas.Int.{ints}
 use Rattle.std.proofs.lemmas.Bool.{and_parts, ltb-false, or_cases}
 use Rattle.std.proofs.lemmas.List.Sums.{fails_before_first}
@@ -13,12 +11,10 @@ use Rattle.pb_linear.proofs.Integers.{add-mul}
 use Rattle.pb_linear.proofs.Values.{exact_value-multiple}
 use Rattle.pb_program.specs.Conditions.{Condition, Holds}
 use Rattle.pb_program.specs.Forms.{CoordinateValue, coordinate_at}
-use Rattle.pb_region.specs.declared.bounds.Axis.{Axis}
 use Rattle.pb_region.specs.declared.bounds.Axis.TheVariants as axis
-use Rattle.pb_region.specs.declared.bounds.Side.{Side}
 use Rattle.pb_region.specs.declared.bounds.Side.TheVariants as side
 use Rattle.pb_region.specs.Boxes.{Limits, bound, bounds, from_one, is_box, is_free, is_unit, is_zero}
-use Rattle.pb_region.specs.Gaps.{gap, raised}
+use Rattle.pb_region.specs.Gaps.{gap}
 use Rattle.pb_region.specs.Inside.{IsInside, is_guarding}
 use Rattle.pb_region.proofs.FormLemmas.{difference_value, raised_value}
 
@@ -147,14 +143,14 @@ module _ (sizes : List ℕ) (x y : ℤ) where
       let high = all_cons (λ n. y <ℤ value n) (bound side.Upper axis.Y g) (bounds side.Upper axis.Y gs) in (
         λ h. (
           record { left = (left.0 h.left).0; right = (right.0 h.right).0; low = (low.0 h.low).0; high = (high.0 h.high).0 },
-          record { left = (left.0 h.left).1; right = (right.0 h.right).1; low = (low.0 h.low).1; high = (high.0 h.high).1 }
+          record { left = (left.0 h.left).1; right = (right.0 h.right).1; low = (low.0 h.low).1; high = (high.0 h.high).1 },
         ),
         λ h. record {
           left = left.1 (h.0.left, h.1.left);
           right = right.1 (h.0.right, h.1.right);
           low = low.1 (h.0.low, h.1.low);
           high = high.1 (h.0.high, h.1.high);
-        }
+        },
       )
 
   pub inside_is : (cs : List Condition) → AllByRecursion (λ c. is_box (gap c) ≡ true) cs →
@@ -168,7 +164,7 @@ module _ (sizes : List ℕ) (x y : ℤ) where
       let more = inside_cons g (map gap cs) in
       let kept = all_filter (Holds sizes x y) (λ d. not (is_guarding d)) (not (is_guarding c)) c cs refl in (
         λ h. kept.1 (λ t. holds.1 (one.0 (more.0 h).0 t), rest.0 (more.0 h).1),
-        λ h. more.1 (one.1 (λ t. holds.0 ((kept.0 h).0 t)), rest.1 (kept.0 h).1)
+        λ h. more.1 (one.1 (λ t. holds.0 ((kept.0 h).0 t)), rest.1 (kept.0 h).1),
       )
 
 either : {A : Type 0} (b : Bool) (P : A → Type 0) (x : A) → (not b ≡ true → P x) → (b ≡ true → P x) → P x
@@ -183,7 +179,7 @@ all_split P p (x ∷ xs) =
     let others = all_filter P (λ a. not (p a)) (not (p x)) x xs refl in
     let those = all_filter P p (p x) x xs refl in (
       λ h. (others.1 (λ t. h.0, (rest.0 h.1).0), those.1 (λ t. h.0, (rest.0 h.1).1)),
-      λ h. (either (p x) P x (others.0 h.0).0 (those.0 h.1).0, rest.1 ((others.0 h.0).1, (those.0 h.1).1))
+      λ h. (either (p x) P x (others.0 h.0).0 (those.0 h.1).0, rest.1 ((others.0 h.0).1, (those.0 h.1).1)),
     )
 
 -- where no element passes a test

@@ -1,5 +1,5 @@
 -- A transform has no negative side, or one first side with one list of sizes.
-use Rattle.std.proofs.Common.{◌≡◌, ◌∙◌, ap, sym, refl, subst, inl, inr, ℕ, ◌<◌, ◌≤◌, List, length, take, get_or, slice_get, Option, Some, None, ℤ, pos, negsuc, ◌*ℤ◌, ◌<ℤ◌, ◌≤ℤ◌, arith}
+use Rattle.std.proofs.Common.{◌≡◌, ◌∙◌, sym, subst, inl, inr, ℕ, ◌<◌, ◌≤◌, List, length, take, slice_get, Some, ℤ, negsuc, ◌*ℤ◌, arith}
 use Rattle.std.specs.List.{All}
 use Rattle.std.proofs.lemmas.Bool.{cases_lt}
 use Rattle.std.proofs.lemmas.Int.{ints}
@@ -7,7 +7,7 @@ use Rattle.std.proofs.lemmas.List.{ext_get_or, get_or-take, length-take-le}
 use Rattle.std.proofs.lemmas.Option.{get_or_from_slice_get, slice_get_within}
 use Rattle.pb_linear.specs.Most.{Most}
 use Rattle.pb_linear.specs.Numbers.{Numbers, exact_value}
-use Rattle.pb_linear.specs.Sizes.{InRange, leasts_of, sizes_of}
+use Rattle.pb_linear.specs.Sizes.{leasts_of, sizes_of}
 use Rattle.pb_linear.specs.declared.sizes.Sizes.{Sizes}
 use Rattle.pb_linear.proofs.SizesLemmas.{InRange-length}
 use Rattle.pb_syntax.specs.declared.refusal.Refusal.{Refusal}

@@ -1,5 +1,5 @@
 -- Ends that are compared by their difference, and pairs of outputs.
-use Rattle.std.proofs.Common.{◌≡◌, ◌∙◌, ap, refl, ℕ, ◌<◌, ◌≤◌, nat_lt, List, length, get_or, slice_get, Bool, true, false, ◌&&◌, Option, Some, None, ℤ, pos, ◌+ℤ◌, ◌-ℤ◌, ◌*ℤ◌, arith}
+use Rattle.std.proofs.Common.{◌≡◌, ap, refl, ℕ, ◌<◌, ◌≤◌, nat_lt, List, length, get_or, slice_get, false, Option, Some, None, pos, arith}
 use Rattle.std.proofs.Math.IntN.{*ℤ-zero}
 use Rattle.std.proofs.lemmas.Int.{ints}
 use Rattle.std.proofs.lemmas.Bool.{le-ltb, lt-ltb}
@@ -12,7 +12,7 @@ use Rattle.pb_linear.specs.declared.form.Form.{Form}
 use Rattle.pb_linear.proofs.SizesLemmas.{le_everywhere-difference}
 use Rattle.pb_program.specs.Forms.{CoordinateValue, DeclValue, coordinate_at}
 use Rattle.pb_program.specs.declared.view.Read.{Read}
-use Rattle.pb_region.specs.Overlaps.{IsFirstOverlap, both_overlap, is_before, overlap, overlap_at}
+use Rattle.pb_region.specs.Overlaps.{both_overlap, is_before, overlap, overlap_at}
 use Rattle.pb_region.proofs.FormLemmas.{difference_value}
 
 -- without rule variables a coordinate is its form over the sizes

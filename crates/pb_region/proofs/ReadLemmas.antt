@@ -1,7 +1,7 @@
 -- The reads of matrices that aren't given, one read after the other.
-use Rattle.std.proofs.Common.{◌≡◌, ◌+◌, ◌<◌, ◌≤◌, ap, refl, sym, Bool, true, false, ℕ, List, [], ◌∷◌, ◌++◌, map, take, length, get_or}
+use Rattle.std.proofs.Common.{◌≡◌, ◌+◌, ◌<◌, ap, refl, Bool, true, false, ℕ, List, [], ◌∷◌, ◌++◌, map, take, length, get_or}
 use Rattle.std.specs.Prelude.{filter, if◌then◌else◌}
-use Rattle.std.proofs.lemmas.List.{map-append, take_all}
+use Rattle.std.proofs.lemmas.List.{map-append}
 use Rattle.std.proofs.lemmas.List.Elements.{filter_more}
 
 module _ {X Y : Type 0} (f : X → Y) (p : X → Bool) where

@@ -1,5 +1,5 @@
 -- Which outputs of a rule may overlap.
-use Rattle.std.specs.Prelude.{◌≡◌, ℕ, ◌<◌, ◌≤◌, ◌==◌, nat_lt, ℤ, pos, Bool, true, false, IsTrue, IsFalse, ◌&&◌, ◌||◌, not, List, ◌⊎◌, Option, Some, None, slice_get}
+use Rattle.std.specs.Prelude.{◌≡◌, ℕ, ◌<◌, ◌≤◌, ◌==◌, nat_lt, pos, Bool, true, false, IsTrue, IsFalse, ◌&&◌, ◌||◌, not, List, ◌⊎◌, Option, Some, slice_get}
 use Rattle.pb_linear.specs.Sizes.{le_everywhere}
 use Rattle.pb_program.specs.declared.view.Read.{Read}
 use Rattle.pb_program.specs.Forms.{CoordinateValue, DeclValue, coordinate_at}

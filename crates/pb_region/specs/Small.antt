@@ -1,5 +1,5 @@
 -- Numbers so small that no sum of them passes the limit of forms.
-use Rattle.std.specs.Prelude.{ℕ, ◌^◌, ◌≤◌, IsTrue, unsigned_abs, length}
+use Rattle.std.specs.Prelude.{◌^◌, ◌≤◌, IsTrue, unsigned_abs, length}
 use Rattle.std.specs.List.{All, list_all}
 use Rattle.pb_linear.specs.Numbers.{Numbers}
 use Rattle.pb_linear.specs.Sizes.{IsRanges}

@@ -100,11 +100,11 @@ fn rule_box(
     ends: &Ends,
 ) -> Result<RuleBox, Refusal>
     ensures found { IfOk result (λ b. box_of b ≡ record {
-        rule = number;
-        priority = rule.now.priority;
-        guarded = guarded;
-        wide = is_wide rule.now.kind;
-        limits = limits_of rule.now.kind gaps.now ends.now;
+      rule = number;
+      priority = rule.now.priority;
+      guarded = guarded;
+      wide = is_wide rule.now.kind;
+      limits = limits_of rule.now.kind gaps.now ends.now;
     }) }
     ensures refused { IfErr result (λ e. e ≡ Memory) }
 {

@@ -72,12 +72,7 @@ fn overlap_at(
 
 /// The first output after this one that overlaps with it.
 #[tactic(auto, using(crate::proofs::OverlapLemmas::not_in_order, crate::proofs::OverlapLemmas::not_there))]
-fn overlap_after(
-    ranges: &Ranges,
-    matrices: &[Decl],
-    outs: &[Read],
-    first: usize,
-) -> Option<usize>
+fn overlap_after(ranges: &Ranges, matrices: &[Decl], outs: &[Read], first: usize) -> Option<usize>
     requires ranges { IsRanges ranges.now }
     requires matrices { All IsSmallDecl matrices.now }
     requires outs { All IsSmallRead outs.now }

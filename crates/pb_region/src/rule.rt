@@ -50,7 +50,14 @@ fn rule_boxes(
     let gaps = gaps_of(alloc, &transform.matrices, rule)?;
     match refused(transform, t, rule, r, &gaps) {
         Some(refusal) => Err(refusal),
-        None => boxes(alloc, &transform.ranges, &transform.matrices, r, rule, &gaps),
+        None => boxes(
+            alloc,
+            &transform.ranges,
+            &transform.matrices,
+            r,
+            rule,
+            &gaps,
+        ),
     }
 }
 
