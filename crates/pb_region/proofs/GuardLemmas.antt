@@ -5,7 +5,6 @@ use Rattle.std.specs.List.{AllByRecursion, list_any}
 use Rattle.std.proofs.Math.IntN.{zero-*ℤ}
 use Rattle.std.proofs.lemmas.Int.{ints}
 use Rattle.std.proofs.lemmas.Bool.{and_parts}
-use Rattle.std.proofs.lemmas.Bool.Decides.{Decides-int_eq}
 use Rattle.pb_linear.specs.Numbers.{exact_value}
 use Rattle.pb_linear.specs.Sizes.{InRange}
 use Rattle.pb_linear.proofs.SizesLemmas.{le_everywhere-at, le_everywhere-from}
@@ -14,10 +13,7 @@ use Rattle.pb_program.specs.Forms.{CoordinateValue, coordinate_at}
 use Rattle.pb_region.specs.Boxes.{is_free, is_guard, is_zero}
 use Rattle.pb_region.specs.Gaps.{gap}
 use Rattle.pb_region.specs.Inside.{is_guarding}
-use Rattle.pb_region.proofs.InsideLemmas.{all_filter, gap_holds}
-
-zero_is : (k : ℤ) → is_zero k ≡ true → k ≡ pos 0
-zero_is k h = (Decides-int_eq k (pos 0)).0 h
+use Rattle.pb_region.proofs.InsideLemmas.{all_filter, gap_holds, zero_is}
 
 -- without a rule variable the value is that of the form over the sizes
 free_value : (g : CoordinateValue) → is_free g ≡ true → (sizes : List ℕ) (x y : ℤ) → coordinate_at g sizes x y ≡ exact_value g.rest sizes

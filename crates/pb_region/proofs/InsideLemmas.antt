@@ -42,6 +42,23 @@ module _ {A : Type 0} (P : A → Type 0) where
   all_filter p true x xs e = rw e (λ h. (λ _. h.0, h.1), λ h. (h.0 refl, h.1))
   all_filter p false x xs e = rw e (λ h. (λ t. (cc), h), λ h. h.1)
 
+-- ---- which coefficients make a box
+le_of : (a b : ℤ) → int_le a b ≡ true → a ≤ℤ b
+le_of a b h = grind (arith, ints)
+
+unit_bounds : (k : ℤ) → is_unit k ≡ true → (negsuc 0 ≤ℤ k) × (k ≤ℤ pos 1)
+unit_bounds k h = let parts = and_parts (int_le (negsuc 0) k) (int_le k (pos 1)) h in (le_of (negsuc 0) k parts.0, le_of k (pos 1) parts.1)
+
+unit_cases : (k : ℤ) → is_unit k ≡ true → (k ≡ negsuc 0) ⊎ ((k ≡ pos 0) ⊎ (k ≡ pos 1))
+unit_cases (pos zero) h = inr (inl refl)
+unit_cases (pos (suc zero)) h = inr (inr refl)
+unit_cases (pos (suc (suc n))) h = absurd (omega (arith, ints, unit_bounds (pos (suc (suc n))) h))
+unit_cases (negsuc zero) h = inl refl
+unit_cases (negsuc (suc n)) h = absurd (omega (arith, ints, unit_bounds (negsuc (suc n)) h))
+
+pub zero_is : (k : ℤ) → is_zero k ≡ true → k ≡ pos 0
+zero_is k h = (Decides-int_eq k (pos 0)).0 h
+
 -- ---- bounds
 module _ (sizes : List ℕ) (x y : ℤ) where
   abbrev value : Numbers → ℤ
@@ -76,23 +93,6 @@ module _ (sizes : List ℕ) (x y : ℤ) where
 
     high_case : Each (shaped (pos 0) (pos 1) rest q) ↔ (coordinate_at (shaped (pos 0) (pos 1) rest q) sizes x y ≤ℤ pos 0)
     high_case = (λ h. omega (arith, ints, h.high, from_one_value rest), λ h. record { left = tt; right = tt; low = tt; high = omega (arith, ints, from_one_value rest) })
-
-  -- ---- which coefficients make a box
-  le_of : (a b : ℤ) → int_le a b ≡ true → a ≤ℤ b
-  le_of a b h = grind (arith, ints)
-
-  unit_bounds : (k : ℤ) → is_unit k ≡ true → (negsuc 0 ≤ℤ k) × (k ≤ℤ pos 1)
-  unit_bounds k h = let parts = and_parts (int_le (negsuc 0) k) (int_le k (pos 1)) h in (le_of (negsuc 0) k parts.0, le_of k (pos 1) parts.1)
-
-  unit_cases : (k : ℤ) → is_unit k ≡ true → (k ≡ negsuc 0) ⊎ ((k ≡ pos 0) ⊎ (k ≡ pos 1))
-  unit_cases (pos zero) h = inr (inl refl)
-  unit_cases (pos (suc zero)) h = inr (inr refl)
-  unit_cases (pos (suc (suc n))) h = absurd (omega (arith, ints, unit_bounds (pos (suc (suc n))) h))
-  unit_cases (negsuc zero) h = inl refl
-  unit_cases (negsuc (suc n)) h = absurd (omega (arith, ints, unit_bounds (negsuc (suc n)) h))
-
-  zero_is : (k : ℤ) → is_zero k ≡ true → k ≡ pos 0
-  zero_is k h = (Decides-int_eq k (pos 0)).0 h
 
   -- what a condition that makes a box says, by its bounds and by itself
   abbrev Says : CoordinateValue → Type 0
