@@ -1,3 +1,4 @@
+pub mod Cells
 pub mod Checked
 pub mod Name
 pub mod Views

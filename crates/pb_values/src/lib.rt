@@ -7,6 +7,7 @@
 mod arithmetic;
 mod name;
 mod outcome;
+mod reader;
 mod rect;
 mod shape;
 mod view;
@@ -14,6 +15,7 @@ mod view;
 pub use arithmetic::{abs, add, div, mul, neg, rem, sub};
 pub use name::Name;
 pub use outcome::{Kind, Outcome, Trap};
+pub use reader::CellReader;
 pub use rect::Rect;
 pub use shape::{MOST_SIDE, Shape};
 pub use view::View;

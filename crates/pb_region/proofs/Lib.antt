@@ -1,0 +1,15 @@
+pub mod FormLemmas
+pub mod GapLemmas
+pub mod BoundLemmas
+pub mod OverlapLemmas
+pub mod SmallLemmas
+pub mod RuleLemmas
+pub mod DimLemmas
+pub mod ReadLemmas
+pub mod InsideLemmas
+pub mod GuardLemmas
+pub mod AreaLemmas
+pub mod FreeLemmas
+pub mod AnswerLemmas
+pub mod BoxLemmas
+pub mod NegativeLemmas
