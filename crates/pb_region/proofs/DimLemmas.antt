@@ -11,7 +11,7 @@ use Rattle.pb_linear.specs.Sizes.{sizes_of}
 use Rattle.pb_linear.specs.declared.form.Form.{Form}
 use Rattle.pb_linear.specs.declared.sizes.Sizes.{Sizes}
 use Rattle.pb_linear.proofs.Values.{exact_value-multiple}
-use Rattle.pb_region.specs.Dims.{IsNegative, IsNeverNegative}
+use Rattle.pb_region.specs.Dims.{AreHeld, IsNegative, IsNeverNegative}
 
 module _ (leasts : List ℕ) (n : Numbers) (f : Form) (m : ℤ) (s : Sizes) (same : numbers f ≡ multiple (negsuc 0) n) (most : Most (value f) leasts m (sizes_of s)) where
   value_of : (t : List ℕ) → value f t ≡ negsuc 0 *ℤ exact_value n t
@@ -20,8 +20,8 @@ module _ (leasts : List ℕ) (n : Numbers) (f : Form) (m : ℤ) (s : Sizes) (sam
   most_of : Most (λ t. negsuc 0 *ℤ exact_value n t) leasts m (sizes_of s)
   most_of = subst (λ (v : List ℕ → ℤ). Most v leasts m (sizes_of s)) (λ i t. value_of t i) most
 
-  pub negative_somewhere : pos 0 <ℤ m → IsNegative leasts n s
-  negative_somewhere above = record { most = m; above = above; greatest = most_of }
+  pub negative_somewhere : AreHeld (length leasts) s → pos 0 <ℤ m → IsNegative leasts n s
+  negative_somewhere held above = record { held = held; most = m; above = above; greatest = most_of }
 
   pub never_negative : m ≤ℤ pos 0 → IsNeverNegative leasts n
   never_negative below t r = omega (arith, ints, most_of.greatest t r)

@@ -1,20 +1,24 @@
 -- A transform has no negative side, or one first side with one list of sizes.
-use Rattle.std.proofs.Common.{◌≡◌, ◌∙◌, sym, subst, inl, inr, ℕ, ◌<◌, ◌≤◌, List, length, take, slice_get, Some, ℤ, negsuc, ◌*ℤ◌, arith}
+use Rattle.std.proofs.Common.{◌≡◌, ◌∙◌, sym, ap, get_or, IsTrue, subst, inl, inr, ℕ, ◌<◌, ◌≤◌, List, length, take, slice_get, Some, ℤ, negsuc, ◌*ℤ◌, arith}
 use Rattle.std.specs.List.{All}
 use Rattle.std.proofs.lemmas.Bool.{cases_lt}
 use Rattle.std.proofs.lemmas.Int.{ints}
 use Rattle.std.proofs.lemmas.List.{ext_get_or, get_or-take, length-take-le}
 use Rattle.std.proofs.lemmas.Option.{get_or_from_slice_get, slice_get_within}
+use Rattle.std.proofs.Math.Bool.{Bool-set}
+use Rattle.std.proofs.Math.Bridge.{le_prop}
+use Rattle.std.proofs.Math.Path.{to_path_p}
+use Rattle.pb_linear.specs.Limits.{is_zero_from}
 use Rattle.pb_linear.specs.Most.{Most}
 use Rattle.pb_linear.specs.Numbers.{Numbers, exact_value}
 use Rattle.pb_linear.specs.Sizes.{leasts_of, sizes_of}
 use Rattle.pb_linear.specs.declared.sizes.Sizes.{Sizes}
-use Rattle.pb_linear.proofs.SizesLemmas.{InRange-length}
+use Rattle.pb_linear.proofs.SizesLemmas.{InRange-length, size_at}
 use Rattle.pb_syntax.specs.declared.refusal.Refusal.{Refusal}
 use Rattle.pb_syntax.specs.declared.refusal.Refusal.TheVariants.{NegativeDim}
 use Rattle.pb_program.specs.Forms.{DeclValue}
 use Rattle.pb_program.specs.Trees.{ProgTransform}
-use Rattle.pb_region.specs.Dims.{AreSides, HasNoNegative, IsFirstAxis, IsFirstNegative, IsNegative, IsNeverNegative, IsRefused, sides}
+use Rattle.pb_region.specs.Dims.{AreHeld, AreSides, HasNoNegative, IsFirstAxis, IsFirstNegative, IsNegative, IsNeverNegative, IsRefused, sides}
 
 all_at : {A : Type 0} (P : A → Type 0) (xs : List A) (k : ℕ) (x : A) → All P xs → slice_get xs k ≡ Some x → P x
 all_at P xs k x h at = subst P (get_or_from_slice_get xs k x x at) (h k x (slice_get_within xs k x at))
@@ -77,3 +81,27 @@ pub not_refused : (number : ℕ) (t : ProgTransform) (e : Refusal) → AreSides 
 not_refused number t (NegativeDim transform matrix axis s) none h =
     let first = h.1 in no_side (leasts_of t.ranges) first.decl axis s (all_at (HasNoNegative (leasts_of t.ranges)) t.matrices matrix first.decl none.each first.there) first.first
 not_refused number t _ none h = absurd h
+
+-- two refusals are one
+sizes_same : (a b : Sizes) → a.count ≡ b.count → a.of ≡ b.of → a ≡ b
+sizes_same a b counts entries = λ i. record {
+  count = counts i;
+  of = entries i;
+  few = to_path_p (λ k. counts k ≤ 8) {a = a.few} {b = b.few} (le_prop _ _) i;
+  zero_past_count = to_path_p (λ k. IsTrue (is_zero_from (counts k) (entries k))) {a = a.zero_past_count} {b = b.zero_past_count} (Bool-set _ _ _ _) i;
+}
+
+held_same : (count : ℕ) (s u : Sizes) → AreHeld count s → AreHeld count u → sizes_of s ≡ sizes_of u → s ≡ u
+held_same count s u h k e = sizes_same s u (h.counted ∙ sym k.counted) (ext_get_or 0 s.of u.of (h.full ∙ sym k.full)
+    (λ i below. sym (size_at s.count s.of s.zero_past_count i) ∙ ap (λ l. get_or l i 0) e ∙ size_at u.count u.of u.zero_past_count i))
+
+same_told : (number matrix other axis more : ℕ) (s u : Sizes) → matrix ≡ other → axis ≡ more → s ≡ u → NegativeDim number matrix axis s ≡ NegativeDim number other more u
+same_told number matrix other axis more s u a b c = cc
+
+pub one_negative : (number : ℕ) (t : ProgTransform) (e f : Refusal) → IsRefused number t e → IsRefused number t f → e ≡ f
+one_negative number t (NegativeDim i matrix axis s) (NegativeDim j other more u) (is, h) (was, k) =
+    let side = same_side (leasts_of t.ranges) t.matrices matrix axis other more s u h k in
+    let sizes = held_same (length (leasts_of t.ranges)) s u h.first.negative.held k.first.negative.held side.1 in
+    ap (λ n. NegativeDim n matrix axis s) is ∙ same_told number matrix other axis more s u (same_matrix (leasts_of t.ranges) t.matrices matrix axis other more s u h k) side.0 sizes ∙ ap (λ n. NegativeDim n other more u) (sym was)
+one_negative number t (NegativeDim i matrix axis s) _ h k = absurd k
+one_negative number t _ f h k = absurd h

@@ -1,5 +1,5 @@
 -- The sides of the matrices of a transform, and the first of them that is negative at some sizes.
-use Rattle.std.specs.Prelude.{◌≡◌, ℕ, ◌==◌, if◌then◌else◌, ℤ, pos, negsuc, ◌*ℤ◌, ◌<ℤ◌, ◌≤ℤ◌, List, [], ◌∷◌, take, Some, IfSome, slice_get}
+use Rattle.std.specs.Prelude.{◌≡◌, ℕ, ◌==◌, if◌then◌else◌, ℤ, pos, negsuc, ◌*ℤ◌, ◌<ℤ◌, ◌≤ℤ◌, List, [], ◌∷◌, length, take, Some, IfSome, slice_get}
 use Rattle.std.specs.List.{All}
 use Rattle.pb_linear.specs.Most.{Most}
 use Rattle.pb_linear.specs.Numbers.{Numbers, exact_value}
@@ -18,6 +18,11 @@ AtTransform ts t P = IfSome (slice_get ts t) P
 abbrev pub sides : DeclValue → List Numbers
 sides d = d.w ∷ (if d.dims == 1 then [] else d.h ∷ [])
 
+-- so many sizes, in an array of 8
+pub record AreHeld (count : ℕ) (sizes : Sizes) : Type 0 where
+  pub counted : sizes.count ≡ count
+  pub full : length sizes.of ≡ 8
+
 module _ (leasts : List ℕ) where
   -- at least 0 at all sizes in range
   abbrev pub IsNeverNegative : Numbers → Type 0
@@ -33,6 +38,7 @@ module _ (leasts : List ℕ) where
 
   -- the negative of a side is above 0 somewhere, and the sizes are the least at which it is greatest
   pub record IsNegative (n : Numbers) (sizes : Sizes) : Type 0 where
+    pub held : AreHeld (length leasts) sizes
     pub most : ℤ
     pub above : pos 0 <ℤ most
     pub greatest : Most (λ s. negsuc 0 *ℤ exact_value n s) leasts most (sizes_of sizes)
@@ -59,3 +65,7 @@ AreSides t = HaveNoNegative (leasts_of t.ranges) t.matrices
 abbrev pub IsRefused : ℕ → ProgTransform → Refusal → Type 0
 IsRefused number t (NegativeDim transform matrix axis sizes) = (transform ≡ number) × IsFirstNegative (leasts_of t.ranges) t.matrices matrix axis sizes
 IsRefused number t _ = ⊥
+
+pub record HasNegative (number : ℕ) (t : ProgTransform) : Type 0 where
+  pub why : Refusal
+  pub told : IsRefused number t why

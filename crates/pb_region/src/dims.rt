@@ -4,7 +4,7 @@ ghost use Rattle.pb_linear.specs.Sizes.{IsRanges, leasts_of};
 ghost use Rattle.pb_syntax.specs.declared.limits.TheConstants.{MOST_MATRICES};
 ghost use Rattle.pb_program.specs.Trees.{bare_prog, bare_transform};
 ghost use Rattle.pb_program.specs.WellFormed.{IsWellFormed};
-ghost use Rattle.pb_region.specs.Dims.{AreSides, AtTransform, HasNoNegative, HaveNoNegative, IsFirstAxis, IsFirstNegative, IsNegative, IsNeverNegative, IsRefused};
+ghost use Rattle.pb_region.specs.Dims.{AreHeld, AreSides, AtTransform, HasNoNegative, HaveNoNegative, IsFirstAxis, IsFirstNegative, IsNegative, IsNeverNegative, IsRefused};
 ghost use Rattle.pb_region.specs.Small.{IsSmallTransform};
 
 use crate::forms::negative;
@@ -84,11 +84,25 @@ fn negative_axis(ranges: &Ranges, matrix: &Decl) -> Option<(u8, Sizes)>
     Some((1, sizes))
 }
 
+/// Sizes as a refusal carries them: as many as the ranges are.
+fn held(ranges: Ranges, sizes: Sizes) -> Sizes
+    requires few { ranges.count ≤ 8 }
+    requires counted { sizes.count ≡ ranges.count }
+    ensures same { result ≡ sizes }
+    ensures held { AreHeld (length (leasts_of ranges)) result }
+{
+    sizes
+}
+
 /// The sizes at which a side is negative, and its negative greatest.
 fn negative_sizes(ranges: &Ranges, side: &Form) -> Option<Sizes>
     requires { IsRanges ranges.now }
     ensures { let leasts = leasts_of ranges.now in MatchOption result (IsNeverNegative leasts (numbers side.now)) (IsNegative leasts (numbers side.now)) }
 {
     let (most, sizes) = negative(side).most(ranges);
-    if 0 < most { Some(sizes) } else { None }
+    if 0 < most {
+        Some(held(*ranges, sizes))
+    } else {
+        None
+    }
 }

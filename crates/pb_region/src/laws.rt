@@ -1,7 +1,6 @@
 ghost use Rattle.std.specs.Prelude.{◌≡◌, ◌↔◌, ◌⊎◌, ℕ, ℤ, pos, ◌≤ℤ◌, false, List, Some, slice_get};
 ghost use Rattle.std.specs.List.{AllByRecursion};
-ghost use Rattle.pb_linear.specs.Sizes.{InRange, leasts_of, sizes_of};
-ghost use Rattle.pb_linear.specs.declared.sizes.Sizes.{Sizes};
+ghost use Rattle.pb_linear.specs.Sizes.{InRange, IsRanges, leasts_of};
 ghost use Rattle.pb_syntax.specs.declared.refusal.Refusal.{Refusal};
 ghost use Rattle.pb_program.specs.declared.rule.RuleKind.TheVariants.{Cell};
 ghost use Rattle.pb_program.specs.declared.view.Read.{Read};
@@ -11,7 +10,7 @@ ghost use Rattle.pb_program.specs.Forms.{coordinate_at, DeclValue};
 ghost use Rattle.pb_program.specs.Trees.{ProgRule, ProgTransform};
 ghost use Rattle.pb_program.specs.WellFormed.{IsFree, IsRule};
 ghost use Rattle.pb_region.specs.Boxes.{box};
-ghost use Rattle.pb_region.specs.Dims.{AreSides, IsFirstNegative};
+ghost use Rattle.pb_region.specs.Dims.{AreSides, HasNegative};
 ghost use Rattle.pb_region.specs.Dims as Dims;
 ghost use Rattle.pb_region.specs.Ends.{area_at, ends_of};
 ghost use Rattle.pb_region.specs.Gaps.{gap};
@@ -63,10 +62,9 @@ pub fn a_rule_has_one_answer()
     ensures not_both { (number_t number_r : ℕ) (t : ProgTransform) (r : ProgRule) (e : Refusal) → IsAccepted t r → IsRefused number_t number_r t r e → ⊥ }
 {}
 
-/// A law: a transform whose sides are never negative isn't refused, and two first negative sides are one, with the same
-/// sizes.
-pub fn a_negative_side_is_told_once()
+/// A law: the sides of a transform are never negative or it is refused for one, and never both.
+pub fn sides_have_one_answer()
+    ensures some { (number : ℕ) (t : ProgTransform) → IsRanges t.ranges → AreSides t ⊎ HasNegative number t }
+    ensures one_refusal { (number : ℕ) (t : ProgTransform) (e f : Refusal) → Dims.IsRefused number t e → Dims.IsRefused number t f → e ≡ f }
     ensures not_both { (number : ℕ) (t : ProgTransform) (e : Refusal) → AreSides t → Dims.IsRefused number t e → ⊥ }
-    ensures matrix { (leasts : List ℕ) (ms : List DeclValue) (i a j b : ℕ) (s u : Sizes) → IsFirstNegative leasts ms i a s → IsFirstNegative leasts ms j b u → i ≡ j }
-    ensures side { (leasts : List ℕ) (ms : List DeclValue) (i a j b : ℕ) (s u : Sizes) → IsFirstNegative leasts ms i a s → IsFirstNegative leasts ms j b u → (a ≡ b) × (sizes_of s ≡ sizes_of u) }
 {}
