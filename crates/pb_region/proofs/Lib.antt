@@ -13,3 +13,4 @@ pub mod FreeLemmas
 pub mod AnswerLemmas
 pub mod BoxLemmas
 pub mod NegativeLemmas
+pub mod WithinLemmas
