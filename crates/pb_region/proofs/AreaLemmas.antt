@@ -29,10 +29,10 @@ module _ (sizes : List ℕ) (x y : ℤ) where
   span_one : (c : CoordinateValue) → span (one_place c) ≡ area.one_place (coordinate_at c sizes x y)
   span_one c = λ i. record { low = coordinate_at c sizes x y; high = next_value c i }
 
-  over_value : (n : Numbers) → coordinate_at (over_sizes n) sizes x y ≡ exact_value n sizes
+  pub over_value : (n : Numbers) → coordinate_at (over_sizes n) sizes x y ≡ exact_value n sizes
   over_value n = omega (arith, ints, zero-*ℤ x, zero-*ℤ y)
 
-  nothing_value : coordinate_at nothing sizes x y ≡ pos 0
+  pub nothing_value : coordinate_at nothing sizes x y ≡ pos 0
   nothing_value =
       let n = constant_numbers (pos 0) in
       let none : exact_value n sizes ≡ pos 0 *ℤ exact_value n sizes = exact_value-multiple (pos 0) n sizes in

@@ -14,3 +14,4 @@ pub mod AnswerLemmas
 pub mod BoxLemmas
 pub mod NegativeLemmas
 pub mod SomeLemmas
+pub mod WithinLemmas

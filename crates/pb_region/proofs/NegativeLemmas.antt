@@ -20,7 +20,7 @@ use Rattle.pb_program.specs.Forms.{DeclValue}
 use Rattle.pb_program.specs.Trees.{ProgTransform}
 use Rattle.pb_region.specs.Dims.{AreHeld, AreSides, HasNoNegative, IsFirstAxis, IsFirstNegative, IsNegative, IsNeverNegative, IsRefused, sides}
 
-all_at : {A : Type 0} (P : A → Type 0) (xs : List A) (k : ℕ) (x : A) → All P xs → slice_get xs k ≡ Some x → P x
+pub all_at : {A : Type 0} (P : A → Type 0) (xs : List A) (k : ℕ) (x : A) → All P xs → slice_get xs k ≡ Some x → P x
 all_at P xs k x h at = subst P (get_or_from_slice_get xs k x x at) (h k x (slice_get_within xs k x at))
 
 all_before : {A : Type 0} (P : A → Type 0) (xs : List A) (n k : ℕ) (x : A) → All P (take n xs) → k < n → n ≤ length xs → slice_get xs k ≡ Some x → P x

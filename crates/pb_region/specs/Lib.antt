@@ -7,3 +7,4 @@ pub mod Rules
 pub mod Dims
 pub mod Reads
 pub mod Inside
+pub mod Within

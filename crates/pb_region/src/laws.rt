@@ -1,5 +1,6 @@
 ghost use Rattle.std.specs.Prelude.{◌≡◌, ◌↔◌, ◌⊎◌, ℕ, ℤ, pos, ◌≤ℤ◌, false, List, Some, slice_get};
 ghost use Rattle.std.specs.List.{AllByRecursion};
+ghost use Rattle.pb_linear.specs.Numbers.{exact_value};
 ghost use Rattle.pb_linear.specs.Sizes.{InRange, IsRanges, leasts_of};
 ghost use Rattle.pb_syntax.specs.declared.refusal.Refusal.{Refusal};
 ghost use Rattle.pb_program.specs.declared.rule.RuleKind.TheVariants.{Cell};
@@ -8,13 +9,14 @@ ghost use Rattle.pb_program.specs.Areas.{IsIn, area_of};
 ghost use Rattle.pb_program.specs.Conditions.{Applies, Condition, conditions, Holds};
 ghost use Rattle.pb_program.specs.Forms.{coordinate_at, DeclValue};
 ghost use Rattle.pb_program.specs.Trees.{ProgRule, ProgTransform};
-ghost use Rattle.pb_program.specs.WellFormed.{IsFree, IsRule};
+ghost use Rattle.pb_program.specs.WellFormed.{IsDecl, IsFree, IsRule};
 ghost use Rattle.pb_region.specs.Boxes.{box};
 ghost use Rattle.pb_region.specs.Dims.{AreSides, HasNegative};
 ghost use Rattle.pb_region.specs.Dims as Dims;
 ghost use Rattle.pb_region.specs.Ends.{area_at, ends_of};
 ghost use Rattle.pb_region.specs.Gaps.{gap};
 ghost use Rattle.pb_region.specs.Inside.{bounding, guards, IsInside};
+ghost use Rattle.pb_region.specs.Within.{IsWithin};
 ghost use Rattle.pb_region.specs.Rules.{HasRefusal, IsAccepted, IsRefused};
 
 /// A law: a condition holds exactly where its gap is at most 0.
@@ -52,6 +54,13 @@ pub fn an_unguarded_box_needs_no_guard()
 pub fn ends_are_those_of_the_area()
     ensures { (matrices : List DeclValue) (r : Read) (d : DeclValue) → slice_get matrices r.matrix ≡ Some d → (sizes : List ℕ) (x y : ℤ)
         → area_at (ends_of matrices r) sizes x y ≡ area_of sizes x y r d }
+{}
+
+/// A law: where a rule applies, each view that it reads lies within its matrix, if the view fits its matrix and no side is
+/// negative.
+pub fn a_read_is_within_its_matrix()
+    ensures { (t : ProgTransform) (r : ProgRule) (k n : ℕ) (read : Read) (d : DeclValue) → AreSides t → IsDecl n d → slice_get r.reads k ≡ Some read → slice_get t.matrices read.matrix ≡ Some d → read.dims ≡ d.dims
+        → (sizes : List ℕ) → InRange (leasts_of t.ranges) sizes → (x y : ℤ) → Applies t.matrices r sizes x y → IsWithin (area_of sizes x y read d) (exact_value d.w sizes) (exact_value d.h sizes) }
 {}
 
 /// A law: a rule is accepted or refused for one reason, and never both.
