@@ -1,2 +1,4 @@
+pub mod FirstLemmas
+pub mod BoundLemmas
 pub mod PhaseLemmas
 pub mod PlaceLemmas

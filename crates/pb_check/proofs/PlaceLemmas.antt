@@ -1,14 +1,123 @@
 -- Places play no part in whether a program is sound.
-use Rattle.std.proofs.Common.{◌≡◌, List, [], ◌∷◌, length, refl, ap, ◌∙◌}
-use Rattle.pb_program.specs.Places.{unplaced_prog}
-use Rattle.pb_program.specs.Trees.{ProgTransform}
+use Rattle.std.proofs.Common.{◌≡◌, ℕ, zero, suc, ◌+◌, ◌<◌, ◌==◌, Bool, List, [], ◌∷◌, ◌++◌, length, map, get_or, Option, Some, None, slice_get, position, not, refl, sym, ap, subst, ◌∙◌, arith}
+use Rattle.std.specs.List.{All, flat_map}
+use Rattle.std.specs.Option.{option_map}
+use Rattle.std.proofs.lemmas.Option.{slice_get-map}
+use Rattle.pb_linear.specs.Sizes.{leasts_of}
+use Rattle.pb_program.specs.Conditions.{by_view, conditions, in_matrix, view_conditions}
+use Rattle.pb_program.specs.Forms.{DeclValue}
+use Rattle.pb_program.specs.Places.{unplaced_matrix, unplaced_prog, unplaced_prog_rule, unplaced_prog_transform, unplaced_read}
+use Rattle.pb_program.specs.Trees.{ProgRule, ProgTransform}
+use Rattle.pb_program.specs.declared.view.Read.{Read}
+use Rattle.pb_program.specs.declared.view.ReadView.TheVariants as view
 use Rattle.pb_types.specs.Types.{broken}
 use Rattle.pb_types.proofs.UnplacedPlans.{same_broken}
-use Rattle.pb_check.specs.Phases.{IsSound}
+use Rattle.pb_region.specs.Boxes.{is_box}
+use Rattle.pb_region.specs.Dims.{HasNoNegative}
+use Rattle.pb_region.specs.Ends.{ends_by, ends_in, ends_of}
+use Rattle.pb_region.specs.Gaps.{gap}
+use Rattle.pb_region.specs.Overlaps.{both_overlap, overlap, overlap_at}
+use Rattle.pb_region.specs.Rules.{IsAccepted}
+use Rattle.pb_check.specs.Phases.{IsBounded, IsSound}
 
 none_long : {A : Type 0} (xs : List A) → length xs ≡ 0 → xs ≡ []
 none_long [] e = refl
 none_long (x ∷ xs) e = cc
 
+-- lists
+all_to : {A B : Type 0} (f : A → B) (P : A → Type 0) (Q : B → Type 0) → ((x : A) → P x → Q (f x)) → (xs : List A) → All P xs → All Q (map f xs)
+all_to f P Q each [] all k d below = absurd (omega arith)
+all_to f P Q each (x ∷ xs) all zero d below = each x (all 0 x (omega arith))
+all_to f P Q each (x ∷ xs) all (suc k) d below = all_to f P Q each xs (λ j e h. all (suc j) e (omega arith)) k d (omega arith)
+
+all_from : {A B : Type 0} (f : A → B) (P : A → Type 0) (Q : B → Type 0) → ((x : A) → Q (f x) → P x) → (xs : List A) → All Q (map f xs) → All P xs
+all_from f P Q each [] all k d below = absurd (omega arith)
+all_from f P Q each (x ∷ xs) all zero d below = each x (all 0 (f x) (omega arith))
+all_from f P Q each (x ∷ xs) all (suc k) d below = all_from f P Q each xs (λ j e h. all (suc j) e (omega arith)) k d (omega arith)
+
+flat_same : {A B : Type 0} (u : A → A) (g h : A → List B) → ((x : A) → g (u x) ≡ h x) → (xs : List A) → flat_map g (map u xs) ≡ flat_map h xs
+flat_same u g h e [] = refl
+flat_same u g h e (x ∷ xs) = rw (e x, flat_same u g h e xs) refl
+
+-- conditions
+view_kept : (v : _) (r : Read) (d : DeclValue) → by_view v (unplaced_read r) (unplaced_matrix d) ≡ by_view v r d
+view_kept view.Cell r d = refl
+view_kept view.Row r d = refl
+view_kept view.Column r d = refl
+view_kept view.Region r d = refl
+view_kept view.Whole r d = refl
+
+in_kept : (r : Read) (d : Option DeclValue) → in_matrix (unplaced_read r) (option_map unplaced_matrix d) ≡ in_matrix r d
+in_kept r None = refl
+in_kept r (Some d) = view_kept r.view r d
+
+module _ (ms : List DeclValue) where
+  at_kept : (r : Read) → view_conditions (map unplaced_matrix ms) (unplaced_read r) ≡ view_conditions ms r
+  at_kept r = ap (in_matrix (unplaced_read r)) (slice_get-map unplaced_matrix ms r.matrix) ∙ in_kept r (slice_get ms r.matrix)
+
+  conditions_kept : (r : ProgRule) → conditions (map unplaced_matrix ms) (unplaced_prog_rule r) ≡ conditions ms r
+  conditions_kept r = rw (
+    flat_same unplaced_read (view_conditions (map unplaced_matrix ms)) (view_conditions ms) at_kept r.outs,
+    flat_same unplaced_read (view_conditions (map unplaced_matrix ms)) (view_conditions ms) at_kept r.reads,
+  ) refl
+
+-- outputs
+ends_kept : (v : _) (r : Read) (d : DeclValue) → ends_by v (unplaced_read r) (unplaced_matrix d) ≡ ends_by v r d
+ends_kept view.Cell r d = refl
+ends_kept view.Row r d = refl
+ends_kept view.Column r d = refl
+ends_kept view.Region r d = refl
+ends_kept view.Whole r d = refl
+
+ends_in_kept : (r : Read) (d : Option DeclValue) → ends_in (unplaced_read r) (option_map unplaced_matrix d) ≡ ends_in r d
+ends_in_kept r None = refl
+ends_in_kept r (Some d) = ends_kept r.view r d
+
+module _ (leasts : List ℕ) (ms : List DeclValue) where
+  ends_of_kept : (r : Read) → ends_of (map unplaced_matrix ms) (unplaced_read r) ≡ ends_of ms r
+  unfolding ends_of
+  ends_of_kept r = ap (ends_in (unplaced_read r)) (slice_get-map unplaced_matrix ms r.matrix) ∙ ends_in_kept r (slice_get ms r.matrix)
+
+  overlap_kept : (a b : Read) → overlap leasts (map unplaced_matrix ms) (unplaced_read a) (unplaced_read b) ≡ overlap leasts ms a b
+  overlap_kept a b = rw (ends_of_kept a, ends_of_kept b) refl
+
+  both_kept : (a b : Option Read) → both_overlap leasts (map unplaced_matrix ms) (option_map unplaced_read a) (option_map unplaced_read b) ≡ both_overlap leasts ms a b
+  both_kept None b = refl
+  both_kept (Some a) None = refl
+  both_kept (Some a) (Some b) = overlap_kept a b
+
+  overlaps_kept : (outs : List Read) (i j : ℕ) → overlap_at leasts (map unplaced_matrix ms) (map unplaced_read outs) i j ≡ overlap_at leasts ms outs i j
+  unfolding overlap_at
+  overlaps_kept outs i j = rw (slice_get-map unplaced_read outs i, slice_get-map unplaced_read outs j, both_kept (slice_get outs i) (slice_get outs j)) refl
+
+-- rules and transforms
+module _ (t : ProgTransform) where
+  rule_to : (r : ProgRule) → IsAccepted t r → IsAccepted (unplaced_prog_transform t) (unplaced_prog_rule r)
+  rule_to r a = record {
+    conditions = rw (conditions_kept t.matrices r) a.conditions;
+    outputs = λ i j. rw (overlaps_kept (leasts_of t.ranges) t.matrices r.outs i j) (a.outputs i j);
+  }
+
+  rule_from : (r : ProgRule) → IsAccepted (unplaced_prog_transform t) (unplaced_prog_rule r) → IsAccepted t r
+  rule_from r a = record {
+    conditions = ap (λ cs. position (λ g. not (is_box g)) (map gap cs)) (sym (conditions_kept t.matrices r)) ∙ a.conditions;
+    outputs = λ i j. rw (← overlaps_kept (leasts_of t.ranges) t.matrices r.outs i j) (a.outputs i j);
+  }
+
+  transform_to : IsBounded t → IsBounded (unplaced_prog_transform t)
+  transform_to b = record {
+    sides = record { each = all_to unplaced_matrix (HasNoNegative (leasts_of t.ranges)) (HasNoNegative (leasts_of t.ranges)) (λ d h. record { sides = h.sides }) t.matrices b.sides.each };
+    rules = all_to unplaced_prog_rule (IsAccepted t) (IsAccepted (unplaced_prog_transform t)) rule_to t.rules b.rules;
+  }
+
+  transform_from : IsBounded (unplaced_prog_transform t) → IsBounded t
+  transform_from b = record {
+    sides = record { each = all_from unplaced_matrix (HasNoNegative (leasts_of t.ranges)) (HasNoNegative (leasts_of t.ranges)) (λ d h. record { sides = h.sides }) t.matrices b.sides.each };
+    rules = all_from unplaced_prog_rule (IsAccepted t) (IsAccepted (unplaced_prog_transform t)) rule_from t.rules b.rules;
+  }
+
 pub sound_again : (q p : List ProgTransform) → unplaced_prog q ≡ unplaced_prog p → IsSound p → IsSound q
-sound_again q p e sound = record { typed = none_long (broken q) (same_broken q p e ∙ ap length sound.typed) }
+sound_again q p e sound = record {
+  typed = none_long (broken q) (same_broken q p e ∙ ap length sound.typed);
+  bounded = all_from unplaced_prog_transform IsBounded IsBounded transform_from q (subst (All IsBounded) (sym e) (all_to unplaced_prog_transform IsBounded IsBounded transform_to p sound.bounded));
+}

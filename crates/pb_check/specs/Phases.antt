@@ -1,13 +1,35 @@
--- The phases that judge a program after its names, in their order: types.
-use Rattle.std.specs.Prelude.{◌≡◌, List, []}
+-- The phases that judge a program after its names, in their order: types, then bounds.
+use Rattle.std.specs.Prelude.{◌≡◌, ◌⊎◌, ℕ, List, []}
+use Rattle.std.specs.List.{All}
 use Rattle.pb_syntax.specs.declared.refusal.Refusal.{Refusal}
 use Rattle.pb_program.specs.Trees.{ProgTransform}
 use Rattle.pb_types.specs.Types.{broken, IsRefused as HasBadTypes}
+use Rattle.pb_region.specs.Dims.{AreSides, IsRefused as HasBadSide}
+use Rattle.pb_region.specs.Rules.{IsAccepted, IsRefused as HasBadBounds}
+use Rattle.pb_check.specs.Firsts.{IsFirst}
+
+-- no side of a transform is negative, and each of its rules has boxes
+pub record IsBounded (t : ProgTransform) : Type 0 where
+  pub sides : AreSides t
+  pub rules : All (IsAccepted t) t.rules
+
+-- the first rule without boxes, of the transform with this number
+abbrev pub FailsRule : ℕ → ProgTransform → Refusal → Type 0
+FailsRule number t e = IsFirst (IsAccepted t) (λ place rule. HasBadBounds number place t rule e) t.rules
+
+-- a transform is refused for a side, else for a rule
+abbrev pub FailsBounds : ℕ → ProgTransform → Refusal → Type 0
+FailsBounds number t e = HasBadSide number t e ⊎ (AreSides t × FailsRule number t e)
+
+-- a program is refused for the first transform that is
+abbrev pub IsUnbounded : List ProgTransform → Refusal → Type 0
+IsUnbounded p e = IsFirst IsBounded (λ place t. FailsBounds place t e) p
 
 -- no phase finds a fault in the program
 pub record IsSound (p : List ProgTransform) : Type 0 where
   pub typed : broken p ≡ []
+  pub bounded : All IsBounded p
 
 -- the first phase that finds a fault refuses
 abbrev pub IsRefused : List ProgTransform → Refusal → Type 0
-IsRefused p e = HasBadTypes p e
+IsRefused p e = HasBadTypes p e ⊎ ((broken p ≡ []) × IsUnbounded p e)

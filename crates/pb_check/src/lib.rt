@@ -4,6 +4,7 @@
 //! refuses it. The theorem: a program is accepted or refused for one reason, and places play no part in which of the two.
 #![tactic(auto)]
 
+mod bounds;
 mod laws;
 mod phases;
 

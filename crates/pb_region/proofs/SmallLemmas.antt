@@ -17,7 +17,7 @@ all_of P Q f [] h k d below = absurd (omega arith)
 all_of P Q f (x ∷ xs) h zero d below = f x h.0
 all_of P Q f (x ∷ xs) h (suc k) d below = all_of P Q f xs h.1 k d (omega arith)
 
-at_place : {X : Type 0} (P : X → Type 0) (xs : List X) (k : ℕ) (x : X) → AllByRecursion P xs → slice_get xs k ≡ Some x → P x
+pub at_place : {X : Type 0} (P : X → Type 0) (xs : List X) (k : ℕ) (x : X) → AllByRecursion P xs → slice_get xs k ≡ Some x → P x
 at_place P [] k x h e = let none : None ≡ Some x = e in cc
 at_place P (y ∷ xs) zero x h e = let some : Some y ≡ Some x = e in let same : y ≡ x = cc in rw (← same) h.0
 at_place P (y ∷ xs) (suc k) x h e = at_place P xs k x h.1 e
