@@ -3,8 +3,9 @@ use Rattle.std.proofs.Common.{◌≡◌, ℕ, ◌≤◌, length, arith, List, []
 use Rattle.pb_prog.specs.Canonical.{canonical}
 use Rattle.pb_program.specs.Trees.{ProgTransform}
 use Rattle.pb_program.specs.Places.{unplaced_prog}
+use Rattle.pb_program.specs.WellFormed.{IsWellFormed}
 use Rattle.pb_syntax.specs.Trees.{TransformTree}
-use Rattle.pb_syntax.specs.Places.{unplaced}
+use Rattle.pb_syntax.specs.WithinLimits.{IsWithinLimits}
 use Rattle.pb_syntax.specs.declared.limits.TheConstants.{MOST_BYTES}
 use Rattle.pb_syntax.specs.declared.refusal.Refusal.{Refusal}
 use Rattle.pb_front.specs.Reading.{IsRead, IsRefused}
@@ -12,6 +13,7 @@ use Rattle.pb_front.proofs.CanonicalLemmas.{read_again, its_own}
 use Rattle.pb_front.proofs.ReadLemmas.{some_reading, one_tree, one_refusal, not_both}
 use Rattle.pb_names.specs.Transforms.{HasRefusal, IsResolved, program_of, IsRefused as HasBadNames}
 use Rattle.pb_names.proofs.LawLemmas.{some_answer, no_two, same_program, same_refusal}
+use Rattle.pb_names.proofs.TransformsFit.{well_formed}
 use Rattle.pb_names.proofs.UnplacedPrograms.{faultless_again, same_program as same_again}
 use Rattle.pb_check.specs.Phases.{IsSound, IsRefused as IsUnsound}
 use Rattle.pb_check.proofs.PhaseLemmas.{sound_or_refused, one_refusal as one_cause, not_both as sound_and_refused}
@@ -21,7 +23,8 @@ use Rattle.pb_top.specs.declared.reply.Status.TheVariants.{Program}
 use Rattle.pb_top.specs.Reply.{Reply, done_reply, refusal_reply}
 use Rattle.pb_top.specs.Steps.{Refuses, Reads, Resolves, Accepts}
 use Rattle.pb_top.specs.Check.{CheckAnswers, PrintsAccepted, PrintsResolved}
-use Rattle.pb_top.proofs.StepLemmas.{then_one, then_some}
+use Rattle.pb_top.proofs.LineLemmas.{read_within}
+use Rattle.pb_top.proofs.StepLemmas.{then_given, then_one, then_some}
 
 -- one refusal has one line
 refuses_one : (p : List ProgTransform) (IsWhy : Refusal → Type 0) → ((e f : Refusal) → IsWhy e → IsWhy f → e ≡ f) → (x y : Reply) → Refuses p IsWhy x → Refuses p IsWhy y → x ≡ y
@@ -71,14 +74,19 @@ accepted_by : (p : List ProgTransform) → IsSound p ⊎ ((e : Refusal) × IsUns
 accepted_by p (inl sound) = (Ok tt, sound)
 accepted_by p (inr (why, causes)) = let some = refusal_some p (IsUnsound p) why causes in (Err some.0, some.1)
 
-accepted_some : (tree : List TransformTree) (p : List ProgTransform) → (reply : Reply) × PrintsAccepted tree p reply
-accepted_some tree p = then_some (Accepts p) (λ a reply. reply ≡ done_reply (canonical tree)) (accepted_by p (sound_or_refused p)) (λ a. (done_reply (canonical tree), refl))
+accepted_some : (tree : List TransformTree) (p : List ProgTransform) → IsWellFormed p → (reply : Reply) × PrintsAccepted tree p reply
+accepted_some tree p well =
+    then_some (Accepts p) (λ a reply. reply ≡ done_reply (canonical tree)) (accepted_by p (sound_or_refused p well)) (λ a. (done_reply (canonical tree), refl))
 
-resolved_some : (tree : List TransformTree) → (reply : Reply) × PrintsResolved tree reply
-resolved_some tree = then_some (Resolves tree) (PrintsAccepted tree) (resolved_by tree (some_answer tree)) (accepted_some tree)
+resolved_well : (tree : List TransformTree) (p : List ProgTransform) → IsWithinLimits tree → IsResolved tree p → IsWellFormed p
+resolved_well tree p within made = subst IsWellFormed (sym made.program) (well_formed tree within made.faultless)
+
+resolved_some : (tree : List TransformTree) → IsWithinLimits tree → (reply : Reply) × PrintsResolved tree reply
+resolved_some tree within =
+    then_given (Resolves tree) (PrintsAccepted tree) (resolved_by tree (some_answer tree)) (λ p made. accepted_some tree p (resolved_well tree p within made))
 
 pub check_some : (text : List ℕ) → (reply : Reply) × CheckAnswers text reply
-check_some text = then_some (Reads text) PrintsResolved (read_by text (some_reading text)) resolved_some
+check_some text = then_given (Reads text) PrintsResolved (read_by text (some_reading text)) (λ tree read. resolved_some tree (read_within text tree read))
 
 -- what is written of a program is written of itself
 no_refusal : {P : Type 0} (p : List ProgTransform) (IsWhy : Refusal → Type 0) (text : List ℕ) → Refuses p IsWhy (done_reply text) → P

@@ -1,7 +1,7 @@
 -- Each refusal of a phase has a line.
 use Rattle.std.proofs.Common.{◌≡◌, ◌⊎◌, inl, inr, ℕ, List, [], ◌∷◌, refl, sym, subst, ◌∙◌}
 use Rattle.pb_syntax.specs.declared.refusal.Refusal.{Refusal}
-use Rattle.pb_syntax.specs.declared.refusal.Refusal.TheVariants.{TooLong, BadToken, BadSyntax, OverLimit, BadType, Memory}
+use Rattle.pb_syntax.specs.declared.refusal.Refusal.TheVariants.{TooLong, BadToken, BadSyntax, OverLimit, BadType, NegativeDim, NotABox, OverlapOutputs, Memory}
 use Rattle.pb_syntax.specs.Trees.{TransformTree}
 use Rattle.pb_syntax.specs.WithinLimits.{IsWithinLimits}
 use Rattle.pb_lexer.proofs.LexemeLemmas.{lexemes}
@@ -10,8 +10,11 @@ use Rattle.pb_front.specs.Reading.{IsRead, IsRefused}
 use Rattle.pb_names.specs.declared.fault.Fault.{Fault}
 use Rattle.pb_names.specs.declared.fault.Fault.TheVariants as fault
 use Rattle.pb_names.specs.Transforms.{faults_of, refusal_of, IsRefused as HasBadNames, IsRefusedFor}
-use Rattle.pb_program.specs.Trees.{ProgTransform}
-use Rattle.pb_check.specs.Phases.{IsRefused as IsUnsound}
+use Rattle.pb_program.specs.Trees.{ProgRule, ProgTransform}
+use Rattle.pb_types.specs.Types.{IsRefused as HasBadTypes}
+use Rattle.pb_region.specs.Dims.{IsRefused as HasBadSide}
+use Rattle.pb_region.specs.Rules.{IsRefused as HasBadBounds}
+use Rattle.pb_check.specs.Phases.{FailsBounds, IsRefused as IsUnsound}
 use Rattle.pb_lines.specs.Lines.{HasLine}
 
 text_refusal : (text : List ℕ) (e : Refusal) → IsRefused text e → HasLine e
@@ -40,9 +43,26 @@ pub names_line : (tree : List TransformTree) (e : Refusal) → (e ≡ Memory) �
 names_line tree e (inl is) other = absurd (other is)
 names_line tree e (inr causes) other = first_line (faults_of tree) e causes other
 
+type_refusal : (p : List ProgTransform) (e : Refusal) → HasBadTypes p e → HasLine e
+type_refusal p (BadType at) causes = tt
+type_refusal p other causes = absurd causes
+
+side_refusal : (number : ℕ) (t : ProgTransform) (e : Refusal) → HasBadSide number t e → HasLine e
+side_refusal number t (NegativeDim transform matrix axis sizes) causes = tt
+side_refusal number t other causes = absurd causes
+
+rule_refusal : (number place : ℕ) (t : ProgTransform) (r : ProgRule) (e : Refusal) → HasBadBounds number place t r e → HasLine e
+rule_refusal number place t r (NotABox transform rule condition) causes = tt
+rule_refusal number place t r (OverlapOutputs transform rule first second) causes = tt
+rule_refusal number place t r other causes = absurd causes
+
+bound_refusal : (number : ℕ) (t : ProgTransform) (e : Refusal) → FailsBounds number t e → HasLine e
+bound_refusal number t e (inl side) = side_refusal number t e side
+bound_refusal number t e (inr (sides, rule)) = rule_refusal number rule.place t rule.item e rule.fails
+
 phase_refusal : (p : List ProgTransform) (e : Refusal) → IsUnsound p e → HasLine e
-phase_refusal p (BadType at) causes = tt
-phase_refusal p other causes = absurd causes
+phase_refusal p e (inl causes) = type_refusal p e causes
+phase_refusal p e (inr (right, bad)) = bound_refusal bad.place bad.item e bad.fails
 
 pub phase_line : (p : List ProgTransform) (e : Refusal) → (e ≡ Memory) ⊎ IsUnsound p e → (e ≡ Memory → ⊥) → HasLine e
 phase_line p e (inl is) other = absurd (other is)

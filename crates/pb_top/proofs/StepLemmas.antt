@@ -30,6 +30,16 @@ pub then_some : {A : Type 0} (Step : Result A Reply → Type 0) (next : A → Re
     → ((a : A) → (reply : Reply) × next a reply) → (reply : Reply) × Then Step next reply
 then_some Step next some each = some_after Step next some.0 some.1 each
 
+-- the same where what follows rests on what the step gives
+after_given : {A : Type 0} (Step : Result A Reply → Type 0) (next : A → Reply → Type 0) (outcome : Result A Reply) → Step outcome
+    → ((a : A) → Step (Ok a) → (reply : Reply) × next a reply) → (reply : Reply) × Then Step next reply
+after_given Step next (Ok a) step each = let more = each a step in (more.0, inl (a, step, more.1))
+after_given Step next (Err reply) step each = (reply, inr step)
+
+pub then_given : {A : Type 0} (Step : Result A Reply → Type 0) (next : A → Reply → Type 0) → ((outcome : Result A Reply) × Step outcome)
+    → ((a : A) → Step (Ok a) → (reply : Reply) × next a reply) → (reply : Reply) × Then Step next reply
+then_given Step next some each = after_given Step next some.0 some.1 each
+
 -- what stops with one reply stops with another that follows from it
 pub stops_map : (P Q : Reply → Type 0) → ((reply : Reply) → P reply → Q reply) → (stop : Stop) → StopsWith P stop → StopsWith Q stop
 stops_map P Q each Memory stops = tt

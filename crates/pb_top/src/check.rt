@@ -1,5 +1,6 @@
-ghost use Rattle.std.specs.Prelude.{◌≡◌, Ok};
+ghost use Rattle.std.specs.Prelude.{◌≡◌, IfOk, Ok};
 ghost use Rattle.pb_program.specs.Trees.{bare_prog};
+ghost use Rattle.pb_program.specs.WellFormed.{IsWellFormed};
 ghost use Rattle.pb_syntax.specs.Trees.{bare_text};
 ghost use Rattle.pb_syntax.specs.WithinLimits.{IsWithinLimits};
 ghost use Rattle.pb_top.specs.Steps.{Reads, Resolves, Accepts};
@@ -34,7 +35,8 @@ fn read(alloc: Global, program: &[u8]) -> Result<Text, Stop>
 #[tactic(auto, using(crate::proofs::LineLemmas::names_line))]
 fn resolve_names(alloc: Global, tree: &Text) -> Result<Prog, Stop>
     requires { IsWithinLimits (bare_text tree.now) }
-    ensures { Gives bare_prog (Resolves (bare_text tree.now)) result }
+    ensures gives { Gives bare_prog (Resolves (bare_text tree.now)) result }
+    ensures well_formed { IfOk result (λ p. IsWellFormed (bare_prog p)) }
 {
     match resolve(alloc, tree) {
         Ok(program) => Ok(program),
@@ -49,6 +51,7 @@ fn resolve_names(alloc: Global, tree: &Text) -> Result<Prog, Stop>
 // Nothing, for a program that every further phase accepts.
 #[tactic(auto, using(crate::proofs::LineLemmas::phase_line))]
 fn accept(alloc: Global, program: &Prog) -> Result<(), Stop>
+    requires { IsWellFormed (bare_prog program.now) }
     ensures { Gives (λ accepted. accepted) (Accepts (bare_prog program.now)) result }
 {
     match judge(alloc, program) {
@@ -63,6 +66,7 @@ fn accept(alloc: Global, program: &Prog) -> Result<(), Stop>
 
 // The canonical text of a tree, for a program that is accepted.
 fn print_accepted(alloc: Global, tree: &Text, program: &Prog) -> Result<Vec<u8>, Stop>
+    requires { IsWellFormed (bare_prog program.now) }
     ensures { Replies (PrintsAccepted (bare_text tree.now) (bare_prog program.now)) result }
 {
     accept(alloc, program)?;
