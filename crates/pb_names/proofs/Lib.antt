@@ -5,7 +5,7 @@ pub mod LawLemmas
 pub mod UnplacedBodies
 pub mod UnplacedViews
 pub mod UnplacedPrograms
-pub mod ToldLemmas
+pub mod CausedLemmas
 pub mod SumLemmas
 pub mod ListFits
 pub mod FormsFit

@@ -16,7 +16,7 @@ use Rattle.pb_program.specs.Places.{unplaced_named, unplaced_local_term, unplace
 use Rattle.pb_program.proofs.Kept.{joined, flat_kept, made_kept}
 use Rattle.pb_names.specs.declared.fault.Fault.{Fault}
 use Rattle.pb_names.specs.Faults.{duplicate, unknown, not_bound, bad_output}
-use Rattle.pb_names.specs.Places.{unplaced_fault}
+use Rattle.pb_names.specs.Unplaced.{unplaced_fault}
 use Rattle.pb_names.specs.Turns.{after_turns, turns, turn_faults}
 use Rattle.pb_names.specs.Bodies.{Visible, named, called, use_faults, declared_faults, called_faults, expr_of, exprs_of, operands_of, expr_faults, exprs_faults, operands_faults, term_of, term_faults, local_form, form_faults, after, stmt_of, stmts_of, stmt_faults, stmts_faults, declare}
 

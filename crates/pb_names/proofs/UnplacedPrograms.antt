@@ -23,7 +23,7 @@ use Rattle.pb_program.specs.Plans.{PlanCallValue, PlanValue, all_some, put, argu
 use Rattle.pb_program.specs.Places.{unplaced_named, unplaced_value, unplaced_values, unplaced_operand_values, unplaced_statement, unplaced_statements, unplaced_matrix, unplaced_read, unplaced_plan, unplaced_prog_rule, unplaced_prog_transform, unplaced_prog}
 use Rattle.pb_program.specs.Trees.{ProgTransform}
 use Rattle.pb_names.specs.declared.matrices.Matrix.{Matrix}
-use Rattle.pb_names.specs.Places.{unplaced_fault}
+use Rattle.pb_names.specs.Unplaced.{unplaced_fault}
 use Rattle.pb_names.specs.Names.{look}
 use Rattle.pb_names.specs.Sums.{collected}
 use Rattle.pb_names.specs.Turns.{after_turns, turns, turn_faults}

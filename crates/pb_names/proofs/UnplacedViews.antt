@@ -18,7 +18,7 @@ use Rattle.pb_program.specs.Forms.{CoordinateValue, nothing}
 use Rattle.pb_program.specs.Places.{unplaced_read}
 use Rattle.pb_names.specs.declared.fault.Fault.{Fault}
 use Rattle.pb_names.specs.declared.matrices.Matrix.{Matrix}
-use Rattle.pb_names.specs.Places.{unplaced_fault}
+use Rattle.pb_names.specs.Unplaced.{unplaced_fault}
 use Rattle.pb_names.specs.Sums.{add_by_name, add_term, add_terms, collected, sum_of_terms}
 use Rattle.pb_names.specs.Bodies.{Visible}
 use Rattle.pb_names.specs.Views.{Matrices, Place, after_out, after_outs, after_read, after_reads, are_free, binders, binders_in, bind, bound_faults, cond_faults, cond_of, coordinate_names, coordinates_faults, dims_of, forms_of, has_names, is_bad_output, is_row, kind_of, out_at, out_faults, out_faults_at, out_scope, outs_faults, outs_of, put_name, read_at, read_faults, read_faults_at, read_of, reads_faults, reads_of, repeats, start, variables_faults, view_form_faults, view_name_faults, view_of, view_term_faults, with_variables, x0_of, x1_of, y0_of, y1_of}

@@ -9,4 +9,4 @@ pub mod Kinds
 pub mod Slots
 pub mod Rules
 pub mod Transforms
-pub mod Places
+pub mod Unplaced

@@ -7,11 +7,11 @@ ghost use Rattle.pb_syntax.specs.declared.refusal.Refusal.{Refusal};
 ghost use Rattle.pb_syntax.specs.declared.refusal.Refusal.TheVariants.{Memory};
 ghost use Rattle.pb_program.specs.Places.{unplaced_prog};
 ghost use Rattle.pb_syntax.specs.Places.{unplaced};
-ghost use Rattle.pb_names.specs.Places.{unplaced_fault};
+ghost use Rattle.pb_names.specs.Unplaced.{unplaced_fault};
 ghost use Rattle.pb_names.specs.Transforms.{HasRefusal, IsRefused, IsResolved, faults_of, program_of};
 
 /// A law: each tree is one program or refused for one reason, which is never that memory ran out, and never both.
-#[tactic(auto, using(crate::proofs::LawLemmas::some_answer, crate::proofs::LawLemmas::no_two, crate::proofs::LawLemmas::same_program, crate::proofs::LawLemmas::same_refusal, crate::proofs::ToldLemmas::never_memory))]
+#[tactic(auto, using(crate::proofs::LawLemmas::some_answer, crate::proofs::LawLemmas::no_two, crate::proofs::LawLemmas::same_program, crate::proofs::LawLemmas::same_refusal, crate::proofs::CausedLemmas::never_memory))]
 pub fn a_tree_has_one_answer()
     ensures some { (tree : List TransformTree) → IsResolved tree (program_of tree) ⊎ HasRefusal tree }
     ensures one_program { (tree : List TransformTree) (p q : List ProgTransform) → IsResolved tree p → IsResolved tree q → p ≡ q }
