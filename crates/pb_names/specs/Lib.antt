@@ -9,3 +9,4 @@ pub mod Kinds
 pub mod Slots
 pub mod Rules
 pub mod Transforms
+pub mod Places

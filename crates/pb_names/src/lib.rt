@@ -17,7 +17,7 @@ mod plan;
 
 pub use fault::Fault;
 pub use kind::some_plans;
-pub use laws::{a_faultless_tree_is_well_formed, a_tree_has_one_answer};
+pub use laws::{a_faultless_tree_is_well_formed, a_tree_has_one_answer, faults_stand_in_order};
 pub use matrices::{Matrices, Matrix};
 pub use names::Names;
 pub use parts::{alone, count_of, is_row, is_single, is_size, kind_by, priority_of, ranges};
