@@ -5,12 +5,14 @@ use Rattle.pb_values.specs.Name.{NameValue}
 use Rattle.pb_syntax.specs.declared.token.Token.{Token}
 use Rattle.pb_syntax.specs.declared.tree.expression.Level.{Level}
 use Rattle.pb_syntax.specs.declared.tree.expression.Operator.{Operator}
-use Rattle.pb_syntax.specs.Kinds.{name_in}
+use Rattle.pb_syntax.specs.declared.kind.TokenKind.TheVariants as k
+use Rattle.pb_syntax.specs.Kinds.{Is, name_in}
 use Rattle.pb_syntax.specs.Exprs.{ExprTree, exprs, operands}
 use Rattle.pb_syntax.specs.Stmts.{StmtTree, stmts}
 use Rattle.pb_syntax.specs.Grammar.{Commas, IsArguments, IsBlock, IsComp, IsCoordinates, IsLine, IsName, IsOperand, IsOperands, IsPrim, IsStmt, IsStmts, IsUnary}
 use Rattle.pb_syntax.specs.Grammar as g
 use Rattle.pb_program.specs.declared.meaning.Meaning.TheVariants as meaning
+use Rattle.pb_names.specs.declared.fault.Fault.{Fault}
 use Rattle.pb_names.specs.Turns.{turn_faults}
 use Rattle.pb_names.specs.Bodies.{Visible, after, called_faults, called_name, declare, declared_faults, expr_faults, exprs_faults, is_visible, operands_faults, stmt_faults, stmts_faults, use_faults}
 use Rattle.pb_names.proofs.BodiesFit.{body_faults_are}
@@ -30,12 +32,27 @@ module _ (v : Visible) where
   declared_of : (n : NameValue) → Of n (declared_faults v n)
   declared_of n = duplicate_of (is_visible v n) n
 
+  use_at : {t : Token} {fs : List Fault} {all rest : List Token} → Is k.Name t → Told fs (t ∷ all) rest → Told (use_faults v (name_in t) ++ fs) (t ∷ all) rest
+  use_at {t = t} i h = stay (use_faults v (name_in t)) i (use_of (name_in t)) h
+
+  call_at : {t : Token} {fs : List Fault} {all rest : List Token} → Is k.Name t → Told fs (t ∷ all) rest
+      → Told (called_faults v (name_in t) ++ fs) (t ∷ all) rest
+  call_at {t = t} i h = stay (called_faults v (name_in t)) i (called_of (name_in t)) h
+
+  declare_at : {t : Token} {fs : List Fault} {all rest : List Token} → Is k.Name t → Told fs (t ∷ all) rest
+      → Told (declared_faults v (name_in t) ++ fs) (t ∷ all) rest
+  declare_at {t = t} i h = stay (declared_faults v (name_in t)) i (declared_of (name_in t)) h
+
+  use_alone : {t : Token} {rest : List Token} → Is k.Name t → Told (use_faults v (name_in t)) (t ∷ rest) rest
+  use_alone {t = t} i = named (use_faults v (name_in t)) i (use_of (name_in t))
+
   mutual
     line_told : {l : Level} {x : ExprTree} {all rest : List Token} → IsLine l x all rest → Told (expr_faults v x) all rest
     line_told (g.a_line {xs = []} i g.no_operand) = operand_told i
     line_told (g.a_line {xs = x ∷ xs} i j) = join (operand_told i) (operands_told j)
 
-    operands_told : {l : Level} {xs : List (Operator × ExprTree)} {all rest : List Token} → IsOperands l xs all rest → Told (operands_faults v (operands xs)) all rest
+    operands_told : {l : Level} {xs : List (Operator × ExprTree)} {all rest : List Token} → IsOperands l xs all rest
+        → Told (operands_faults v (operands xs)) all rest
     operands_told g.no_operand = nothing
     operands_told (g.an_operand e i j) = skip (join (operand_told i) (operands_told j))
 
@@ -56,13 +73,13 @@ module _ (v : Visible) where
 
     prim_told : {x : ExprTree} {all rest : List Token} → IsPrim x all rest → Told (expr_faults v x) all rest
     prim_told (g.a_number i) = skip nothing
-    prim_told (g.the_name {t = t} i) = named (use_faults v (name_in t)) i (use_of (name_in t))
-    prim_told (g.call_of_none {n = n} i o c) = stay (called_faults v (name_in n)) i (called_of (name_in n)) (skip (skip (skip nothing)))
-    prim_told (g.call_of {n = n} i o xs) = stay (called_faults v (name_in n)) i (called_of (name_in n)) (skip (skip (arguments_told xs)))
+    prim_told (g.the_name i) = use_alone i
+    prim_told (g.call_of_none i o c) = call_at i (skip (skip (skip nothing)))
+    prim_told (g.call_of i o xs) = call_at i (skip (skip (arguments_told xs)))
     prim_told (g.in_parentheses o x c) = skip (past (line_told x))
-    prim_told (g.cell_of {n = n} i d w o xs) = stay (use_faults v (name_in n)) i (use_of (name_in n)) (skip (skip (skip (skip (coordinates_told xs)))))
-    prim_told (g.width_of {n = n} i d w o c) = past (past (past (past (named (use_faults v (name_in n)) i (use_of (name_in n))))))
-    prim_told (g.height_of {n = n} i d w o c) = past (past (past (past (named (use_faults v (name_in n)) i (use_of (name_in n))))))
+    prim_told (g.cell_of i d w o xs) = use_at i (skip (skip (skip (skip (coordinates_told xs)))))
+    prim_told (g.width_of i d w o c) = past (past (past (past (use_alone i))))
+    prim_told (g.height_of i d w o c) = past (past (past (past (use_alone i))))
 
     arguments_told : {xs : List ExprTree} {all rest : List Token} → IsArguments xs all rest → Told (exprs_faults v (exprs xs)) all rest
     arguments_told (g.last_argument x c) = join (line_told x) (skip nothing)
@@ -76,23 +93,23 @@ module _ (v : Visible) where
   list_told xs {all = all} {rest = rest} h = subst (λ l. Told l all rest) (listed v xs) h
 
   name_told : (n : NameValue) (all rest : List Token) → IsName n all rest → Told (use_faults v n) all rest
-  name_told n all rest (g.a_name {t = t} i) = named (use_faults v (name_in t)) i (use_of (name_in t))
+  name_told n all rest (g.a_name i) = use_alone i
 
 mutual
   stmt_told : (v : Visible) {s : StmtTree} {all rest : List Token} → IsStmt s all rest → Told (stmt_faults v s) all rest
-  stmt_told v (g.let_a_number {n = n} i j e x s) = skip (stay (declared_faults v (name_in n)) j (declared_of v (name_in n)) (skip (skip (past (line_told v x)))))
-  stmt_told v (g.let_a_matrix {n = n} i j b ds s) =
-      skip (stay (declared_faults v (name_in n)) j (declared_of v (name_in n)) (skip (skip (past (dims_told (use_faults v) (use_of v) ds)))))
-  stmt_told v (g.an_assignment {n = n} i e x s) = stay (use_faults v (name_in n)) i (use_of v (name_in n)) (skip (skip (past (line_told v x))))
-  stmt_told v (g.a_call {xs = list} {n = n} {p = p} {f = f} i m j ns e l o xs s) =
-      join (stay (use_faults v (name_in n)) i (use_of v (name_in n)) (skip (skip (stay (use_faults v (name_in p)) j (use_of v (name_in p)) (skip (items_told (use_faults v) (name_told v) ns))))))
-      (skip (stay (called_faults v (name_in f)) l (called_of v (name_in f)) (skip (skip (past (list_told v list (arguments_told v xs)))))))
-  stmt_told v (g.a_cell_assignment {xs = list} {n = n} i d w o xs e x s) =
-      stay (use_faults v (name_in n)) i (use_of v (name_in n)) (skip (skip (skip (skip (join (list_told v list (coordinates_told v xs)) (skip (past (line_told v x))))))))
+  stmt_told v (g.let_a_number i j e x s) = skip (declare_at v j (skip (skip (past (line_told v x)))))
+  stmt_told v (g.let_a_matrix i j b ds s) = skip (declare_at v j (skip (skip (past (dims_told (use_faults v) (use_of v) ds)))))
+  stmt_told v (g.an_assignment i e x s) = use_at v i (skip (skip (past (line_told v x))))
+  stmt_told v (g.a_call {xs = list} i m j ns e l o xs s) =
+      join (use_at v i (skip (skip (use_at v j (skip (items_told (use_faults v) (name_told v) ns))))))
+      (skip (call_at v l (skip (skip (past (list_told v list (arguments_told v xs)))))))
+  stmt_told v (g.a_cell_assignment {xs = list} i d w o xs e x s) =
+      use_at v i (skip (skip (skip (skip (join (list_told v list (coordinates_told v xs)) (skip (past (line_told v x))))))))
   stmt_told v (g.an_if i o x c ss) = skip (skip (join (line_told v x) (skip (block_told v ss))))
   stmt_told v (g.an_if_else i o x c ss l others) = skip (skip (join (line_told v x) (skip (join (block_told v ss) (skip (block_told v others))))))
   stmt_told v (g.a_for {n = n} i o j e a d b c ss) =
-      skip (skip (stay (declared_faults v (name_in n)) j (declared_of v (name_in n)) (skip (skip (join (line_told v a) (skip (join (line_told v b) (skip (block_told (declare v (name_in n) meaning.Number) ss)))))))))
+      let inner = declare v (name_in n) meaning.Number in
+      skip (skip (declare_at v j (skip (skip (join (line_told v a) (skip (join (line_told v b) (skip (block_told inner ss)))))))))
 
   block_told : (v : Visible) {ss : List StmtTree} {all rest : List Token} → IsBlock ss all rest → Told (stmts_faults v (stmts ss)) all rest
   block_told v (g.a_block o ss) = skip (stmts_told v ss)

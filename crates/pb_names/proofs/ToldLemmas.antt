@@ -25,7 +25,8 @@ use Rattle.pb_names.proofs.ListFits.{all_same}
 pub data Told : List Fault → List Token → List Token → Type 0 where
   nothing : {rest : List Token} → Told [] rest rest
   skip : {faults : List Fault} {t : Token} {all rest : List Token} → Told faults all rest → Told faults (t ∷ all) rest
-  tell : {f : Fault} {faults : List Fault} {t : Token} {all rest : List Token} → Is k.Name t → place_of f ≡ (name_in t).at → Told faults (t ∷ all) rest → Told (f ∷ faults) (t ∷ all) rest
+  tell : {f : Fault} {faults : List Fault} {t : Token} {all rest : List Token} → Is k.Name t → place_of f ≡ (name_in t).at → Told faults (t ∷ all) rest
+      → Told (f ∷ faults) (t ∷ all) rest
 
 pub join : {fs gs : List Fault} {all mid rest : List Token} → Told fs all mid → Told gs mid rest → Told (fs ++ gs) all rest
 join nothing k = k
@@ -62,7 +63,8 @@ bad_output_of true n = (refl, tt {0})
 bad_output_of false n = tt {0}
 
 -- those of a name, and then those from it on; and those of a name alone
-pub stay : {fs : List Fault} {t : Token} {all rest : List Token} (gs : List Fault) → Is k.Name t → Of (name_in t) gs → Told fs (t ∷ all) rest → Told (gs ++ fs) (t ∷ all) rest
+pub stay : {fs : List Fault} {t : Token} {all rest : List Token} (gs : List Fault) → Is k.Name t → Of (name_in t) gs → Told fs (t ∷ all) rest
+    → Told (gs ++ fs) (t ∷ all) rest
 stay [] is of h = h
 stay (f ∷ gs) is of h = tell is of.0 (stay gs is of.1 h)
 

@@ -28,7 +28,6 @@ use Rattle.pb_names.specs.Bodies.{Visible, function_of, is_visible}
 use Rattle.pb_names.specs.Views.{Matrices, Place, after_out, after_outs, after_read, are_free, bind, binders, binders_in, bound_faults, cond_faults, coordinate_names, coordinates_faults, forms_of, is_bad_output, is_in_views, is_matrix, is_size, out_faults_at, out_scope, put_name, read_faults_at, reads_faults, start, view_form_faults, view_name_faults}
 use Rattle.pb_names.specs.Rules.{inner, is_single, rule_faults}
 use Rattle.pb_names.specs.Transforms.{IsRefused, IsRefusedFor, Minimums, all_names, between, faults_of, given, header_faults, matrices_of, matrix_faults, minimum_faults, named_faults, next_matrix, next_minimum, next_transform, refusal_of, seen}
-use Rattle.pb_names.proofs.ListFits.{all_append}
 use Rattle.pb_names.proofs.ToldLemmas.{Of, Told, bad_output_of, dims_told, duplicate_of, form_told, in_order, items_told, join, named, not_bound_of, nothing, past, skip, stay, turns_told, unknown_of}
 use Rattle.pb_names.proofs.ToldBodies.{body_told}
 
@@ -64,7 +63,8 @@ module _ (v : Visible) where
   view_told (g.column d w o x c) = skip (skip (skip (join (view_form_told x) (skip nothing))))
   view_told (g.region_2 d w o a m b c) = skip (skip (skip (join (view_form_told a) (skip (join (view_form_told b) (skip nothing))))))
   view_told (g.region_4 d w o a m b p e q f c) =
-      skip (skip (skip (join (view_form_told a) (skip (join (view_form_told b) (skip (join (view_form_told e) (skip (join (view_form_told f) (skip nothing))))))))))
+      let second = join (view_form_told e) (skip (join (view_form_told f) (skip nothing))) in
+      skip (skip (skip (join (view_form_told a) (skip (join (view_form_told b) (skip second))))))
 
   cond_told : (c : CondText) (all rest : List Token) → IsCond c all rest → Told (cond_faults v c) all rest
   cond_told c all rest (g.a_cond a r b) = join (view_form_told a) (skip (view_form_told b))
@@ -102,7 +102,8 @@ module _ (ms : Matrices) where
   coordinates_told : (v : Visible) (n b : NameValue) (w : ViewText) (all rest : List Token) → IsView w all rest
       → Told (coordinates_faults ms v (record { matrix = n; view = w; bound = b }) (binders_in v (coordinate_names w))) all rest
   coordinates_told v n b w all rest (g.cell_x {x = x} d i o h c) =
-      one_by v (record { matrix = n; view = w; bound = b }) all rest (view_told v (g.cell_x d i o h c)) x (λ n fs e of. skip (skip (skip (past (form_alone n fs of h e))))) (alone x) refl
+      one_by v (record { matrix = n; view = w; bound = b }) all rest (view_told v (g.cell_x d i o h c)) x
+      (λ n fs e of. skip (skip (skip (past (form_alone n fs of h e))))) (alone x) refl
   coordinates_told v n b w all rest (g.cell_xy {x = x} {y = y} d i o h m k c) =
       two_by v (record { matrix = n; view = w; bound = b }) all rest (view_told v (g.cell_xy d i o h m k c)) x y
       (λ n m fs gs e d of og. skip (skip (skip (join (form_alone n fs of h e) (skip (past (form_alone m gs og k d))))))) (alone x) (alone y) refl refl
@@ -157,9 +158,10 @@ module _ (v : Visible) where
   minimum_told known m all rest (g.a_minimum {n = t} i j l) =
       let n = name_in t in
       let d = is_some (look n.bytes known) in
-      past (past (named (duplicate d n ++ header_faults v n) i (all_append (λ f. place_of f ≡ n.at) (duplicate d n) (header_faults v n) (duplicate_of d n) (header_of n))))
+      past (past (stay (duplicate d n) i (duplicate_of d n) (named (header_faults v n) i (header_of n))))
 
-  minimums_told : {ms : List (NameValue × ℕ)} {all rest : List Token} → IsMinimums ms all rest → Told (turn_faults next_minimum (minimum_faults v) [] ms) all rest
+  minimums_told : {ms : List (NameValue × ℕ)} {all rest : List Token} → IsMinimums ms all rest
+      → Told (turn_faults next_minimum (minimum_faults v) [] ms) all rest
   minimums_told g.no_minimums = nothing
   minimums_told (g.some_minimums {x = x} {all = all} {mid = mid} w i more) =
       skip (join (minimum_told [] x all mid i) (turns_told next_minimum (minimum_faults v) minimum_told (next_minimum [] x) more))
@@ -170,16 +172,19 @@ module _ (v : Visible) where
       let b = is_size (look n.bytes v.names) || is_some (look n.bytes known) in
       stay (duplicate b n) i (duplicate_of b n) (skip (skip (dims_told (header_faults v) header_of ds)))
 
-  decls_told : (known : List (List ℕ × Matrix)) {ds : List DeclValue} {all rest : List Token} → IsDecls ds all rest → Told (turn_faults next_matrix (matrix_faults v) known ds) all rest
+  decls_told : (known : List (List ℕ × Matrix)) {ds : List DeclValue} {all rest : List Token} → IsDecls ds all rest
+      → Told (turn_faults next_matrix (matrix_faults v) known ds) all rest
   decls_told known (g.some_decls {d = d} {all = all} {mid = mid} i more) =
       join (decl_told known d all mid i) (turns_told next_matrix (matrix_faults v) decl_told (next_matrix known d) more)
 
-  through_told : (known : List (List ℕ × Matrix)) {ds : List DeclValue} {all rest : List Token} → IsThrough ds all rest → Told (turn_faults next_matrix (matrix_faults v) known ds) all rest
+  through_told : (known : List (List ℕ × Matrix)) {ds : List DeclValue} {all rest : List Token} → IsThrough ds all rest
+      → Told (turn_faults next_matrix (matrix_faults v) known ds) all rest
   through_told known g.no_through = nothing
   through_told known (g.some_through i ds) = skip (decls_told known ds)
 
 module _ (transforms : List (List ℕ × ℕ)) where
-  transform_told : (known : List (List ℕ × ℕ)) (t : TransformTree) (all rest : List Token) → IsTransform t all rest → Told (named_faults transforms known t) all rest
+  transform_told : (known : List (List ℕ × ℕ)) (t : TransformTree) (all rest : List Token) → IsTransform t all rest
+      → Told (named_faults transforms known t) all rest
   transform_told known t whole rest (g.a_transform {r = r} {n = token} {mid₄ = mid4} {mid₅ = mid5} i j ms f from kept o to b h more c) =
       let n = name_in token in
       let v = seen transforms t in
@@ -188,15 +193,19 @@ module _ (transforms : List (List ℕ × ℕ)) where
       (join (decls_told v [] from) (join (through_told v (given t) kept) (skip (decls_told v (between t) to))))
       (skip (join (rule_told (matrices_of t) v r mid4 mid5 h) (past (rules_told (matrices_of t) v more)))))))))
 
-  transforms_told : (known : List (List ℕ × ℕ)) {ts : List TransformTree} {all rest : List Token} → IsTransforms ts all rest → Told (turn_faults next_transform (named_faults transforms) known ts) all rest
+  transforms_told : (known : List (List ℕ × ℕ)) {ts : List TransformTree} {all rest : List Token} → IsTransforms ts all rest
+      → Told (turn_faults next_transform (named_faults transforms) known ts) all rest
   transforms_told known g.no_transforms = nothing
-  transforms_told known (g.one_transform {x = x} {all = all} {mid = mid} i more) = join (transform_told known x all mid i) (transforms_told (next_transform known x) more)
+  transforms_told known (g.one_transform {x = x} {all = all} {mid = mid} i more) =
+      join (transform_told known x all mid i) (transforms_told (next_transform known x) more)
 
 program_told : (tree : List TransformTree) (ts : List Token) → IsProgram tree ts → Told (faults_of tree) ts []
-program_told tree ts (g.a_program {x = x} {mid = mid} i more) = let all = all_names tree in join (transform_told all [] x ts mid i) (transforms_told all (next_transform [] x) more)
+program_told tree ts (g.a_program {x = x} {mid = mid} i more) =
+    join (transform_told (all_names tree) [] x ts mid i) (transforms_told (all_names tree) (next_transform [] x) more)
 
 -- the faults of a program stand in the order of its text
-pub faults_in_order : (tree : List TransformTree) (ts : List Token) (least end : ℕ) → IsProgram tree ts → AreLexemes ts → RiseBetween least end ts → NeverFalls (map place_of (faults_of tree))
+pub faults_in_order : (tree : List TransformTree) (ts : List Token) (least end : ℕ) → IsProgram tree ts → AreLexemes ts → RiseBetween least end ts
+    → NeverFalls (map place_of (faults_of tree))
 faults_in_order tree ts least end is are rise = (in_order least end (program_told tree ts is) are rise).1
 
 told_is : (f : Fault) → told_at (refusal_of f) ≡ place_of f
@@ -217,6 +226,7 @@ least_by (f ∷ fs) e order is =
     (omega arith, subst (λ p. AllByRecursion (λ f. p ≤ place_of f) fs) at (not_before (place_of f) fs order.0))
 
 -- and the one that is told stands at the least place
-pub least_told : (tree : List TransformTree) (ts : List Token) (least end : ℕ) (e : Refusal) → IsProgram tree ts → AreLexemes ts → RiseBetween least end ts → IsRefused tree e
+pub least_told : (tree : List TransformTree) (ts : List Token) (least end : ℕ) (e : Refusal) → IsProgram tree ts → AreLexemes ts → RiseBetween least end ts
+    → IsRefused tree e
     → AllByRecursion (λ f. told_at e ≤ place_of f) (faults_of tree)
 least_told tree ts least end e is are rise told = least_by (faults_of tree) e (faults_in_order tree ts least end is are rise) told
