@@ -2,7 +2,8 @@
 //! of these; and the parts with which `pb_resolve` builds.
 //!
 //! In: trees, names, resolved expressions and statements. Out: maps of names in order of declaration; resolved expressions
-//! and statements; the calls of a plan. The theorem: a tree is one program, or is refused for one fault.
+//! and statements; the calls of a plan. The theorem: a tree is one program, which is well formed, or is refused for one
+//! fault, the first in the text.
 #![tactic(auto)]
 
 mod fault;
