@@ -20,7 +20,7 @@ use Rattle.pb_names.specs.Names.{look}
 use Rattle.pb_names.specs.Faults.{unknown}
 use Rattle.pb_names.specs.Turns.{turns, turn_faults}
 use Rattle.pb_names.specs.Bodies.{Visible, after, called, called_by, called_faults, callee_or, declare, expr_faults, expr_of, exprs_faults, exprs_of, form_faults, function_of, local_form, meaning_or, named, operands_faults, operands_of, stmt_faults, stmt_of, stmts_faults, stmts_of, term_faults, term_of, use_faults}
-use Rattle.pb_names.proofs.ListFits.{all_append, all_same, all_three, both, clean_mapped, found_fits}
+use Rattle.pb_names.proofs.ListFits.{all_push, all_same, all_three, both, clean_mapped, found_fits}
 use Rattle.pb_names.proofs.FormsFit.{Fit}
 
 -- the statements of a body as those of a block
@@ -35,14 +35,10 @@ body_faults_are v (s ∷ ss) = ap (λ rest. stmt_faults v s ++ rest) (body_fault
 -- as many statements as in the text
 mutual
   count_in : (v : Visible) (s : StmtTree) → statements_in (stmt_of v s) ≡ tree.statements_in s
-  count_in v (text_stmt.let_number at n x) = refl
-  count_in v (text_stmt.let_matrix at n dims) = refl
-  count_in v (text_stmt.assign n x) = refl
-  count_in v (text_stmt.call_stmt ns n xs) = refl
-  count_in v (text_stmt.assign_cell n xs x) = refl
   count_in v (text_stmt.if_stmt at x ss) = ap (λ n. 1 + n) (count_among v ss)
   count_in v (text_stmt.if_else at x ss others) = rw (count_among v ss, count_among v others) refl
   count_in v (text_stmt.for_stmt at n x y ss) = ap (λ n. 1 + n) (count_among (declare v n meaning.Number) ss)
+  count_in v s = refl
 
   count_among : (v : Visible) (ss : StmtTrees) → statements_among (stmts_of v ss) ≡ tree.statements_among ss
   count_among v text_stmt.no_stmts = refl
@@ -55,13 +51,9 @@ body_count v (s ∷ ss) = rw (count_in v s, body_count (after v s) ss) refl
 module _ (a : Around) where
   -- with more locals
   still : (l k : ℕ) (m : Meaning) → l ≤ k → IsThere a l m → IsThere a k m
-  still l k (meaning.Size i) most h = h
-  still l k meaning.RuleX most h = h
-  still l k meaning.RuleY most h = h
-  still l k (meaning.Output i) most h = h
-  still l k (meaning.Read i) most h = h
   still l k (meaning.Number i) most h = omega arith
   still l k (meaning.Matrix i) most h = omega arith
+  still l k m most h = h
 
   -- all that a place of a body sees is there
   pub record Sees (v : Visible) : Type 0 where
@@ -70,8 +62,8 @@ module _ (a : Around) where
 
   declared : (v : Visible) → Sees v → (n : NameValue) (what : ℕ → Meaning) → IsThere a (v.locals + 1) (what v.locals) → Sees (declare v n what)
   declared v s n what there = record {
-    names = all_append (λ e. IsThere a (v.locals + 1) e.1) v.names ((n.bytes, what v.locals) ∷ [])
-        (all_same (λ e. IsThere a v.locals e.1) (λ e. IsThere a (v.locals + 1) e.1) (λ e h. still v.locals (v.locals + 1) e.1 (omega arith) h) v.names s.names) (there, tt {0});
+    names = all_push (λ e. IsThere a (v.locals + 1) e.1) v.names (n.bytes, what v.locals) (all_same (λ e. IsThere a v.locals e.1)
+        (λ e. IsThere a (v.locals + 1) e.1) (λ e h. still v.locals (v.locals + 1) e.1 (omega arith) h) v.names s.names) there;
     transforms = s.transforms;
   }
 
@@ -79,7 +71,8 @@ module _ (a : Around) where
   used_by l n (Some m) h e = h
   used_by l n None h e = cc
 
-  called_there : (n : NameValue) (f : Option Function) (t : Option ℕ) → IfSome t (λ k. k < a.transforms) → unknown (not (is_some (called_by f t))) n ≡ [] → IsCallee a (callee_or (called_by f t))
+  called_there : (n : NameValue) (f : Option Function) (t : Option ℕ) → IfSome t (λ k. k < a.transforms) → unknown (not (is_some (called_by f t))) n ≡ []
+      → IsCallee a (callee_or (called_by f t))
   called_there n (Some f) t h e = tt {0}
   called_there n None (Some t) h e = h
   called_there n None None h e = cc
@@ -132,22 +125,11 @@ module _ (a : Around) where
     seen_after : (x : StmtTree) → Sees (after v x)
     seen_after (text_stmt.let_number at n x) = declared v s n meaning.Number (omega arith)
     seen_after (text_stmt.let_matrix at n dims) = declared v s n meaning.Matrix (omega arith)
-    seen_after (text_stmt.assign n x) = s
-    seen_after (text_stmt.call_stmt ns n xs) = s
-    seen_after (text_stmt.assign_cell n xs x) = s
-    seen_after (text_stmt.if_stmt at x ss) = s
-    seen_after (text_stmt.if_else at x ss others) = s
-    seen_after (text_stmt.for_stmt at n x y ss) = s
+    seen_after x = s
 
   locals_after : (v : Visible) (x : StmtTree) → (after v x).locals ≡ fits.after a v.locals (stmt_of v x)
   locals_after v (text_stmt.let_number at n x) = refl
-  locals_after v (text_stmt.let_matrix at n dims) = refl
-  locals_after v (text_stmt.assign n x) = refl
-  locals_after v (text_stmt.call_stmt ns n xs) = refl
-  locals_after v (text_stmt.assign_cell n xs x) = refl
-  locals_after v (text_stmt.if_stmt at x ss) = refl
-  locals_after v (text_stmt.if_else at x ss others) = refl
-  locals_after v (text_stmt.for_stmt at n x y ss) = refl
+  locals_after v x = refl
 
   mutual
     stmt_fits : (v : Visible) → Sees v → (x : StmtTree) → stmt_faults v x ≡ [] → IsStmt a v.locals (stmt_of v x)
@@ -159,13 +141,16 @@ module _ (a : Around) where
     stmt_fits v s (text_stmt.if_stmt at x ss) e = both (expr_fits v s x) (stmts_fit v s ss) e
     stmt_fits v s (text_stmt.if_else at x ss others) e = all_three (expr_fits v s x) (stmts_fit v s ss) (stmts_fit v s others) e
     stmt_fits v s (text_stmt.for_stmt at n x y ss) e =
-        let parts = both (λ d. d) (all_three (expr_fits v s x) (expr_fits v s y) (stmts_fit (declare v n meaning.Number) (declared v s n meaning.Number (omega arith)) ss)) e in
+        let inner = stmts_fit (declare v n meaning.Number) (declared v s n meaning.Number (omega arith)) ss in
+        let parts = both (λ d. d) (all_three (expr_fits v s x) (expr_fits v s y) inner) e in
         (refl, parts.1.0, parts.1.1, parts.1.2)
 
     stmts_fit : (v : Visible) → Sees v → (ss : StmtTrees) → stmts_faults v ss ≡ [] → AreStmts a v.locals (stmts_of v ss)
     stmts_fit v s text_stmt.no_stmts e = tt {0}
     stmts_fit v s (text_stmt.a_stmt x rest) e =
-        both (stmt_fits v s x) (λ d. subst (λ l. AreStmts a l (stmts_of (after v x) rest)) (locals_after v x) (stmts_fit (after v x) (seen_after v s x) rest d)) e
+        let others = λ (d : stmts_faults (after v x) rest ≡ []). stmts_fit (after v x) (seen_after v s x) rest d in
+        both (stmt_fits v s x) (λ d. subst (λ l. AreStmts a l (stmts_of (after v x) rest)) (locals_after v x) (others d)) e
 
-  pub body_fits : (v : Visible) → Sees v → (ss : List StmtTree) → turn_faults after stmt_faults v ss ≡ [] → AreStmts a v.locals (stmts (turns after stmt_of v ss))
+  pub body_fits : (v : Visible) → Sees v → (ss : List StmtTree) → turn_faults after stmt_faults v ss ≡ []
+      → AreStmts a v.locals (stmts (turns after stmt_of v ss))
   body_fits v s ss e = subst (AreStmts a v.locals) (sym (body_is v ss)) (stmts_fit v s (text_stmt.stmts ss) (sym (body_faults_are v ss) ∙ e))

@@ -59,6 +59,11 @@ pub record SumFits (sizes variables n : ℕ) (c : CoordinateValue) : Type 0 wher
   pub one : variables ≤ 1 → c.y ≡ pos 0
   pub rest : RestFits sizes n c.rest
 
+rest_of : {sizes n : ℕ} (r : Numbers) → IsTrue (is_within n r.constant) → RowFits sizes n r.whole → RowFits sizes n r.half → RowFits sizes n r.third
+    → RowFits sizes n r.quarter
+    → RestFits sizes n r
+rest_of r c w h t q = record { constant = c; whole = w; half = h; third = t; quarter = q }
+
 module _ (sizes n : ℕ) where
   more : (row : List ℤ) → RowFits sizes n row → RowFits sizes (n + 1) row
   more row h = record { small = row_more n row h.small; past = h.past }
@@ -70,15 +75,16 @@ module _ (sizes n : ℕ) where
   }
 
   rest_more : (r : Numbers) → RestFits sizes n r → RestFits sizes (n + 1) r
-  rest_more r h = record { constant = within_more n r.constant h.constant; whole = more r.whole h.whole; half = more r.half h.half; third = more r.third h.third; quarter = more r.quarter h.quarter }
+  rest_more r h = rest_of r (within_more n r.constant h.constant) (more r.whole h.whole) (more r.half h.half) (more r.third h.third) (more r.quarter h.quarter)
 
   module _ (r : Numbers) (k : ℕ) (d : ℤ) (there : k < sizes) (small : unsigned_abs d ≤ 2 ^ 20) (h : RestFits sizes n r) where
-    by_quotient : (a b c : Bool) → RestFits sizes (n + 1) (if a then record r { whole = add_to r.whole k d } else if b then record r { half = add_to r.half k d } else
+    by_quotient : (a b c : Bool)
+        → RestFits sizes (n + 1) (if a then record r { whole = add_to r.whole k d } else if b then record r { half = add_to r.half k d } else
         if c then record r { third = add_to r.third k d } else record r { quarter = add_to r.quarter k d })
-    by_quotient true b c = let o = rest_more r h in record { constant = o.constant; whole = added r.whole k d there small h.whole; half = o.half; third = o.third; quarter = o.quarter }
-    by_quotient false true c = let o = rest_more r h in record { constant = o.constant; whole = o.whole; half = added r.half k d there small h.half; third = o.third; quarter = o.quarter }
-    by_quotient false false true = let o = rest_more r h in record { constant = o.constant; whole = o.whole; half = o.half; third = added r.third k d there small h.third; quarter = o.quarter }
-    by_quotient false false false = let o = rest_more r h in record { constant = o.constant; whole = o.whole; half = o.half; third = o.third; quarter = added r.quarter k d there small h.quarter }
+    by_quotient true b c = let o = rest_more r h in rest_of _ o.constant (added r.whole k d there small h.whole) o.half o.third o.quarter
+    by_quotient false true c = let o = rest_more r h in rest_of _ o.constant o.whole (added r.half k d there small h.half) o.third o.quarter
+    by_quotient false false true = let o = rest_more r h in rest_of _ o.constant o.whole o.half (added r.third k d there small h.third) o.quarter
+    by_quotient false false false = let o = rest_more r h in rest_of _ o.constant o.whole o.half o.third (added r.quarter k d there small h.quarter)
 
     size_added : (q : ℕ) → RestFits sizes (n + 1) (add_size r k q d)
     size_added q = by_quotient (q == 0) (q == 2) (q == 3)
@@ -113,7 +119,7 @@ nothing_there sizes variables = coordinate_fits sizes variables 0 nothing (omega
 pub constant_fits : (sizes : ℕ) (k : ℕ) → k ≤ 1 → IsForm sizes (constant_numbers (pos k))
 constant_fits sizes k h =
     let z : RowFits sizes 1 no_coefficients = more sizes 0 no_coefficients (zeros_fit sizes) in
-    form_fits sizes 1 (constant_numbers (pos k)) (omega arith) (record { constant = grind (arith, ints, nat_tests); whole = z; half = z; third = z; quarter = z })
+    form_fits sizes 1 (constant_numbers (pos k)) (omega arith) (rest_of _ (grind (arith, ints, nat_tests)) z z z z)
 
 module _ (a : Around) (l : ℕ) where
   -- each of these names names what is there
@@ -134,13 +140,11 @@ module _ (a : Around) (l : ℕ) where
       y_added there false = record { x = same.x; y = same.y; none = h.none; one = h.one; rest = same.rest }
 
       named_added : (m : Meaning) (q : ℕ) → IsThere a l m → SumFits a.sizes a.variables (n + 1) (add_named c m q d)
-      named_added (meaning.Size k) q there = record { x = same.x; y = same.y; none = h.none; one = h.one; rest = size_added a.sizes n c.rest k d there small h.rest q }
+      named_added (meaning.Size k) q there =
+          record { x = same.x; y = same.y; none = h.none; one = h.one; rest = size_added a.sizes n c.rest k d there small h.rest q }
       named_added meaning.RuleX q there = x_added there (q == 0)
       named_added meaning.RuleY q there = y_added there (q == 0)
-      named_added (meaning.Output k) q there = same
-      named_added (meaning.Read k) q there = same
-      named_added (meaning.Number k) q there = same
-      named_added (meaning.Matrix k) q there = same
+      named_added m q there = same
 
       found_added : (o : Option Meaning) (q : ℕ) → IfSome o (IsThere a l) → SumFits a.sizes a.variables (n + 1) (add_found c o q d)
       found_added (Some m) q there = named_added m q there
@@ -149,21 +153,25 @@ module _ (a : Around) (l : ℕ) where
       number_added : SumFits a.sizes a.variables (n + 1) (add_number c d)
       number_added =
           let r = same.rest in
-          record { x = same.x; y = same.y; none = h.none; one = h.one; rest = record { constant = within_added n c.rest.constant d h.rest.constant small; whole = r.whole; half = r.half; third = r.third; quarter = r.quarter } }
+          let rest = rest_of _ (within_added n c.rest.constant d h.rest.constant small) r.whole r.half r.third r.quarter in
+          record { x = same.x; y = same.y; none = h.none; one = h.one; rest = rest }
 
       by_name : (names : List (List ℕ × Meaning)) → Fit names → (o : Option NameValue) (q : ℕ) → SumFits a.sizes a.variables (n + 1) (add_by_name names c o q d)
       by_name names fit None q = number_added
       by_name names fit (Some name) q = found_added (look name.bytes names) q (found_fits (IsThere a l) name.bytes names fit)
 
   module _ (names : List (List ℕ × Meaning)) (fit : Fit names) where
-    term_added : (n : ℕ) (c : CoordinateValue) → SumFits a.sizes a.variables n c → (minus : Bool) (t : TermText) → TermWithin t → SumFits a.sizes a.variables (n + 1) (add_term names c minus t)
+    term_added : (n : ℕ) (c : CoordinateValue) → SumFits a.sizes a.variables n c → (minus : Bool) (t : TermText) → TermWithin t
+        → SumFits a.sizes a.variables (n + 1) (add_term names c minus t)
     term_added n c h minus t w = by_name n c h (signed minus t.factor) (signed_small minus t.factor w.factor) names fit t.name t.quotient
 
-    terms_fit : (n : ℕ) (c : CoordinateValue) (ts : List TermText) → n + length ts ≤ 8 → SumFits a.sizes a.variables n c → AllByRecursion TermWithin ts → IsCoordinate a.sizes a.variables (add_terms names c ts)
+    terms_fit : (n : ℕ) (c : CoordinateValue) (ts : List TermText) → n + length ts ≤ 8 → SumFits a.sizes a.variables n c → AllByRecursion TermWithin ts
+        → IsCoordinate a.sizes a.variables (add_terms names c ts)
     terms_fit n c [] few h w = coordinate_fits a.sizes a.variables n c (omega arith) h
     terms_fit n c (t ∷ ts) few h w = terms_fit (n + 1) (add_term names c t.minus t) ts (omega arith) (term_added n c h t.minus t w.0) w.1
 
-    sum_fits : (minus : Bool) (ts : List TermText) → length ts ≤ 8 → AllByRecursion TermWithin ts → IsCoordinate a.sizes a.variables (sum_of_terms names minus ts)
+    sum_fits : (minus : Bool) (ts : List TermText) → length ts ≤ 8 → AllByRecursion TermWithin ts
+        → IsCoordinate a.sizes a.variables (sum_of_terms names minus ts)
     sum_fits minus [] few w = nothing_there a.sizes a.variables
     sum_fits minus (t ∷ ts) few w =
         terms_fit 1 (add_term names nothing minus t) ts (omega arith) (term_added 0 nothing (nothing_fits a.sizes a.variables) minus t w.0) w.1

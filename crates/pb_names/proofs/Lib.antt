@@ -19,3 +19,6 @@ pub mod SizeNames
 pub mod SizesFit
 pub mod DistinctFit
 pub mod TransformsFit
+pub mod ToldLemmas
+pub mod ToldBodies
+pub mod ToldPrograms

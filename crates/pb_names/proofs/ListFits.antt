@@ -20,6 +20,9 @@ module _ {A : Type 0} (P : A → Type 0) where
   all_append [] ys h k = k
   all_append (x ∷ xs) ys h k = (h.0, all_append xs ys h.1 k)
 
+  pub all_push : (xs : List A) (x : A) → AllByRecursion P xs → P x → AllByRecursion P (xs ++ x ∷ [])
+  all_push xs x h k = all_append xs (x ∷ []) h (k, tt {0})
+
   pub all_drop : (n : ℕ) (xs : List A) → AllByRecursion P xs → AllByRecursion P (drop n xs)
   all_drop zero xs h = h
   all_drop (suc n) [] h = h
@@ -40,18 +43,21 @@ module _ {A B : Type 0} (f : A → B) (W : A → Type 0) (P : B → Type 0) wher
   all_mapped h [] w = tt {0}
   all_mapped h (x ∷ xs) w = (h x w.0, all_mapped h xs w.1)
 
-  pub within_mapped : (faults : A → List Fault) → ((x : A) → W x → faults x ≡ [] → P (f x)) → (xs : List A) → AllByRecursion W xs → flat_map faults xs ≡ [] → AllByRecursion P (map f xs)
+  pub within_mapped : (faults : A → List Fault) → ((x : A) → W x → faults x ≡ [] → P (f x)) → (xs : List A) → AllByRecursion W xs → flat_map faults xs ≡ []
+      → AllByRecursion P (map f xs)
   within_mapped faults h [] w e = tt {0}
   within_mapped faults h (x ∷ xs) w e = both (h x w.0) (within_mapped faults h xs w.1) e
 
-pub clean_mapped : {A B : Type 0} (f : A → B) (P : B → Type 0) (faults : A → List Fault) → ((x : A) → faults x ≡ [] → P (f x)) → (xs : List A) → flat_map faults xs ≡ [] → AllByRecursion P (map f xs)
+pub clean_mapped : {A B : Type 0} (f : A → B) (P : B → Type 0) (faults : A → List Fault) → ((x : A) → faults x ≡ [] → P (f x)) → (xs : List A)
+    → flat_map faults xs ≡ [] → AllByRecursion P (map f xs)
 clean_mapped f P faults h [] e = tt {0}
 clean_mapped f P faults h (x ∷ xs) e = both (h x) (clean_mapped f P faults h xs) e
 
 -- items in turn: what is seen where so many are left fits
 module _ {S A B : Type 0} (next : S → A → S) (made : S → A → B) (faults : S → A → List Fault) (Fits : ℕ → S → Type 0) (W : A → Type 0) (P : B → Type 0)
     (step : (n : ℕ) (s : S) (x : A) → Fits (suc n) s → W x → faults s x ≡ [] → P (made s x) × Fits n (next s x)) where
-  pub turns_fit : (s : S) (xs : List A) → Fits (length xs) s → AllByRecursion W xs → turn_faults next faults s xs ≡ [] → AllByRecursion P (turns next made s xs) × Fits 0 (after_turns next s xs)
+  pub turns_fit : (s : S) (xs : List A) → Fits (length xs) s → AllByRecursion W xs → turn_faults next faults s xs ≡ []
+      → AllByRecursion P (turns next made s xs) × Fits 0 (after_turns next s xs)
   turns_fit s [] h w e = (tt {0}, h)
   turns_fit s (x ∷ xs) h w e =
       let parts = both (λ d. d) (λ d. d) e in

@@ -70,7 +70,9 @@ module _ {V : Type 0} where
 module _ (names : List (List ℕ × Meaning)) (n : NameValue) where
   term_by : (b : Bool) (o : Option NameValue) (factor q : ℕ) → (b ≡ true → (factor ≡ 1) × (q ≡ 0)) → (if b then o else None) ≡ Some n
       → add_by_name names nothing o q (pos factor) ≡ add_found nothing (look n.bytes names) 0 (pos 1)
-  term_by true o factor q h e = let k = h refl in ap (λ m. add_by_name names nothing m q (pos factor)) e ∙ (λ i. add_found nothing (look n.bytes names) (k.1 i) (pos (k.0 i)))
+  term_by true o factor q h e =
+      let k = h refl in
+      ap (λ m. add_by_name names nothing m q (pos factor)) e ∙ (λ i. add_found nothing (look n.bytes names) (k.1 i) (pos (k.0 i)))
   term_by false o factor q h e = cc
 
   sum_by : (minus : Bool) (ts : List TermText) → alone_in minus ts ≡ Some n → sum_of_terms names minus ts ≡ add_found nothing (look n.bytes names) 0 (pos 1)

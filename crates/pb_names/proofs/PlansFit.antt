@@ -47,13 +47,7 @@ module _ (a : Around) (l : ℕ) (names : List (List ℕ × Meaning)) (fit : Fit 
   locals_fit : (ss : List StmtTree) → AllByRecursion (StmtWithin 1) ss → AllByRecursion (IsDecl a.sizes) (locals_of names ss)
   locals_fit [] w = tt {0}
   locals_fit (text.let_matrix at n dims ∷ ss) w = (decl_fits n dims w.0.0 w.0.1, locals_fit ss w.1)
-  locals_fit (text.let_number at n x ∷ ss) w = locals_fit ss w.1
-  locals_fit (text.assign n x ∷ ss) w = locals_fit ss w.1
-  locals_fit (text.call_stmt ns n xs ∷ ss) w = locals_fit ss w.1
-  locals_fit (text.assign_cell n xs x ∷ ss) w = locals_fit ss w.1
-  locals_fit (text.if_stmt at x body ∷ ss) w = locals_fit ss w.1
-  locals_fit (text.if_else at x body others ∷ ss) w = locals_fit ss w.1
-  locals_fit (text.for_stmt at n x y body ∷ ss) w = locals_fit ss w.1
+  locals_fit (s ∷ ss) w = locals_fit ss w.1
 
 module _ (a : Around) where
   -- the matrices that names name
@@ -61,29 +55,20 @@ module _ (a : Around) where
   slot_there l (meaning.Output k) h = h
   slot_there l (meaning.Read k) h = h
   slot_there l (meaning.Matrix k) h = h
-  slot_there l (meaning.Size k) h = tt {0}
-  slot_there l meaning.RuleX h = tt {0}
-  slot_there l meaning.RuleY h = tt {0}
-  slot_there l (meaning.Number k) h = tt {0}
+  slot_there l m h = tt {0}
 
   argument_there : (l : ℕ) (x : ExprValue) → IsExpr a l x → IfSome (argument_slot x) (SlotIsThere a l)
   argument_there l (e.name n) h = slot_there l n.what h
-  argument_there l (e.number at n) h = tt {0}
-  argument_there l (e.call c xs) h = tt {0}
-  argument_there l (e.parentheses at x) h = tt {0}
-  argument_there l (e.cell v xs) h = tt {0}
-  argument_there l (e.width v) h = tt {0}
-  argument_there l (e.height v) h = tt {0}
-  argument_there l (e.signed at sign x) h = tt {0}
-  argument_there l (e.chain level x rest) h = tt {0}
-  argument_there l (e.compare x relation y) h = tt {0}
+  argument_there l x h = tt {0}
 
-  put_there : {B : Type 0} (P : B → Type 0) (o : Option B) (rest : Option (List B)) → IfSome o P → IfSome rest (AllByRecursion P) → IfSome (put o rest) (AllByRecursion P)
+  put_there : {B : Type 0} (P : B → Type 0) (o : Option B) (rest : Option (List B)) → IfSome o P → IfSome rest (AllByRecursion P)
+      → IfSome (put o rest) (AllByRecursion P)
   put_there P (Some x) (Some rest) h k = (h, k)
   put_there P (Some x) None h k = tt {0}
   put_there P None rest h k = tt {0}
 
-  some_there : {A B : Type 0} (f : A → Option B) (W : A → Type 0) (P : B → Type 0) → ((x : A) → W x → IfSome (f x) P) → (xs : List A) → AllByRecursion W xs → IfSome (all_some f xs) (AllByRecursion P)
+  some_there : {A B : Type 0} (f : A → Option B) (W : A → Type 0) (P : B → Type 0) → ((x : A) → W x → IfSome (f x) P) → (xs : List A) → AllByRecursion W xs
+      → IfSome (all_some f xs) (AllByRecursion P)
   some_there f W P h [] w = tt {0}
   some_there f W P h (x ∷ xs) w = put_there P (f x) (all_some f xs) (h x w.0) (some_there f W P h xs w.1)
 
@@ -92,13 +77,15 @@ module _ (a : Around) where
     items_there no_exprs h = tt {0}
     items_there (an_expr x rest) h = (h.0, items_there rest h.1)
 
-    call_by_there : (t : ℕ) (targets arguments : Option (List Slot)) → t < a.transforms → IfSome targets (AllByRecursion (SlotIsThere a l)) → IfSome arguments (AllByRecursion (SlotIsThere a l))
+    call_by_there : (t : ℕ) (targets arguments : Option (List Slot)) → t < a.transforms → IfSome targets (AllByRecursion (SlotIsThere a l))
+        → IfSome arguments (AllByRecursion (SlotIsThere a l))
         → IfSome (call_by t targets arguments) (IsPlanCall a l)
     call_by_there t (Some ts) (Some xs) there h k = record { transform = there; targets = h; arguments = k }
     call_by_there t (Some ts) None there h k = tt {0}
     call_by_there t None arguments there h k = tt {0}
 
-    transform_there : (c : Callee) (ns : List Named) (xs : List ExprValue) → IsCallee a c → AllByRecursion (λ n. IsThere a l n.what) ns → AllByRecursion (IsExpr a l) xs
+    transform_there : (c : Callee) (ns : List Named) (xs : List ExprValue) → IsCallee a c → AllByRecursion (λ n. IsThere a l n.what) ns
+        → AllByRecursion (IsExpr a l) xs
         → IfSome (transform_call c (target_slots ns) (argument_slots xs)) (IsPlanCall a l)
     transform_there (callee.Function f) ns xs there h k = tt {0}
     transform_there (callee.Transform t) ns xs there h k = call_by_there t (target_slots ns) (argument_slots xs) there
@@ -107,31 +94,17 @@ module _ (a : Around) where
 
     assigned_there : (n : Named) (x : ExprValue) → IsThere a l n.what → IsExpr a l x → IfSome (called_by n x) (IsPlanCall a l)
     assigned_there n (e.call c xs) h k = transform_there c.what (n ∷ []) (items xs) k.0 (h, tt {0}) (items_there xs k.1)
-    assigned_there n (e.name m) h k = tt {0}
-    assigned_there n (e.number at v) h k = tt {0}
-    assigned_there n (e.parentheses at x) h k = tt {0}
-    assigned_there n (e.cell v xs) h k = tt {0}
-    assigned_there n (e.width v) h k = tt {0}
-    assigned_there n (e.height v) h k = tt {0}
-    assigned_there n (e.signed at sign x) h k = tt {0}
-    assigned_there n (e.chain level x rest) h k = tt {0}
-    assigned_there n (e.compare x relation y) h k = tt {0}
+    assigned_there n x h k = tt {0}
 
     call_there : (x : StmtValue) → IsStmt a l x → IfSome (call_of x) (IsPlanCall a l)
     call_there (s.assign n x) h = assigned_there n x h.0 h.1
     call_there (s.call_stmt ns c xs) h = transform_there c.what ns xs h.1 h.0 h.2
-    call_there (s.let_number at n x) h = tt {0}
-    call_there (s.let_matrix at n dims) h = tt {0}
-    call_there (s.assign_cell n xs x) h = tt {0}
-    call_there (s.if_stmt at x ss) h = tt {0}
-    call_there (s.if_else at x ss others) h = tt {0}
-    call_there (s.for_stmt at n x y ss) h = tt {0}
+    call_there x h = tt {0}
 
   -- with more locals
   slot_still : (l m : ℕ) → l ≤ m → (s : Slot) → SlotIsThere a l s → SlotIsThere a m s
-  slot_still l m most (slot.Out k) h = h
-  slot_still l m most (slot.Read k) h = h
   slot_still l m most (slot.Local k) h = omega arith
+  slot_still l m most s h = h
 
   call_still : (l m : ℕ) → l ≤ m → (o : Option PlanCallValue) → IfSome o (IsPlanCall a l) → IfSome o (IsPlanCall a m)
   call_still l m most None h = tt {0}
@@ -142,24 +115,24 @@ module _ (a : Around) where
   }
 
   module _ (names : List (List ℕ × Meaning)) (m : ℕ) where
-    next_call : (v : Visible) (x : StmtTree) (rest : Option (List PlanCallValue)) → v.locals ≤ m → IsStmt a v.locals (stmt_of v x) → IfSome rest (AllByRecursion (IsPlanCall a m))
+    next_call : (v : Visible) (x : StmtTree) (rest : Option (List PlanCallValue)) → v.locals ≤ m → IsStmt a v.locals (stmt_of v x)
+        → IfSome rest (AllByRecursion (IsPlanCall a m))
         → IfSome (put (call_of (stmt_of v x)) rest) (AllByRecursion (IsPlanCall a m))
     next_call v x rest few h others =
         let o = call_of (stmt_of v x) in
         put_there (IsPlanCall a m) o rest (call_still v.locals m few o (call_there v.locals (stmt_of v x) h)) others
 
-    calls_there : (v : Visible) (ss : List StmtTree) → v.locals + length (locals_of names ss) ≤ m → AreStmts a v.locals (stmts (body_of v ss)) → IfSome (calls_of (body_of v ss)) (AllByRecursion (IsPlanCall a m))
+    calls_there : (v : Visible) (ss : List StmtTree) → v.locals + length (locals_of names ss) ≤ m → AreStmts a v.locals (stmts (body_of v ss))
+        → IfSome (calls_of (body_of v ss)) (AllByRecursion (IsPlanCall a m))
     calls_there v [] few h = tt {0}
     calls_there v (text.let_matrix at n dims ∷ ss) few h = calls_there (declare v n meaning.Matrix) ss (omega arith) h.1
     calls_there v (text.assign n x ∷ ss) few h = next_call v (text.assign n x) (calls_of (body_of v ss)) (omega arith) h.0 (calls_there v ss few h.1)
-    calls_there v (text.call_stmt ns n xs ∷ ss) few h = next_call v (text.call_stmt ns n xs) (calls_of (body_of v ss)) (omega arith) h.0 (calls_there v ss few h.1)
-    calls_there v (text.let_number at n x ∷ ss) few h = tt {0}
-    calls_there v (text.assign_cell n xs x ∷ ss) few h = tt {0}
-    calls_there v (text.if_stmt at x body ∷ ss) few h = tt {0}
-    calls_there v (text.if_else at x body others ∷ ss) few h = tt {0}
-    calls_there v (text.for_stmt at n x y body ∷ ss) few h = tt {0}
+    calls_there v (text.call_stmt ns n xs ∷ ss) few h =
+        next_call v (text.call_stmt ns n xs) (calls_of (body_of v ss)) (omega arith) h.0 (calls_there v ss few h.1)
+    calls_there v (x ∷ ss) few h = tt {0}
 
-  plan_by_fits : (body : List StmtValue) (locals : List DeclValue) (planned cell : Bool) (o : Option (List PlanCallValue)) → calls_of body ≡ o → AllByRecursion (IsDecl a.sizes) locals
+  plan_by_fits : (body : List StmtValue) (locals : List DeclValue) (planned cell : Bool) (o : Option (List PlanCallValue)) → calls_of body ≡ o
+      → AllByRecursion (IsDecl a.sizes) locals
       → IfSome o (AllByRecursion (IsPlanCall a (length locals))) → PlanFits a (kind_by planned cell) body (plan_by planned locals o)
   plan_by_fits body locals true cell (Some calls) e h k = (e, record { locals = h; calls = k })
   plan_by_fits body locals true cell None e h k = e
@@ -167,7 +140,8 @@ module _ (a : Around) where
   plan_by_fits body locals false false o e h k = tt {0}
 
   -- the plan of a rule
-  pub plan_fits : (v : Visible) → Fit a v.locals v.names → v.locals ≡ 0 → (ss : List StmtTree) (planned cell : Bool) → AllByRecursion (StmtWithin 1) ss → AreStmts a v.locals (stmts (body_of v ss))
+  pub plan_fits : (v : Visible) → Fit a v.locals v.names → v.locals ≡ 0 → (ss : List StmtTree) (planned cell : Bool) → AllByRecursion (StmtWithin 1) ss
+      → AreStmts a v.locals (stmts (body_of v ss))
       → PlanFits a (kind_by planned cell) (body_of v ss) (plan_by planned (locals_of v.names ss) (calls_of (body_of v ss)))
   plan_fits v fit none ss planned cell w h =
       plan_by_fits (body_of v ss) (locals_of v.names ss) planned cell (calls_of (body_of v ss)) refl (locals_fit a v.locals v.names fit ss w)

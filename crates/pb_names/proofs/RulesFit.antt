@@ -1,5 +1,5 @@
 -- Rules: where nothing is wrong with their names, all of each is as a well-formed program has it.
-use Rattle.std.proofs.Common.{◌≡◌, ℕ, Bool, true, false, List, [], map, length, subst, arith}
+use Rattle.std.proofs.Common.{◌≡◌, refl, ℕ, Bool, true, false, List, [], map, length, subst, arith}
 use Rattle.std.specs.List.{AllByRecursion, flat_map}
 use Rattle.std.proofs.lemmas.List.{length-map}
 use Rattle.pb_syntax.specs.Trees.{RuleTree}
@@ -23,7 +23,7 @@ kind_fits false cell outs h = h
 
 module _ (sizes transforms : ℕ) (ms : Matrices) (matrices : ℕ) (known : AllByRecursion (λ e. MatrixThere matrices e.1) ms.names) where
   module _ (v : Visible) (locals : v.locals ≡ 0)
-      (sees : (variables outputs reads : ℕ) → Sees (record { sizes = sizes; variables = variables; outputs = outputs; reads = reads; transforms = transforms }) v) where
+      (sees : (a : Around) → a.sizes ≡ sizes → a.transforms ≡ transforms → Sees a v) where
     pub rule_fits : (r : RuleTree) → RuleWithin r → rule_faults ms v r ≡ [] → IsRule sizes ms.inputs matrices transforms (rule_of ms v r)
     rule_fits r w e =
         let outs = outs_of ms v r.outs in
@@ -37,7 +37,8 @@ module _ (sizes transforms : ℕ) (ms : Matrices) (matrices : ℕ) (known : AllB
         let many_reads : length reads ≡ length r.reads = turns_length after_read (read_at ms) (start (after_outs v r.outs)) r.reads in
         let many_conds : length (map (cond_of (inner v r)) r.conds) ≡ length r.conds = length-map r.conds (cond_of (inner v r)) in
         let b : Around = record { sizes = sizes; variables = 0; outputs = length outs; reads = length reads; transforms = transforms } in
-        let o = outs_fit b ms matrices known v (λ k. sees k (length outs) (length reads), locals) r.outs w.outputs.0.0 (omega arith) w.outputs.1 clean.0 in
+        let free = λ (k : ℕ). sees (record b { variables = k }) refl refl in
+        let o = outs_fit b ms matrices known v (free, locals) r.outs w.outputs.0.0 (omega arith) w.outputs.1 clean.0 in
         let d = reads_there a ms matrices known (after_outs v r.outs) o.sees o.locals r.reads (omega arith) w.reads.1 clean.1.0 in
         let there = body_fits a (inner v r) d.1.sees r.body clean.1.1.1 in
         record {

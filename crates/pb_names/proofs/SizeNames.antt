@@ -12,7 +12,8 @@ use Rattle.pb_names.specs.Transforms.{entries, put_size, sizes_in, sizes_of}
 
 entries_from : (k : ℕ) (ns : List NameValue) (n : NameValue) → entries k (ns ++ n ∷ []) ≡ entries k ns ++ (n.bytes, meaning.Size (k + length ns)) ∷ []
 entries_from k [] n = ap (λ j. (n.bytes, meaning.Size j) ∷ []) (omega arith)
-entries_from k (m ∷ ns) n = ap (λ l. (m.bytes, meaning.Size k) ∷ l) (entries_from (k + 1) ns n ∙ ap (λ j. entries (k + 1) ns ++ (n.bytes, meaning.Size j) ∷ []) (omega arith))
+entries_from k (m ∷ ns) n =
+    ap (λ l. (m.bytes, meaning.Size k) ∷ l) (entries_from (k + 1) ns n ∙ ap (λ j. entries (k + 1) ns ++ (n.bytes, meaning.Size j) ∷ []) (omega arith))
 
 pub entries_more : (ns : List NameValue) (n : NameValue) → entries 0 (ns ++ n ∷ []) ≡ entries 0 ns ++ (n.bytes, meaning.Size (length ns)) ∷ []
 entries_more ns n = entries_from 0 ns n ∙ ap (λ j. entries 0 ns ++ (n.bytes, meaning.Size j) ∷ []) (omega arith)
@@ -22,15 +23,18 @@ look_known : (b : List ℕ) (k : ℕ) (ns : List NameValue) → is_some (look b 
 look_known b k [] = refl
 look_known b k (n ∷ ns) = by (bytes_eq b n.bytes) (look_known b (k + 1) ns)
   where
-    by : (t : Bool) → is_some (look b (entries (k + 1) ns)) ≡ is_known b (map (λ m. m.bytes) ns) → is_some (if t then Some (meaning.Size k) else look b (entries (k + 1) ns)) ≡ (t || is_known b (map (λ m. m.bytes) ns))
+    by : (t : Bool) → is_some (look b (entries (k + 1) ns)) ≡ is_known b (map (λ m. m.bytes) ns)
+        → is_some (if t then Some (meaning.Size k) else look b (entries (k + 1) ns)) ≡ (t || is_known b (map (λ m. m.bytes) ns))
     by true e = refl
     by false e = e
 
 put_same : (known : List NameValue) (o : Option NameValue) → map (λ n. n.bytes) (put_size known o) ≡ written.put_size (map (λ n. n.bytes) known) o
 put_same known None = refl
-put_same known (Some n) = ap (λ b. map (λ m. m.bytes) (if b then known else known ++ n ∷ [])) (look_known n.bytes 0 known) ∙ by (is_known n.bytes (map (λ m. m.bytes) known))
+put_same known (Some n) =
+    ap (λ b. map (λ m. m.bytes) (if b then known else known ++ n ∷ [])) (look_known n.bytes 0 known) ∙ by (is_known n.bytes (map (λ m. m.bytes) known))
   where
-    by : (b : Bool) → map (λ m. m.bytes) (if b then known else known ++ n ∷ []) ≡ (if b then map (λ m. m.bytes) known else map (λ m. m.bytes) known ++ n.bytes ∷ [])
+    by : (b : Bool)
+        → map (λ m. m.bytes) (if b then known else known ++ n ∷ []) ≡ (if b then map (λ m. m.bytes) known else map (λ m. m.bytes) known ++ n.bytes ∷ [])
     by true = refl
     by false = map-append (λ m. m.bytes) known (n ∷ [])
 
@@ -43,4 +47,7 @@ of_same known [] = refl
 of_same known (d ∷ ds) = of_same (sizes_in known d.dims) ds ∙ ap (λ l. written.sizes_of l ds) (in_same known d.dims)
 
 pub sizes_few : (ds : List DeclValue) (n : ℕ) → length (written.sizes_of [] ds) ≤ n → length (sizes_of [] ds) ≤ n
-sizes_few ds n few = let a : length (map (λ m. m.bytes) (sizes_of [] ds)) ≡ length (written.sizes_of [] ds) = ap length (of_same [] ds) in let b = length-map (sizes_of [] ds) (λ (m : NameValue). m.bytes) in omega arith
+sizes_few ds n few =
+    let a : length (map (λ m. m.bytes) (sizes_of [] ds)) ≡ length (written.sizes_of [] ds) = ap length (of_same [] ds) in
+    let b = length-map (sizes_of [] ds) (λ (m : NameValue). m.bytes) in
+    omega arith

@@ -22,7 +22,7 @@ use Rattle.pb_names.specs.Bodies.{Visible, function_of}
 use Rattle.pb_names.specs.Views.{is_size}
 use Rattle.pb_names.specs.Rules.{decl_of, rule_faults, rule_of}
 use Rattle.pb_names.specs.Transforms.{IsResolved, Minimums, all_matrices, all_names, between, count_of, decls_faults, decls_of, entries, faults_of, first_names, given, least_at, least_or, matrices_of, matrix_faults, minimum_faults, minimums_of, named_faults, next_matrix, next_minimum, next_transform, program_of, put_first, ranges_of, seen, sizes, transform_faults, transform_of}
-use Rattle.pb_names.proofs.ListFits.{after_append, all_append, all_mapped, both, found_fits, turns_fit, turns_map, within_mapped}
+use Rattle.pb_names.proofs.ListFits.{after_append, all_append, all_mapped, all_push, both, found_fits, turns_fit, turns_map, within_mapped}
 use Rattle.pb_names.proofs.LookLemmas.{none_duplicate, none_found}
 use Rattle.pb_names.proofs.FormsFit.{Fit}
 use Rattle.pb_names.proofs.BodiesFit.{Sees}
@@ -38,27 +38,31 @@ entries_there : (a : Around) (k : ℕ) (ns : List NameValue) → k + length ns �
 entries_there a k [] h = tt {0}
 entries_there a k (n ∷ ns) h = (omega arith, entries_there a (k + 1) ns (omega arith))
 
-put_there : (top k : ℕ) (known : List (List ℕ × ℕ)) (n : NameValue) → k < top → AllByRecursion (λ e. e.1 < top) known → AllByRecursion (λ e. e.1 < top) (put_first k known n)
+put_there : (top k : ℕ) (known : List (List ℕ × ℕ)) (n : NameValue) → k < top → AllByRecursion (λ e. e.1 < top) known
+    → AllByRecursion (λ e. e.1 < top) (put_first k known n)
 put_there top k known n less h = by (is_some (look n.bytes known))
   where
     by : (b : Bool) → AllByRecursion (λ e. e.1 < top) (if b then known else known ++ (n.bytes, k) ∷ [])
     by true = h
-    by false = all_append (λ e. e.1 < top) known ((n.bytes, k) ∷ []) h (less, tt {0})
+    by false = all_push (λ e. e.1 < top) known (n.bytes, k) h less
 
-first_there : (top k : ℕ) (known : List (List ℕ × ℕ)) (ts : List TransformTree) → AllByRecursion (λ e. e.1 < top) known → k + length ts ≤ top → AllByRecursion (λ e. e.1 < top) (first_names k known ts)
+first_there : (top k : ℕ) (known : List (List ℕ × ℕ)) (ts : List TransformTree) → AllByRecursion (λ e. e.1 < top) known → k + length ts ≤ top
+    → AllByRecursion (λ e. e.1 < top) (first_names k known ts)
 first_there top k known [] h few = h
 first_there top k known (t ∷ ts) h few = first_there top (k + 1) (put_first k known t.name) ts (put_there top k known t.name (omega arith) h) (omega arith)
 
 -- the least values of the sizes
-minimums_there : (known : Minimums) (ms : List (NameValue × ℕ)) → AllByRecursion (λ e. e.1 ≤ MOST_NUMBER) known → AllByRecursion MinimumWithin ms → AllByRecursion (λ e. e.1 ≤ MOST_NUMBER) (after_turns next_minimum known ms)
+minimums_there : (known : Minimums) (ms : List (NameValue × ℕ)) → AllByRecursion (λ e. e.1 ≤ MOST_NUMBER) known → AllByRecursion MinimumWithin ms
+    → AllByRecursion (λ e. e.1 ≤ MOST_NUMBER) (after_turns next_minimum known ms)
 minimums_there known [] h w = h
-minimums_there known (m ∷ ms) h w = minimums_there (next_minimum known m) ms (all_append (λ e. e.1 ≤ MOST_NUMBER) known ((m.0.bytes, m.1) ∷ []) h (w.0.1, tt {0})) w.1
+minimums_there known (m ∷ ms) h w = minimums_there (next_minimum known m) ms (all_push (λ e. e.1 ≤ MOST_NUMBER) known (m.0.bytes, m.1) h w.0.1) w.1
 
 least_by_fits : (o : Option ℕ) → IfSome o (λ k. k ≤ MOST_NUMBER) → Counts 1 SIZE_TOP (least_or o)
 least_by_fits (Some k) h = (omega arith, omega arith)
 least_by_fits None h = (omega arith, omega arith)
 
-least_fits : (known : Minimums) → AllByRecursion (λ e. e.1 ≤ MOST_NUMBER) known → (ns : List NameValue) (k : ℕ) → k < length ns → Counts 1 SIZE_TOP (least_at known ns k)
+least_fits : (known : Minimums) → AllByRecursion (λ e. e.1 ≤ MOST_NUMBER) known → (ns : List NameValue) (k : ℕ) → k < length ns
+    → Counts 1 SIZE_TOP (least_at known ns k)
 least_fits known h [] k within = absurd (omega arith)
 least_fits known h (n ∷ ns) zero within = least_by_fits (look n.bytes known) (found_fits (λ k. k ≤ MOST_NUMBER) n.bytes known h)
 least_fits known h (n ∷ ns) (suc k) within = least_fits known h ns k (omega arith)
@@ -74,8 +78,10 @@ eight f (suc (suc (suc (suc (suc (suc zero)))))) h = refl
 eight f (suc (suc (suc (suc (suc (suc (suc zero))))))) h = refl
 eight f (suc (suc (suc (suc (suc (suc (suc (suc k)))))))) h = absurd (omega arith)
 
-ranges_fit : (known : Minimums) (ns : List NameValue) → length ns ≤ 8 → AllByRecursion (λ e. e.1 ≤ MOST_NUMBER) known → AreRanges (length ns) (ranges_of known ns)
-ranges_fit known ns few h = record { counted = refl; low = λ k within. subst (Counts 1 SIZE_TOP) (eight (least_at known ns) k (omega arith)) (least_fits known h ns k within) }
+ranges_fit : (known : Minimums) (ns : List NameValue) → length ns ≤ 8 → AllByRecursion (λ e. e.1 ≤ MOST_NUMBER) known
+    → AreRanges (length ns) (ranges_of known ns)
+ranges_fit known ns few h =
+    record { counted = refl; low = λ k within. subst (Counts 1 SIZE_TOP) (eight (least_at known ns) k (omega arith)) (least_fits known h ns k within) }
 
 -- the matrices of a transform
 dims_counted : (fs : List FormValue) → Counts 1 2 (count_of fs)
@@ -83,20 +89,22 @@ dims_counted [] = (omega arith, omega arith)
 dims_counted (f ∷ []) = (omega arith, omega arith)
 dims_counted (f ∷ g ∷ fs) = (omega arith, omega arith)
 
-matrices_there : (top : ℕ) (known : List (List ℕ × Matrix)) (ds : List DeclText) → AllByRecursion (λ e. MatrixThere top e.1) known → length known + length ds ≤ top → AllByRecursion (λ e. MatrixThere top e.1) (after_turns next_matrix known ds)
+matrices_there : (top : ℕ) (known : List (List ℕ × Matrix)) (ds : List DeclText) → AllByRecursion (λ e. MatrixThere top e.1) known
+    → length known + length ds ≤ top → AllByRecursion (λ e. MatrixThere top e.1) (after_turns next_matrix known ds)
 matrices_there top known [] h few = h
 matrices_there top known (d ∷ ds) h few =
-    let more : length (next_matrix known d) ≡ length known + 1 = length-append known ((d.name.bytes, record { number = length known; dims = count_of d.dims }) ∷ []) in
-    matrices_there top (next_matrix known d) ds
-    (all_append (λ e. MatrixThere top e.1) known ((d.name.bytes, record { number = length known; dims = count_of d.dims }) ∷ []) h (record { number = omega arith; dims = dims_counted d.dims }, tt {0}))
-    (omega arith)
+    let m : Matrix = record { number = length known; dims = count_of d.dims } in
+    let more : length (next_matrix known d) ≡ length known + 1 = length-append known ((d.name.bytes, m) ∷ []) in
+    let there : MatrixThere top m = record { number = omega arith; dims = dims_counted d.dims } in
+    matrices_there top (next_matrix known d) ds (all_push (λ e. MatrixThere top e.1) known (d.name.bytes, m) h there) (omega arith)
 
 decl_name : (names : List (List ℕ × Meaning)) (n : NameValue) (fs : List FormValue) → (decl_of names n fs).name ≡ n
 decl_name names n [] = refl
 decl_name names n (f ∷ []) = refl
 decl_name names n (f ∷ g ∷ fs) = refl
 
-names_kept : {A B : Type 0} (f : A → B) (name : A → NameValue) (made : B → NameValue) → ((x : A) → made (f x) ≡ name x) → (xs : List A) → map made (map f xs) ≡ map name xs
+names_kept : {A B : Type 0} (f : A → B) (name : A → NameValue) (made : B → NameValue) → ((x : A) → made (f x) ≡ name x) → (xs : List A)
+    → map made (map f xs) ≡ map name xs
 names_kept f name made same [] = refl
 names_kept f name made same (x ∷ xs) = λ i. same x i ∷ names_kept f name made same xs i
 
@@ -113,33 +121,46 @@ module _ (transforms : List (List ℕ × ℕ)) (count : ℕ) (there : AllByRecur
   few : length (sizes t) ≤ 8
   few = sizes_few t.from 8 w.few_sizes
 
-  sees : (variables outputs reads : ℕ) → Sees (record { sizes = length (sizes t); variables = variables; outputs = outputs; reads = reads; transforms = count }) v
-  sees variables outputs reads = record {
-    names = entries_there (record { sizes = length (sizes t); variables = variables; outputs = outputs; reads = reads; transforms = count }) 0 (sizes t) (omega arith);
-    transforms = there;
+  sees : (a : Around) → a.sizes ≡ length (sizes t) → a.transforms ≡ count → Sees a v
+  sees a same all = record {
+    names = entries_there a 0 (sizes t) (omega arith);
+    transforms = subst (λ n. AllByRecursion (λ e. e.1 < n) transforms) (sym all) there;
   }
+
+  parts_are : map made all ≡ map made t.from ++ (map made t.through ++ map made t.to)
+  parts_are = map-append made t.from (t.through ++ t.to) ∙ ap (λ l. map made t.from ++ l) (map-append made t.through t.to)
 
   decls_are : decls_of v t ≡ map made all
   decls_are = (λ i. turns_map next_matrix made [] t.from i ++ turns_map next_matrix made (given t) t.through i ++ turns_map next_matrix made (between t) t.to i)
-      ∙ append_assoc (map made t.from) (map made t.through) (map made t.to) ∙ sym (map-append made t.from (t.through ++ t.to) ∙ ap (λ l. map made t.from ++ l) (map-append made t.through t.to))
+      ∙ append_assoc (map made t.from) (map made t.through) (map made t.to) ∙ sym parts_are
 
-  decls_count : length (decls_of v t) ≡ length t.from + (length t.through + length t.to)
-  decls_count = ap length decls_are ∙ length-map all made ∙ length-append t.from (t.through ++ t.to) ∙ ap (λ n. length t.from + n) (length-append t.through t.to)
+  all_count : length all ≡ length t.from + (length t.through + length t.to)
+  all_count = length-append t.from (t.through ++ t.to) ∙ ap (λ n. length t.from + n) (length-append t.through t.to)
+
+  decls_count : length (decls_of v t) ≡ length all
+  decls_count = ap length decls_are ∙ length-map all made
 
   given_are : take (length t.from) (decls_of v t) ≡ map made t.from
-  given_are = ap (take (length t.from)) (decls_are ∙ map-append made t.from (t.through ++ t.to)) ∙ ap (λ n. take n (map made t.from ++ map made (t.through ++ t.to))) (sym (length-map t.from made))
-      ∙ take-append_seam (map made t.from) (map made (t.through ++ t.to))
+  given_are =
+      let rest = map made (t.through ++ t.to) in
+      ap (take (length t.from)) (decls_are ∙ map-append made t.from (t.through ++ t.to))
+      ∙ ap (λ n. take n (map made t.from ++ rest)) (sym (length-map t.from made)) ∙ take-append_seam (map made t.from) rest
 
   all_within : AllByRecursion DeclWithin all
   all_within = all_append DeclWithin t.from (t.through ++ t.to) w.from (all_append DeclWithin t.through t.to w.through w.to)
 
   decls_fit : AllByRecursion (IsDecl (length (sizes t))) (decls_of v t)
-  decls_fit = subst (AllByRecursion (IsDecl (length (sizes t)))) (sym decls_are)
-      (all_mapped made DeclWithin (IsDecl (length (sizes t))) (λ d h. decl_fits (record { sizes = length (sizes t); variables = 0; outputs = 0; reads = 0; transforms = count }) 0 v.names (sees 0 0 0).names d.name d.dims h.name h.dims) all all_within)
+  decls_fit =
+      let a : Around = record { sizes = length (sizes t); variables = 0; outputs = 0; reads = 0; transforms = count } in
+      let fit = λ (d : DeclText) (h : DeclWithin d). decl_fits a 0 v.names (sees a refl refl).names d.name d.dims h.name h.dims in
+      subst (AllByRecursion (IsDecl (length (sizes t)))) (sym decls_are) (all_mapped made DeclWithin (IsDecl (length (sizes t))) fit all all_within)
 
   known : AllByRecursion (λ e. MatrixThere (length (decls_of v t)) e.1) (all_matrices t)
-  known = subst (AllByRecursion (λ e. MatrixThere (length (decls_of v t)) e.1)) (after_append next_matrix [] t.from (t.through ++ t.to) ∙ after_append next_matrix (given t) t.through t.to)
-      (matrices_there (length (decls_of v t)) [] all (tt {0}) (omega (arith, decls_count, length-append t.from (t.through ++ t.to), length-append t.through t.to)))
+  known =
+      let top = length (decls_of v t) in
+      subst (AllByRecursion (λ e. MatrixThere top e.1))
+      (after_append next_matrix [] t.from (t.through ++ t.to) ∙ after_append next_matrix (given t) t.through t.to)
+      (matrices_there top [] all (tt {0}) (omega (arith, decls_count)))
 
   new_matrix : (known : List (List ℕ × Matrix)) (d : DeclText) → matrix_faults v known d ≡ [] → look d.name.bytes known ≡ None
   new_matrix known d e =
@@ -150,27 +171,29 @@ module _ (transforms : List (List ℕ × ℕ)) (count : ℕ) (there : AllByRecur
   distinct : decls_faults v t ≡ [] → AreDistinct (map (λ d. d.name) (decls_of v t))
   distinct e =
       let clean = both (λ z. z) (both (λ z. z) (λ z. z)) e in
-      let whole = turns_append next_matrix (matrix_faults v) [] t.from (t.through ++ t.to) clean.0 (turns_append next_matrix (matrix_faults v) (given t) t.through t.to clean.1.0 clean.1.1) in
+      let others = turns_append next_matrix (matrix_faults v) (given t) t.through t.to clean.1.0 clean.1.1 in
+      let whole = turns_append next_matrix (matrix_faults v) [] t.from (t.through ++ t.to) clean.0 others in
       subst AreDistinct (sym (ap (map (λ d. d.name)) decls_are ∙ names_kept made (λ d. d.name) (λ d. d.name) (λ d. decl_name v.names d.name d.dims) all))
       (apart (λ d. d.name) (λ known d. record { number = length known; dims = count_of d.dims }) (matrix_faults v) new_matrix [] all whole).1
 
   transform_fits : transform_faults transforms t ≡ [] → IsTransform count (transform_of transforms t)
   transform_fits e =
-      let clean : (turn_faults next_minimum (minimum_faults v) [] t.minimums ≡ []) × ((decls_faults v t ≡ []) × (flat_map (rule_faults (matrices_of t) v) t.rules ≡ []))
+      let ms = matrices_of t in
+      let clean : (turn_faults next_minimum (minimum_faults v) [] t.minimums ≡ []) × ((decls_faults v t ≡ []) × (flat_map (rule_faults ms v) t.rules ≡ []))
       = both (λ z. z) (both (λ z. z) (λ z. z)) e in
       record {
         name = w.name;
         few_sizes = few;
-        few_matrices = omega (arith, decls_count, w.few_matrices);
+        few_matrices = omega (arith, decls_count, all_count, w.few_matrices);
         few_rules = omega (arith, length-map t.rules (rule_of (matrices_of t) v), w.rules.0);
-        parts = omega (arith, decls_count);
+        parts = omega (arith, decls_count, all_count);
         ranges = ranges_fit (minimums_of t) (sizes t) few (minimums_there [] t.minimums (tt {0}) w.minimums.1);
         size_names = sizes_named t.from w.from;
         bound = λ k within. subst (λ l. IsBound l k) (sym given_are) (sizes_bound t.from w.from k within few);
         matrices = decls_fit;
         distinct = distinct clean.1.0;
-        rules = within_mapped (rule_of (matrices_of t) v) RuleWithin (IsRule (length (sizes t)) (length t.from) (length (decls_of v t)) count) (rule_faults (matrices_of t) v)
-            (rule_fits (length (sizes t)) count (matrices_of t) (length (decls_of v t)) known v refl sees) t.rules w.rules.1 clean.1.1;
+        rules = within_mapped (rule_of ms v) RuleWithin (IsRule (length (sizes t)) (length t.from) (length (decls_of v t)) count) (rule_faults ms v)
+            (rule_fits (length (sizes t)) count ms (length (decls_of v t)) known v refl sees) t.rules w.rules.1 clean.1.1;
       }
 
 new_transform : (all known : List (List ℕ × ℕ)) (t : TransformTree) → named_faults all known t ≡ [] → look t.name.bytes known ≡ None
@@ -190,7 +213,8 @@ well_formed ts w e =
     (λ n s t h within d. ((both (λ z. z) (transform_fits all count there t within) d).1, tt {0})) [] ts (tt {0}) w.1 e).0 in
     record {
       few = omega (arith, w.0);
-      distinct = subst AreDistinct (sym (names_kept (transform_of all) (λ t. t.name) (λ t. t.name) (λ t. refl) ts)) (apart (λ t. t.name) (λ known t. 0) (named_faults all) (new_transform all) [] ts e).1;
+      distinct = subst AreDistinct (sym (names_kept (transform_of all) (λ t. t.name) (λ t. t.name) (λ t. refl) ts))
+          (apart (λ t. t.name) (λ known t. 0) (named_faults all) (new_transform all) [] ts e).1;
       transforms = subst (AllByRecursion (IsTransform count)) (turns_map next_transform (transform_of all) [] ts) fit;
     }
 

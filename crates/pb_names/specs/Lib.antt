@@ -10,3 +10,4 @@ pub mod Slots
 pub mod Rules
 pub mod Transforms
 pub mod Unplaced
+pub mod Places

@@ -2,7 +2,8 @@
 //! of these; and the parts with which `pb_resolve` builds.
 //!
 //! In: trees, names, resolved expressions and statements. Out: maps of names in order of declaration; resolved expressions
-//! and statements; the calls of a plan. The theorem: a tree is one program, or is refused for one fault.
+//! and statements; the calls of a plan. The theorem: a tree is one program, which is well formed, or is refused for one
+//! fault, the first in the text.
 #![tactic(auto)]
 
 mod fault;
@@ -18,7 +19,8 @@ mod plan;
 pub use fault::Fault;
 pub use kind::some_plans;
 pub use laws::{
-    a_faultless_tree_is_well_formed, a_tree_has_one_answer, names_dont_depend_on_places,
+    a_faultless_tree_is_well_formed, a_tree_has_one_answer, faults_stand_in_order,
+    names_dont_depend_on_places,
 };
 pub use matrices::{Matrices, Matrix};
 pub use names::Names;
