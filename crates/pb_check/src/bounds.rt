@@ -23,12 +23,7 @@ fn rule_bounds(alloc: Global, p: &Prog, t: u32, r: u32) -> Result<(), Refusal>
 
 /// Whether each rule of a transform has boxes.
 #[tactic(auto, using(crate::proofs::BoundLemmas::next_rule, crate::proofs::BoundLemmas::rule_fails, crate::proofs::BoundLemmas::few_rules))]
-fn rules_bounds(
-    alloc: Global,
-    p: &Prog,
-    t: u32,
-    transform: &Transform,
-) -> Result<(), Refusal>
+fn rules_bounds(alloc: Global, p: &Prog, t: u32, transform: &Transform) -> Result<(), Refusal>
     requires well_formed { IsWellFormed (bare_prog p.now) }
     requires there { slice_get (bare_prog p.now) t ≡ Some (bare_transform transform.now) }
     ensures found { OnOk result (All (IsAccepted (bare_transform transform.now)) (bare_transform transform.now).rules) }
@@ -42,12 +37,7 @@ fn rules_bounds(
 
 /// Whether no side of a transform is negative, and each of its rules has boxes.
 #[tactic(auto, using(crate::proofs::BoundLemmas::at_transform))]
-fn transform_bounds(
-    alloc: Global,
-    p: &Prog,
-    t: u32,
-    transform: &Transform,
-) -> Result<(), Refusal>
+fn transform_bounds(alloc: Global, p: &Prog, t: u32, transform: &Transform) -> Result<(), Refusal>
     requires well_formed { IsWellFormed (bare_prog p.now) }
     requires there { slice_get (bare_prog p.now) t ≡ Some (bare_transform transform.now) }
     ensures found { OnOk result (IsBounded (bare_transform transform.now)) }

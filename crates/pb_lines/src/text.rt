@@ -12,11 +12,7 @@ pub(crate) fn write_number(text: &mut Vec<u8>, value: u64) -> Result<(), AllocEr
 }
 
 /// A word, and a number after it.
-pub(crate) fn write_numbered(
-    text: &mut Vec<u8>,
-    word: &[u8],
-    value: u32,
-) -> Result<(), AllocError>
+pub(crate) fn write_numbered(text: &mut Vec<u8>, word: &[u8], value: u32) -> Result<(), AllocError>
     ensures { OnOk result (text.new.items ≡ text.old.items ++ (word.now ++ decimal value)) }
 {
     text.extend_from_slice(word)?;

@@ -311,11 +311,11 @@ module _ (v : Visible) (known : List (List ℕ × Matrix)) (ds : List DeclText) 
 
 decls_kept : (v : Visible) (t : TransformTree) → decls_of v (unplaced_transform t) ≡ map unplaced_matrix (decls_of v t)
 decls_kept v t = rw (given_kept t, between_by t)
-  (joined unplaced_matrix _ _ (joined unplaced_matrix _ _ (some_decls v [] t.from) (some_decls v (given t) t.through)) (some_decls v (between t) t.to))
+    (joined unplaced_matrix _ _ (joined unplaced_matrix _ _ (some_decls v [] t.from) (some_decls v (given t) t.through)) (some_decls v (between t) t.to))
 
 decls_faults_kept : (v : Visible) (t : TransformTree) → decls_faults v (unplaced_transform t) ≡ map unplaced_fault (decls_faults v t)
 decls_faults_kept v t = rw (given_kept t, between_by t)
-  (joined unplaced_fault _ _ (some_decl_faults v [] t.from) (joined unplaced_fault _ _ (some_decl_faults v (given t) t.through) (some_decl_faults v (between t) t.to)))
+    (joined unplaced_fault _ _ (some_decl_faults v [] t.from) (joined unplaced_fault _ _ (some_decl_faults v (given t) t.through) (some_decl_faults v (between t) t.to)))
 
 -- transforms
 transform_kept : (all : List (List ℕ × ℕ)) (t : TransformTree) → transform_of all (unplaced_transform t) ≡ unplaced_prog_transform (transform_of all t)
@@ -346,7 +346,7 @@ program_kept ts = rw (names_kept 0 [] ts) (made_kept unplaced_transform unplaced
 
 all_faults_kept : (ts : List TransformTree) → faults_of (unplaced ts) ≡ map unplaced_fault (faults_of ts)
 all_faults_kept ts = rw (names_kept 0 [] ts)
-  (faults_kept unplaced_transform next_transform (λ known t. refl) (named_faults (all_names ts)) (λ known t. joined unplaced_fault _ _ (duplicate_kept _ t.name) (transform_faults_kept (all_names ts) t)) [] ts)
+    (faults_kept unplaced_transform next_transform (λ known t. refl) (named_faults (all_names ts)) (λ known t. joined unplaced_fault _ _ (duplicate_kept _ t.name) (transform_faults_kept (all_names ts) t)) [] ts)
 
 -- trees that differ in places alone are programs that differ in places alone, with the same faults, places aside
 pub same_program : (y x : List TransformTree) → unplaced y ≡ unplaced x → unplaced_prog (program_of y) ≡ unplaced_prog (program_of x)

@@ -109,14 +109,17 @@ module _ (leasts : List ℕ) (few : length leasts ≤ 8) (low : (i : ℕ) → i 
   negative_by n s most (inr above) =
       let long = InRange-length leasts s most.in_range in
       let negated : Most (λ t. negsuc 0 *ℤ exact_value n t) leasts (exact_value (multiple (negsuc 0) n) s) s =
-          subst (λ (v : List ℕ → ℤ). Most v leasts (exact_value (multiple (negsuc 0) n) s) s) (λ i t. exact_value-multiple (negsuc 0) n t i) most in
+      subst (λ (v : List ℕ → ℤ). Most v leasts (exact_value (multiple (negsuc 0) n) s) s) (λ i t. exact_value-multiple (negsuc 0) n t i) most in
       let small : length s ≤ 8 = omega arith in
-      inr (hold s small, record {
-        held = subst (λ k. AreHeld k (hold s small)) long (hold_held s small);
-        most = exact_value (multiple (negsuc 0) n) s;
-        above = above;
-        greatest = subst (Most (λ t. negsuc 0 *ℤ exact_value n t) leasts (exact_value (multiple (negsuc 0) n) s)) (sym (hold_is s small)) negated;
-      })
+      inr (
+        hold s small,
+        record {
+          held = subst (λ k. AreHeld k (hold s small)) long (hold_held s small);
+          most = exact_value (multiple (negsuc 0) n) s;
+          above = above;
+          greatest = subst (Most (λ t. negsuc 0 *ℤ exact_value n t) leasts (exact_value (multiple (negsuc 0) n) s)) (sym (hold_is s small)) negated;
+        },
+      )
 
   side_answer : (n : Numbers) → IsNeverNegative leasts n ⊎ ((u : Sizes) × IsNegative leasts n u)
   side_answer n = let m = some_most (multiple (negsuc 0) n) leasts few low in negative_by n m.0 m.1 (le_or_lt (exact_value (multiple (negsuc 0) n) m.0) (pos 0))

@@ -116,6 +116,56 @@ fn misnamed_rows() -> [Row; 5] {
     ]
 }
 
+// Programs whose bounds are wrong.
+fn unbounded_rows() -> [Row; 4] {
+    [
+        check(
+            &[(
+                "p",
+                "transform T from A[n] to B[n-2] { to (B.cell(i) b) from () { b = 1; } }",
+            )],
+            3,
+            "",
+            "P8 NegativeDim: T.B x at n=1\n",
+        ),
+        check(
+            &[(
+                "p",
+                "transform T from A[n], C[m] to B[m - n, n - 3] { to (B b) from () { } }",
+            )],
+            3,
+            "",
+            "P8 NegativeDim: T.B x at n=1048576,m=1\n",
+        ),
+        check(
+            &[(
+                "p",
+                "transform T from A[n] to B[n] { to (B.cell(i) b) from (A.cell(2 * i) a) { b = a; } }",
+            )],
+            3,
+            "",
+            "P12 NotABox: T rule 0 condition 2\n",
+        ),
+        check(
+            &[(
+                "p",
+                "transform T from A[n] to B[n] { to (B.region(0, n) p, B.region(0, n/2) q) from () {} }",
+            )],
+            3,
+            "",
+            "P10 OverlapOutputs: T rule 0 outputs 0 and 1\n",
+        ),
+    ]
+}
+
+#[test]
+fn programs_with_wrong_bounds_are_named(rt: HostRuntime) -> Result<(), Fail> {
+    for row in unbounded_rows() {
+        holds(&rt, rt.alloc(), &row)?;
+    }
+    Ok(())
+}
+
 #[test]
 fn refused_programs_are_named(rt: HostRuntime) -> Result<(), Fail> {
     for row in refused_rows() {

@@ -1,4 +1,10 @@
 ghost use Rattle.std.specs.Prelude.{◌≡◌, ℕ, ◌≤◌, List, length, Some};
+ghost use Rattle.std.specs.List.{AllByRecursion};
+ghost use Rattle.pb_syntax.specs.Trees.{TransformTree};
+ghost use Rattle.pb_syntax.specs.declared.refusal.Refusal.{Refusal};
+ghost use Rattle.pb_front.specs.Reading.{IsRead};
+ghost use Rattle.pb_names.specs.Places.{place_of, told_at};
+ghost use Rattle.pb_names.specs.Transforms.{IsRefused, faults_of};
 ghost use Rattle.pb_outside.specs.Shelf.{Files};
 ghost use Rattle.pb_top.specs.Sinks.{ShelfChange, SinkChange};
 ghost use Rattle.pb_top.specs.Reply.{Reply, done_reply};
@@ -26,4 +32,9 @@ pub fn faultless_calls_answer()
 /// A law: what `check` writes of a program, where it isn't too long, is a program of which `check` writes the same.
 pub fn a_checked_text_stays()
     ensures { (program text : List ℕ) → CheckAnswers program (done_reply text) → length text ≤ MOST_BYTES → CheckAnswers text (done_reply text) }
+{}
+
+/// A law: of a text whose tree is refused for its names, the place that is told is the least of all faults of names.
+pub fn the_least_fault_of_names_is_told()
+    ensures { (text : List ℕ) (tree : List TransformTree) (e : Refusal) → IsRead text tree → IsRefused tree e → AllByRecursion (λ f. told_at e ≤ place_of f) (faults_of tree) }
 {}

@@ -20,4 +20,6 @@ mod tokens;
 mod work;
 
 pub use command::{pb_alone, pb_command};
-pub use laws::{a_checked_text_stays, faultless_calls_answer, one_reply};
+pub use laws::{
+    a_checked_text_stays, faultless_calls_answer, one_reply, the_least_fault_of_names_is_told,
+};

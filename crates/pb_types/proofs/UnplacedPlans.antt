@@ -217,7 +217,7 @@ first_kept r = rw (made_kept unplaced_read unplaced_target out_target out_target
 module _ (ts : List ProgTransform) where
   transform_in : (k : Known) (t at : ℕ) (ns : List Named) (xs : List ExprValue)
       → transform_call (unplaced_known k) (takes (slice_get (unplaced_prog ts) t)) (gives (slice_get (unplaced_prog ts) t)) (map unplaced_named ns) 0 (map unplaced_value xs)
-        ≡ map no_place (transform_call k (takes (slice_get ts t)) (gives (slice_get ts t)) ns at xs)
+      ≡ map no_place (transform_call k (takes (slice_get ts t)) (gives (slice_get ts t)) ns at xs)
   transform_in k t at ns xs = rw (slice_get-map unplaced_prog_transform ts t, takes_kept (slice_get ts t), gives_kept (slice_get ts t))
       (transform_call_kept k (takes (slice_get ts t)) (gives (slice_get ts t)) ns at xs)
 
