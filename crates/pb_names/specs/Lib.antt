@@ -11,3 +11,4 @@ pub mod Rules
 pub mod Transforms
 pub mod Unplaced
 pub mod Places
+pub mod Binders

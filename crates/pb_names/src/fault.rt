@@ -1,3 +1,6 @@
+ghost use Rattle.std.specs.Prelude.{◌≡◌};
+ghost use Rattle.pb_names.specs.Transforms.{refusal_of};
+
 use pb_syntax::Refusal;
 use pb_values::Name;
 use std::alloc::{AllocError, AllocFailed};
@@ -32,5 +35,27 @@ impl<T: Drop> From<AllocFailed<T>> for Fault {
 
     fn from(_error: AllocFailed<T>) -> Fault {
         Fault::Memory
+    }
+}
+
+/// The refusal of a fault.
+pub fn refusal(fault: Fault) -> Refusal
+    ensures { result ≡ refusal_of fault }
+{
+    match fault {
+        Fault::Duplicate(name) => {
+            let at = name.at();
+            Refusal::DuplicateName { name, at }
+        }
+        Fault::Unknown(name) => {
+            let at = name.at();
+            Refusal::UnknownName { name, at }
+        }
+        Fault::NotBound(name) => {
+            let at = name.at();
+            Refusal::SizeNotBound { name, at }
+        }
+        Fault::BadOutput(at) => Refusal::BadOutput { at },
+        Fault::Memory => Refusal::Memory,
     }
 }

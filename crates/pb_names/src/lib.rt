@@ -6,6 +6,7 @@
 //! fault, the first in the text.
 #![tactic(auto)]
 
+mod binders;
 mod fault;
 mod kind;
 mod laws;
@@ -16,7 +17,8 @@ mod names;
 mod parts;
 mod plan;
 
-pub use fault::Fault;
+pub use binders::Binders;
+pub use fault::{Fault, refusal};
 pub use kind::some_plans;
 pub use laws::{
     a_faultless_tree_is_well_formed, a_tree_has_one_answer, faults_stand_in_order,
@@ -24,5 +26,8 @@ pub use laws::{
 };
 pub use matrices::{Matrices, Matrix};
 pub use names::Names;
-pub use parts::{alone, count_of, is_row, is_single, is_size, kind_by, priority_of, ranges};
+pub use parts::{
+    alone, copy_name, count_of, function_of, is_row, is_single, is_size, kind_by, priority_of,
+    ranges,
+};
 pub use plan::calls;

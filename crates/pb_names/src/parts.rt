@@ -1,4 +1,5 @@
-ghost use Rattle.std.specs.Prelude.{◌≡◌, ◌≤◌, length, option_copied};
+ghost use Rattle.std.specs.Prelude.{◌≡◌, ◌≤◌, IfOk, length, option_copied};
+ghost use Rattle.pb_names.specs.Bodies.{function_of};
 ghost use Rattle.pb_syntax.specs.Limits.{alone};
 ghost use Rattle.pb_syntax.specs.WithinLimits.{MarkWithin};
 ghost use Rattle.pb_names.specs.Rules.{is_single, kind_by, priority_of};
@@ -7,9 +8,10 @@ ghost use Rattle.pb_names.specs.Views.{is_row, is_size};
 
 use crate::names::Names;
 use pb_linear::Ranges;
-use pb_program::{Meaning, RuleKind};
+use pb_program::{Function, Meaning, RuleKind};
 use pb_syntax::{FormText, MarkText, UseText, ViewText};
 use pb_values::Name;
+use std::alloc::{AllocError, Global};
 
 /// The name that a form is, if it is a name alone.
 pub fn alone(form: &FormText) -> Option<&Name>
@@ -127,4 +129,33 @@ pub fn ranges(minimums: &Names<'_, u64>, names: &[Name]) -> Ranges
             least_at(minimums, names, 7),
         ],
     }
+}
+
+/// A copy of a name.
+pub fn copy_name(alloc: Global, name: &Name) -> Result<Name, AllocError>
+    ensures { IfOk result (λ n. n ≡ name.now) }
+{
+    Ok(Name::new(name.bytes().to_vec(alloc)?, name.at()))
+}
+
+/// The function of this name.
+pub fn function_of(name: &[u8]) -> Option<Function>
+    ensures { result ≡ function_of name.now }
+{
+    if name == b"sum".as_slice() {
+        return Some(Function::Sum);
+    }
+    if name == b"dot".as_slice() {
+        return Some(Function::Dot);
+    }
+    if name == b"min".as_slice() {
+        return Some(Function::Min);
+    }
+    if name == b"max".as_slice() {
+        return Some(Function::Max);
+    }
+    if name == b"abs".as_slice() {
+        return Some(Function::Abs);
+    }
+    None
 }

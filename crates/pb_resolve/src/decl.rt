@@ -4,9 +4,10 @@ ghost use Rattle.pb_program.specs.Forms.{constant_numbers};
 ghost use Rattle.pb_syntax.specs.WithinLimits.{DimsWithin};
 ghost use Rattle.pb_names.specs.Rules.{decl_of};
 
-use crate::scope::{Scope, copy_name};
+use crate::scope::Scope;
 use crate::sum::Sum;
 use pb_linear::Form;
+use pb_names::copy_name;
 use pb_program::{Coordinate, Decl};
 use pb_syntax::FormText;
 use pb_values::Name;

@@ -8,9 +8,9 @@ ghost use Rattle.pb_names.specs.Turns.{after_turns, turns, turn_faults};
 ghost use Rattle.pb_names.specs.Rules.{decl_of};
 ghost use Rattle.pb_names.specs.Transforms.{count_of, header_faults, header_form_faults, header_term_faults, least_at, matrix_faults, matrix_of, minimum_faults, next_matrix, next_minimum, ranges_of};
 
-use crate::scope::{Scope, copy_name};
+use crate::scope::Scope;
 use pb_linear::Ranges;
-use pb_names::{Fault, Matrices, Matrix, Names, count_of, is_size};
+use pb_names::{Fault, Matrices, Matrix, Names, copy_name, count_of, is_size};
 use pb_program::Decl;
 use pb_syntax::{DeclText, FormText, TermText};
 use pb_values::Name;

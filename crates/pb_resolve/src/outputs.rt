@@ -5,45 +5,15 @@ ghost use Rattle.pb_syntax.specs.declared.limits.TheConstants.{MOST_VIEWS};
 ghost use Rattle.pb_syntax.specs.Limits.{alone};
 ghost use Rattle.pb_syntax.specs.WithinLimits.{UseWithin};
 ghost use Rattle.pb_names.specs.Faults.{Fails};
-ghost use Rattle.pb_resolve.specs.Binders.{names_in};
+ghost use Rattle.pb_names.specs.Binders.{names_in};
 ghost use Rattle.pb_names.specs.Rules.{is_cell};
 ghost use Rattle.pb_names.specs.Views.{after_outs, bind, binders, bound_faults, coordinate_names, coordinates_faults, has_names, is_bad_output, is_row, is_size, out_faults, out_of, out_scope, outs_faults, outs_of, repeats, variables_faults, with_variables};
 
-use crate::scope::{Scope, copy_name};
-use pb_names::{Fault, Matrices, alone, is_row, is_size};
+use crate::scope::Scope;
+use pb_names::{Binders, Fault, Matrices, alone, copy_name, is_row, is_size};
 use pb_program::{Meaning, Read};
 use pb_syntax::{FormText, UseText, ViewText};
 use pb_values::Name;
-
-/// The rule variables that an output binds.
-#[derive(Clone, Copy)]
-pub(crate) enum Binders<'t> {
-    None,
-    One(&'t Name),
-    Two(&'t Name, &'t Name),
-}
-
-impl<'t> Binders<'t> {
-    /// Whether there are any.
-    fn are_there(&self) -> bool
-        ensures { result ≡ has_names (names_in self.now) }
-    {
-        match self {
-            Binders::None => false,
-            _ => true,
-        }
-    }
-
-    /// Whether one stands twice.
-    fn repeat(&self) -> bool
-        ensures { result ≡ repeats (names_in self.now) }
-    {
-        match self {
-            Binders::Two(x, y) => x.is_same(y),
-            _ => false,
-        }
-    }
-}
 
 impl<'t, 'p> Scope<'t, 'p> {
     /// The rule variables that an output binds.

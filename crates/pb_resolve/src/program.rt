@@ -12,9 +12,8 @@ ghost use Rattle.pb_syntax.specs.declared.refusal.Refusal.TheVariants as refused
 ghost use Rattle.pb_syntax.specs.WithinLimits.{IsWithinLimits};
 ghost use Rattle.pb_names.specs.Turns.{turns, turn_faults};
 
-use crate::scope::{copy_name, function_of};
 use crate::transform::transform;
-use pb_names::{Fault, Names};
+use pb_names::{Fault, Names, copy_name, function_of, refusal};
 use pb_program::{Prog, Transform};
 use pb_syntax::{Refusal, Text, TransformText};
 use std::alloc::Global;
@@ -84,28 +83,6 @@ fn transforms<'t>(
         found.push(named(alloc, all, &mut known, next)?)?;
     }
     Ok(found)
-}
-
-/// The refusal of a fault.
-fn refusal(fault: Fault) -> Refusal
-    ensures { result ≡ refusal_of fault }
-{
-    match fault {
-        Fault::Duplicate(name) => {
-            let at = name.at();
-            Refusal::DuplicateName { name, at }
-        }
-        Fault::Unknown(name) => {
-            let at = name.at();
-            Refusal::UnknownName { name, at }
-        }
-        Fault::NotBound(name) => {
-            let at = name.at();
-            Refusal::SizeNotBound { name, at }
-        }
-        Fault::BadOutput(at) => Refusal::BadOutput { at },
-        Fault::Memory => Refusal::Memory,
-    }
 }
 
 #[tactic(auto, using(crate::proofs::FaultLemmas::fails_memory, crate::proofs::ProgramLemmas::all_within, crate::proofs::ProgramLemmas::resolved, crate::proofs::ProgramLemmas::faults_told))]

@@ -7,10 +7,10 @@ ghost use Rattle.pb_program.specs.declared.meaning.Meaning.TheVariants as meanin
 ghost use Rattle.pb_syntax.specs.declared.limits.TheConstants.{MOST_VIEWS};
 ghost use Rattle.pb_names.specs.Views.{after_reads, bind, bound_faults, cond_faults, cond_of, read_faults, read_of, reads_faults, reads_of, view_of};
 
-use crate::scope::{Scope, copy_name};
+use crate::scope::Scope;
 use crate::sum::Sum;
 use pb_linear::{Form, VForm};
-use pb_names::{Fault, Matrices, Matrix};
+use pb_names::{Fault, Matrices, Matrix, copy_name};
 use pb_program::{Cond, Coordinate, Meaning, Read, ReadView};
 use pb_syntax::{CondText, UseText, ViewText};
 use pb_values::Name;

@@ -1,7 +1,7 @@
 ghost use Rattle.std.specs.Prelude.{◌≡◌, IfOk};
 ghost use Rattle.pb_names.specs.Bodies.{function_of};
 
-use pb_names::{Fault, Names};
+use pb_names::{Fault, Names, copy_name, function_of};
 use pb_program::{Called, Callee, Function, Meaning, Named};
 use pb_values::Name;
 use std::alloc::{AllocError, Global};
@@ -41,35 +41,6 @@ impl Mark {
     {
         self.locals
     }
-}
-
-/// A copy of a name.
-pub(crate) fn copy_name(alloc: Global, name: &Name) -> Result<Name, AllocError>
-    ensures { IfOk result (λ n. n ≡ name.now) }
-{
-    Ok(Name::new(name.bytes().to_vec(alloc)?, name.at()))
-}
-
-/// The function of this name.
-pub(crate) fn function_of(name: &[u8]) -> Option<Function>
-    ensures { result ≡ function_of name.now }
-{
-    if name == b"sum".as_slice() {
-        return Some(Function::Sum);
-    }
-    if name == b"dot".as_slice() {
-        return Some(Function::Dot);
-    }
-    if name == b"min".as_slice() {
-        return Some(Function::Min);
-    }
-    if name == b"max".as_slice() {
-        return Some(Function::Max);
-    }
-    if name == b"abs".as_slice() {
-        return Some(Function::Abs);
-    }
-    None
 }
 
 impl<'t, 'p> Scope<'t, 'p> {

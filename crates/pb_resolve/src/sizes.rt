@@ -4,8 +4,7 @@ ghost use Rattle.pb_syntax.specs.declared.limits.TheConstants.{MOST_SIZES};
 ghost use Rattle.pb_names.specs.declared.fault.Fault.TheVariants.{Memory};
 ghost use Rattle.pb_names.specs.Transforms.{entries, put_size, sizes_in, sizes_of};
 
-use crate::scope::copy_name;
-use pb_names::{Fault, Names, alone};
+use pb_names::{Fault, Names, alone, copy_name};
 use pb_program::Meaning;
 use pb_syntax::{DeclText, FormText};
 use pb_values::Name;

@@ -11,9 +11,9 @@ ghost use Rattle.pb_names.specs.Transforms.{all_matrices, decls_faults, decls_of
 ghost use Rattle.pb_names.specs.declared.fault.Fault.TheVariants.{Memory};
 ghost use Rattle.pb_syntax.specs.declared.limits.TheConstants.{MOST_SIZES};
 
-use crate::scope::{Scope, copy_name};
+use crate::scope::Scope;
 use crate::sizes::sizes;
-use pb_names::{Fault, Matrices, Names, ranges};
+use pb_names::{Fault, Matrices, Names, copy_name, ranges};
 use pb_program::{Decl, Rule, Transform};
 use pb_syntax::{RuleText, TransformText};
 use pb_values::Name;

@@ -6,9 +6,9 @@ ghost use Rattle.pb_names.specs.Sums.{add_term, add_terms, collected, signed};
 ghost use Rattle.pb_resolve.specs.SumValue.{value_of};
 ghost use Rattle.pb_names.specs.Views.{view_name_faults, view_term_faults, view_form_faults, forms_of, is_in_views};
 
-use crate::scope::{Scope, copy_name};
+use crate::scope::Scope;
 use crate::sum::Sum;
-use pb_names::Fault;
+use pb_names::{Fault, copy_name};
 use pb_program::{Coordinate, Meaning};
 use pb_syntax::{FormText, TermText, ViewText};
 use pb_values::Name;

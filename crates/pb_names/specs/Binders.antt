@@ -1,8 +1,8 @@
 -- The rule variables that an output binds, as a list.
 use Rattle.std.specs.Prelude.{List, [], ◌∷◌}
 use Rattle.pb_values.specs.Name.{NameValue}
-use Rattle.pb_resolve.specs.declared.outputs.Binders.{Binders}
-use Rattle.pb_resolve.specs.declared.outputs.Binders.TheVariants as some
+use Rattle.pb_names.specs.declared.binders.Binders.{Binders}
+use Rattle.pb_names.specs.declared.binders.Binders.TheVariants as some
 
 abbrev pub names_in : Binders → List NameValue
 names_in some.None = []
