@@ -1,15 +1,15 @@
 -- A program is sound or refused by the first phase that finds a fault.
-use Rattle.std.proofs.Common.{◌≡◌, ◌⊎◌, inl, inr, ℕ, List, [], length, slice_get, Some, ap, sym, subst, ◌∙◌}
+use Rattle.std.proofs.Common.{◌≡◌, ◌⊎◌, inl, inr, ℕ, List, [], subst}
 use Rattle.std.specs.List.{All}
 use Rattle.pb_linear.specs.Sizes.{IsRanges}
 use Rattle.pb_syntax.specs.declared.refusal.Refusal.{Refusal}
 use Rattle.pb_syntax.specs.declared.refusal.Refusal.TheVariants.{Memory}
 use Rattle.pb_program.specs.Trees.{ProgRule, ProgTransform}
-use Rattle.pb_program.specs.WellFormed.{IsTransform, IsWellFormed}
+use Rattle.pb_program.specs.WellFormed.{IsWellFormed}
 use Rattle.pb_types.specs.Types.{broken, IsRefused as HasBadTypes}
 use Rattle.pb_types.proofs.LawLemmas.{right_or_refused, one_refusal as one_place, not_both as right_and_wrong}
-use Rattle.pb_region.specs.Dims.{AreSides, HasNegative, IsRefused as HasBadSide}
-use Rattle.pb_region.specs.Rules.{HasRefusal, IsAccepted, IsRefused as HasBadBounds}
+use Rattle.pb_region.specs.Dims.{AreSides, HasNegative}
+use Rattle.pb_region.specs.Rules.{IsAccepted, IsRefused as HasBadBounds}
 use Rattle.pb_region.proofs.AnswerLemmas.{some_answer, one_refusal as one_cause, not_both as accepted_and_refused}
 use Rattle.pb_region.proofs.NegativeLemmas.{not_refused, one_negative}
 use Rattle.pb_region.proofs.SomeLemmas.{sides_or_refused}

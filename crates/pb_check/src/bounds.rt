@@ -3,7 +3,7 @@ ghost use Rattle.std.specs.List.{All};
 ghost use Rattle.pb_syntax.specs.declared.refusal.Refusal.TheVariants.{Memory};
 ghost use Rattle.pb_program.specs.Trees.{bare_prog, bare_transform};
 ghost use Rattle.pb_program.specs.WellFormed.{IsWellFormed};
-ghost use Rattle.pb_region.specs.Rules.{AtRule, IsAccepted, IsRefused};
+ghost use Rattle.pb_region.specs.Rules.{AtRule, HasRule, IsAccepted, IsRefused};
 ghost use Rattle.pb_check.specs.Phases.{FailsBounds, FailsRule, IsBounded, IsUnbounded};
 
 use pb_program::{Prog, Transform};
@@ -15,7 +15,7 @@ use std::alloc::Global;
 fn rule_bounds(alloc: Global, p: &Prog, t: u32, r: u32) -> Result<(), Refusal>
     requires { IsWellFormed (bare_prog p.now) }
     ensures found { OnOk result (AtRule (bare_prog p.now) t r IsAccepted) }
-    ensures refused { IfErr result (λ e. (e ≡ Memory) ⊎ AtRule (bare_prog p.now) t r (λ transform rule. IsRefused t r transform rule e)) }
+    ensures refused { IfErr result (λ e. (e ≡ Memory) ⊎ HasRule (bare_prog p.now) t r (λ transform rule. IsRefused t r transform rule e)) }
 {
     let _boxes = conditions(alloc, p, t, r)?;
     Ok(())

@@ -1,9 +1,13 @@
 -- What the names of a body name is there, where none of them has a fault.
-use Rattle.std.proofs.Common.{◌≡◌, ℕ, ◌+◌, ◌<◌, ◌≤◌, not, List, [], ◌∷◌, ◌++◌, map, Option, Some, None, is_some, refl, ap, subst, sym, ◌∙◌, arith}
+use Rattle.std.proofs.Common.{◌≡◌, ◌⊎◌, inl, inr, ℕ, suc, ◌+◌, ◌<◌, ◌≤◌, not, List, [], ◌∷◌, ◌++◌, length, map, Option, Some, None, is_some, refl, ap, subst, sym, ◌∙◌, arith}
 use Rattle.std.specs.List.{AllByRecursion, flat_map}
 use Rattle.std.specs.Option.{IfSome, option_map, option_map_or}
+use Rattle.std.proofs.lemmas.List.{length-map}
 use Rattle.pb_values.specs.Name.{NameValue}
+use Rattle.pb_syntax.specs.declared.limits.TheConstants.{MOST_TERMS}
+use Rattle.pb_syntax.specs.declared.tree.form.TermText.{TermText}
 use Rattle.pb_syntax.specs.Forms.{FormValue}
+use Rattle.pb_syntax.specs.WithinLimits.{Counts, DimsWithin, FirstIsPlain, FormWithin, StmtWithin, StmtsWithin, TermWithin}
 use Rattle.pb_syntax.specs.Exprs.{ExprTree, ExprTrees, Operands}
 use Rattle.pb_syntax.specs.Exprs as text
 use Rattle.pb_syntax.specs.Stmts.{StmtTree, StmtTrees}
@@ -14,13 +18,13 @@ use Rattle.pb_program.specs.declared.meaning.Meaning.TheVariants as meaning
 use Rattle.pb_program.specs.declared.meaning.Function.{Function}
 use Rattle.pb_program.specs.Stmts.{stmts}
 use Rattle.pb_program.specs.Stmts as to
-use Rattle.pb_program.specs.WellFormed.{Around, AreExprs, AreOperands, AreStmts, DimIsThere, IsCallee, IsExpr, IsStmt, IsThere, NameIsThere, TermIsThere, statements_among, statements_in}
+use Rattle.pb_program.specs.WellFormed.{Around, AreExprs, AreOperands, AreStmts, IsCallee, IsDim, IsExpr, IsStmt, IsTerm, IsThere, NameIsThere, statements_among, statements_in}
 use Rattle.pb_program.specs.WellFormed as fits
 use Rattle.pb_names.specs.Names.{look}
 use Rattle.pb_names.specs.Faults.{unknown}
 use Rattle.pb_names.specs.Turns.{turns, turn_faults}
 use Rattle.pb_names.specs.Bodies.{Visible, after, called, called_by, called_faults, callee_or, declare, expr_faults, expr_of, exprs_faults, exprs_of, form_faults, function_of, local_form, meaning_or, named, operands_faults, operands_of, stmt_faults, stmt_of, stmts_faults, stmts_of, term_faults, term_of, use_faults}
-use Rattle.pb_names.proofs.ListFits.{all_push, all_same, all_three, both, clean_mapped, found_fits}
+use Rattle.pb_names.proofs.ListFits.{all_push, all_same, all_three, both, clean_mapped, found_fits, within_mapped}
 use Rattle.pb_names.proofs.FormsFit.{Fit}
 
 -- the statements of a body as those of a block
@@ -47,6 +51,19 @@ mutual
 pub body_count : (v : Visible) (ss : List StmtTree) → statements_among (stmts (turns after stmt_of v ss)) ≡ tree.among ss
 body_count v [] = refl
 body_count v (s ∷ ss) = rw (count_in v s, body_count (after v s) ss) refl
+
+-- a form within the limits has a term, and takes no quotient but by 2, 3 or 4
+some_terms : (ts : List TermText) → FirstIsPlain ts → 1 ≤ length ts
+some_terms [] h = absurd h
+some_terms (t ∷ ts) h = omega arith
+
+few_parts : (k : ℕ) {A : Type 0} → (k ≡ 0) ⊎ (Counts 2 4 k × A) → (k ≡ 0) ⊎ Counts 2 4 k
+few_parts k (inl none) = inl none
+few_parts k (inr h) = inr h.0
+
+stmts_within : (d : ℕ) (ss : List StmtTree) → AllByRecursion (StmtWithin d) ss → StmtsWithin d (text_stmt.stmts ss)
+stmts_within d [] w = w
+stmts_within d (s ∷ ss) w = (w.0, stmts_within d ss w.1)
 
 module _ (a : Around) where
   -- with more locals
@@ -115,11 +132,18 @@ module _ (a : Around) where
     term_name None e = tt {0}
     term_name (Some n) e = used n e
 
-    dim_fits : (f : FormValue) → form_faults v f ≡ [] → DimIsThere a v.locals (local_form v f)
-    dim_fits f e = clean_mapped (term_of v) (TermIsThere a v.locals) (term_faults v) (λ t h. term_name t.name h) f.terms e
+    term_fits : (t : TermText) → TermWithin t → term_faults v t ≡ [] → IsTerm a v.locals (term_of v t)
+    term_fits t w e = record { factor = w.factor; quotient = few_parts t.quotient w.quotient; name = term_name t.name e }
 
-    dims_fit : (ds : List FormValue) → flat_map (form_faults v) ds ≡ [] → AllByRecursion (DimIsThere a v.locals) (map (local_form v) ds)
-    dims_fit ds e = clean_mapped (local_form v) (DimIsThere a v.locals) (form_faults v) dim_fits ds e
+    dim_fits : (f : FormValue) → FormWithin f → form_faults v f ≡ [] → IsDim a v.locals (local_form v f)
+    dim_fits f w e = record {
+      few = subst (Counts 1 MOST_TERMS) (sym (length-map f.terms (term_of v))) (some_terms f.terms w.first, w.few);
+      terms = within_mapped (term_of v) TermWithin (IsTerm a v.locals) (term_faults v) term_fits f.terms w.terms e;
+    }
+
+    dims_fit : (ds : List FormValue) → DimsWithin ds → flat_map (form_faults v) ds ≡ []
+        → Counts 1 2 (length (map (local_form v) ds)) × AllByRecursion (IsDim a v.locals) (map (local_form v) ds)
+    dims_fit ds w e = (subst (Counts 1 2) (sym (length-map ds (local_form v))) w.0, within_mapped (local_form v) FormWithin (IsDim a v.locals) (form_faults v) dim_fits ds w.1 e)
 
     -- what the statements after one see
     seen_after : (x : StmtTree) → Sees (after v x)
@@ -132,25 +156,27 @@ module _ (a : Around) where
   locals_after v x = refl
 
   mutual
-    stmt_fits : (v : Visible) → Sees v → (x : StmtTree) → stmt_faults v x ≡ [] → IsStmt a v.locals (stmt_of v x)
-    stmt_fits v s (text_stmt.let_number at n x) e = both (λ d. refl) (expr_fits v s x) e
-    stmt_fits v s (text_stmt.let_matrix at n dims) e = both (λ d. refl) (dims_fit v s dims) e
-    stmt_fits v s (text_stmt.assign n x) e = both (used v s n) (expr_fits v s x) e
-    stmt_fits v s (text_stmt.call_stmt ns n xs) e = all_three (targets_fit v s ns) (callable v s n) (list_fits v s xs) e
-    stmt_fits v s (text_stmt.assign_cell n xs x) e = all_three (used v s n) (list_fits v s xs) (expr_fits v s x) e
-    stmt_fits v s (text_stmt.if_stmt at x ss) e = both (expr_fits v s x) (stmts_fit v s ss) e
-    stmt_fits v s (text_stmt.if_else at x ss others) e = all_three (expr_fits v s x) (stmts_fit v s ss) (stmts_fit v s others) e
-    stmt_fits v s (text_stmt.for_stmt at n x y ss) e =
-        let inner = stmts_fit (declare v n meaning.Number) (declared v s n meaning.Number (omega arith)) ss in
+    stmt_fits : (b : ℕ) (v : Visible) → Sees v → (x : StmtTree) → StmtWithin b x → stmt_faults v x ≡ [] → IsStmt a v.locals (stmt_of v x)
+    stmt_fits b v s (text_stmt.let_number at n x) w e = both (λ d. refl) (expr_fits v s x) e
+    stmt_fits b v s (text_stmt.let_matrix at n dims) w e =
+        let d = both {P = Unit {0}} (λ d. tt {0}) (dims_fit v s dims w.1) e in (refl, d.1.0, d.1.1)
+    stmt_fits b v s (text_stmt.assign n x) w e = both (used v s n) (expr_fits v s x) e
+    stmt_fits b v s (text_stmt.call_stmt ns n xs) w e = all_three (targets_fit v s ns) (callable v s n) (list_fits v s xs) e
+    stmt_fits b v s (text_stmt.assign_cell n xs x) w e = all_three (used v s n) (list_fits v s xs) (expr_fits v s x) e
+    stmt_fits b v s (text_stmt.if_stmt at x ss) w e = both (expr_fits v s x) (stmts_fit (suc b) v s ss w.2) e
+    stmt_fits b v s (text_stmt.if_else at x ss others) w e =
+        all_three (expr_fits v s x) (stmts_fit (suc b) v s ss w.2) (stmts_fit (suc b) v s others w.3) e
+    stmt_fits b v s (text_stmt.for_stmt at n x y ss) w e =
+        let inner = stmts_fit (suc b) (declare v n meaning.Number) (declared v s n meaning.Number (omega arith)) ss w.4 in
         let parts = both (λ d. d) (all_three (expr_fits v s x) (expr_fits v s y) inner) e in
         (refl, parts.1.0, parts.1.1, parts.1.2)
 
-    stmts_fit : (v : Visible) → Sees v → (ss : StmtTrees) → stmts_faults v ss ≡ [] → AreStmts a v.locals (stmts_of v ss)
-    stmts_fit v s text_stmt.no_stmts e = tt {0}
-    stmts_fit v s (text_stmt.a_stmt x rest) e =
-        let others = λ (d : stmts_faults (after v x) rest ≡ []). stmts_fit (after v x) (seen_after v s x) rest d in
-        both (stmt_fits v s x) (λ d. subst (λ l. AreStmts a l (stmts_of (after v x) rest)) (locals_after v x) (others d)) e
+    stmts_fit : (b : ℕ) (v : Visible) → Sees v → (ss : StmtTrees) → StmtsWithin b ss → stmts_faults v ss ≡ [] → AreStmts a v.locals (stmts_of v ss)
+    stmts_fit b v s text_stmt.no_stmts w e = tt {0}
+    stmts_fit b v s (text_stmt.a_stmt x rest) w e =
+        let others = λ (d : stmts_faults (after v x) rest ≡ []). stmts_fit b (after v x) (seen_after v s x) rest w.1 d in
+        both (stmt_fits b v s x w.0) (λ d. subst (λ l. AreStmts a l (stmts_of (after v x) rest)) (locals_after v x) (others d)) e
 
-  pub body_fits : (v : Visible) → Sees v → (ss : List StmtTree) → turn_faults after stmt_faults v ss ≡ []
+  pub body_fits : (v : Visible) → Sees v → (ss : List StmtTree) → AllByRecursion (StmtWithin 1) ss → turn_faults after stmt_faults v ss ≡ []
       → AreStmts a v.locals (stmts (turns after stmt_of v ss))
-  body_fits v s ss e = subst (AreStmts a v.locals) (sym (body_is v ss)) (stmts_fit v s (text_stmt.stmts ss) (sym (body_faults_are v ss) ∙ e))
+  body_fits v s ss w e = subst (AreStmts a v.locals) (sym (body_is v ss)) (stmts_fit 1 v s (text_stmt.stmts ss) (stmts_within 1 ss w) (sym (body_faults_are v ss) ∙ e))

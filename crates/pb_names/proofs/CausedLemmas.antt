@@ -1,5 +1,5 @@
 -- Want of memory is no fault of a tree.
-use Rattle.std.proofs.Common.{◌≡◌, ℕ, Bool, true, false, List, [], ◌∷◌, ◌++◌, Option, Some, None, subst, sym}
+use Rattle.std.proofs.Common.{ℕ, Bool, true, false, List, [], ◌∷◌, ◌++◌, Option, Some, None}
 use Rattle.std.specs.List.{AllByRecursion, flat_map}
 use Rattle.std.specs.Option.{option_map_or}
 use Rattle.pb_values.specs.Name.{NameValue}
@@ -9,7 +9,6 @@ use Rattle.pb_syntax.specs.Stmts.{StmtTree, StmtTrees}
 use Rattle.pb_syntax.specs.Stmts as text_stmt
 use Rattle.pb_syntax.specs.Forms.{FormValue, DeclValue as DeclText}
 use Rattle.pb_syntax.specs.Trees.{RuleTree, TransformTree}
-use Rattle.pb_syntax.specs.declared.refusal.Refusal.{Refusal}
 use Rattle.pb_syntax.specs.declared.refusal.Refusal.TheVariants as refusal
 use Rattle.pb_syntax.specs.declared.tree.view.UseText.{UseText}
 use Rattle.pb_program.specs.declared.meaning.Meaning.TheVariants as meaning
@@ -19,7 +18,7 @@ use Rattle.pb_names.specs.declared.matrices.Matrix.{Matrix}
 use Rattle.pb_names.specs.Faults.{duplicate, unknown, not_bound, bad_output}
 use Rattle.pb_names.specs.Turns.{turn_faults}
 use Rattle.pb_names.specs.Bodies.{Visible, after, declare, expr_faults, exprs_faults, operands_faults, form_faults, term_faults, use_faults, stmt_faults, stmts_faults}
-use Rattle.pb_names.specs.Views.{Matrices, Place, after_out, after_read, bind, binders, bound_faults, cond_faults, coordinates_faults, forms_of, out_faults_at, outs_faults, read_faults_at, reads_faults, start, variables_faults, view_form_faults, view_term_faults}
+use Rattle.pb_names.specs.Views.{Matrices, Place, after_out, after_read, binders, cond_faults, coordinates_faults, forms_of, out_faults_at, read_faults_at, start, variables_faults, view_form_faults, view_term_faults}
 use Rattle.pb_names.specs.Rules.{inner, is_single, rule_faults}
 use Rattle.pb_names.specs.Transforms.{all_names, between, decls_faults, faults_of, given, header_form_faults, header_term_faults, matrices_of, matrix_faults, minimum_faults, named_faults, next_matrix, next_minimum, next_transform, seen, transform_faults, IsRefused, IsRefusedFor}
 

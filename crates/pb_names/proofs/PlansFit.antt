@@ -1,6 +1,7 @@
 -- Plans: the matrices that their calls name are there, and the matrices that they declare are as they have to be.
-use Rattle.std.proofs.Common.{◌≡◌, ℕ, ◌+◌, ◌<◌, ◌≤◌, Bool, true, false, List, [], ◌∷◌, Option, Some, None, length, refl, arith}
-use Rattle.std.specs.List.{AllByRecursion}
+use Rattle.std.proofs.Common.{◌≡◌, ℕ, ◌+◌, ◌<◌, ◌≤◌, Bool, true, false, List, [], ◌∷◌, Option, Some, None, length, map, refl, arith}
+use Rattle.std.specs.List.{AllByRecursion, flat_map}
+use Rattle.std.proofs.lemmas.List.{length-map}
 use Rattle.std.specs.Option.{IfSome}
 use Rattle.pb_syntax.specs.Forms.{FormValue}
 use Rattle.pb_syntax.specs.Stmts.{StmtTree}
@@ -19,9 +20,9 @@ use Rattle.pb_program.specs.Exprs as e
 use Rattle.pb_program.specs.Stmts.{StmtValue, stmts}
 use Rattle.pb_program.specs.Stmts as s
 use Rattle.pb_program.specs.Forms.{DeclValue}
-use Rattle.pb_program.specs.Plans.{PlanCallValue, all_some, argument_slot, argument_slots, call_by, call_of, called_by, calls_of, items, put, slot_of, target_slots, transform_call}
+use Rattle.pb_program.specs.Plans.{PlanCallValue, all_some, argument_slot, argument_slots, call_by, call_of, called_by, calls_of, declared_dims, items, put, slot_of, target_slots, transform_call}
 use Rattle.pb_program.specs.WellFormed.{Around, AreExprs, AreStmts, IsCallee, IsDecl, IsExpr, IsPlanCall, IsStmt, IsThere, PlanFits, SlotIsThere}
-use Rattle.pb_names.specs.Bodies.{Visible, declare, stmt_of}
+use Rattle.pb_names.specs.Bodies.{Visible, after, declare, local_form, stmt_of}
 use Rattle.pb_names.specs.Rules.{body_of, decl_of, kind_by, locals_of, plan_by}
 use Rattle.pb_names.proofs.ListFits.{all_same}
 use Rattle.pb_names.proofs.FormsFit.{Fit, collected_fits, constant_fits}
@@ -43,6 +44,19 @@ module _ (a : Around) (l : ℕ) (names : List (List ℕ × Meaning)) (fit : Fit 
     h = (collected_fits a l names fit g w.1.1.0).rest;
     flat = λ e. absurd (omega arith);
   }
+
+  -- as many dimensions as the statements declare
+  decl_dims : (n : NameValue) (dims : List FormValue) → DimsWithin dims → (decl_of names n dims).dims ≡ length dims
+  decl_dims n [] w = let none = w.0.0 in absurd (omega arith)
+  decl_dims n (f ∷ []) w = refl
+  decl_dims n (f ∷ g ∷ []) w = refl
+  decl_dims n (f ∷ g ∷ h ∷ rest) w = let many = w.0.1 in absurd (omega arith)
+
+  locals_dims : (v : Visible) (ss : List StmtTree) → AllByRecursion (StmtWithin 1) ss → map (λ d. d.dims) (locals_of names ss) ≡ flat_map declared_dims (body_of v ss)
+  locals_dims v [] w = refl
+  locals_dims v (text.let_matrix at n dims ∷ ss) w =
+      rw (decl_dims n dims w.0.1, locals_dims (declare v n meaning.Matrix) ss w.1, length-map dims (local_form v)) refl
+  locals_dims v (x ∷ ss) w = locals_dims (after v x) ss w.1
 
   locals_fit : (ss : List StmtTree) → AllByRecursion (StmtWithin 1) ss → AllByRecursion (IsDecl a.sizes) (locals_of names ss)
   locals_fit [] w = tt {0}
@@ -132,17 +146,17 @@ module _ (a : Around) where
     calls_there v (x ∷ ss) few h = tt {0}
 
   plan_by_fits : (body : List StmtValue) (locals : List DeclValue) (planned cell : Bool) (o : Option (List PlanCallValue)) → calls_of body ≡ o
-      → AllByRecursion (IsDecl a.sizes) locals
+      → map (λ d. d.dims) locals ≡ flat_map declared_dims body → AllByRecursion (IsDecl a.sizes) locals
       → IfSome o (AllByRecursion (IsPlanCall a (length locals))) → PlanFits a (kind_by planned cell) body (plan_by planned locals o)
-  plan_by_fits body locals true cell (Some calls) e h k = (e, record { locals = h; calls = k })
-  plan_by_fits body locals true cell None e h k = e
-  plan_by_fits body locals false true o e h k = tt {0}
-  plan_by_fits body locals false false o e h k = tt {0}
+  plan_by_fits body locals true cell (Some calls) e same h k = (e, same, record { locals = h; calls = k })
+  plan_by_fits body locals true cell None e same h k = e
+  plan_by_fits body locals false true o e same h k = tt {0}
+  plan_by_fits body locals false false o e same h k = tt {0}
 
   -- the plan of a rule
   pub plan_fits : (v : Visible) → Fit a v.locals v.names → v.locals ≡ 0 → (ss : List StmtTree) (planned cell : Bool) → AllByRecursion (StmtWithin 1) ss
       → AreStmts a v.locals (stmts (body_of v ss))
       → PlanFits a (kind_by planned cell) (body_of v ss) (plan_by planned (locals_of v.names ss) (calls_of (body_of v ss)))
   plan_fits v fit none ss planned cell w h =
-      plan_by_fits (body_of v ss) (locals_of v.names ss) planned cell (calls_of (body_of v ss)) refl (locals_fit a v.locals v.names fit ss w)
+      plan_by_fits (body_of v ss) (locals_of v.names ss) planned cell (calls_of (body_of v ss)) refl (locals_dims a v.locals v.names fit v ss w) (locals_fit a v.locals v.names fit ss w)
       (calls_there v.names (length (locals_of v.names ss)) v ss (omega arith) h)

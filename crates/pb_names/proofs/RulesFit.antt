@@ -40,7 +40,7 @@ module _ (sizes transforms : ℕ) (ms : Matrices) (matrices : ℕ) (known : AllB
         let free = λ (k : ℕ). sees (record b { variables = k }) refl refl in
         let o = outs_fit b ms matrices known v (free, locals) r.outs w.outputs.0.0 (omega arith) w.outputs.1 clean.0 in
         let d = reads_there a ms matrices known (after_outs v r.outs) o.sees o.locals r.reads (omega arith) w.reads.1 clean.1.0 in
-        let there = body_fits a (inner v r) d.1.sees r.body clean.1.1.1 in
+        let there = body_fits a (inner v r) d.1.sees r.body w.body clean.1.1.1 in
         record {
           some_output = (omega (arith, w.outputs.0), omega (arith, w.outputs.0));
           few_reads = omega (arith, w.reads.0);

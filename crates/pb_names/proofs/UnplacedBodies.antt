@@ -1,5 +1,5 @@
 -- What names are, and what is wrong with them, doesn't depend on the places of a tree: parts of bodies.
-use Rattle.std.proofs.Common.{◌≡◌, ℕ, ◌+◌, Bool, true, false, List, [], ◌∷◌, ◌++◌, length, map, Option, Some, None, refl, sym, ap, ◌∙◌}
+use Rattle.std.proofs.Common.{◌≡◌, Bool, true, false, List, [], ◌∷◌, map, Option, Some, None, refl, ap, ◌∙◌}
 use Rattle.std.specs.List.{flat_map}
 use Rattle.std.specs.Option.{option_map, option_map_or}
 use Rattle.pb_values.specs.Name.{NameValue}
@@ -10,7 +10,6 @@ use Rattle.pb_syntax.specs.Exprs as text
 use Rattle.pb_syntax.specs.Stmts.{StmtTree, StmtTrees}
 use Rattle.pb_syntax.specs.Stmts as text_stmt
 use Rattle.pb_syntax.specs.Places.{unplaced_name, unplaced_option, unplaced_term, unplaced_form, unplaced_expr, unplaced_exprs, unplaced_operands, unplaced_stmt, unplaced_stmts}
-use Rattle.pb_program.specs.Forms.{LocalFormValue}
 use Rattle.pb_program.specs.declared.meaning.Meaning.TheVariants as meaning
 use Rattle.pb_program.specs.Places.{unplaced_named, unplaced_local_term, unplaced_local_form, unplaced_value, unplaced_values, unplaced_operand_values, unplaced_statement, unplaced_statements}
 use Rattle.pb_program.proofs.Kept.{joined, flat_kept, made_kept}
@@ -18,7 +17,7 @@ use Rattle.pb_names.specs.declared.fault.Fault.{Fault}
 use Rattle.pb_names.specs.Faults.{duplicate, unknown, not_bound, bad_output}
 use Rattle.pb_names.specs.Unplaced.{unplaced_fault}
 use Rattle.pb_names.specs.Turns.{after_turns, turns, turn_faults}
-use Rattle.pb_names.specs.Bodies.{Visible, named, called, use_faults, declared_faults, called_faults, expr_of, exprs_of, operands_of, expr_faults, exprs_faults, operands_faults, term_of, term_faults, local_form, form_faults, after, stmt_of, stmts_of, stmt_faults, stmts_faults, declare}
+use Rattle.pb_names.specs.Bodies.{Visible, named, use_faults, declared_faults, called_faults, expr_of, exprs_of, operands_of, expr_faults, exprs_faults, operands_faults, term_of, term_faults, local_form, form_faults, after, stmt_of, stmts_of, stmt_faults, stmts_faults, declare}
 
 -- items in turn
 module _ {A : Type 0} (u : A → A) where

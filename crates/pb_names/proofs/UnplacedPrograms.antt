@@ -1,9 +1,9 @@
 -- What names are, and what is wrong with them, doesn't depend on the places of a tree: rules, transforms and programs.
-use Rattle.std.proofs.Common.{◌≡◌, ℕ, ◌+◌, Bool, true, false, if◌then◌else◌, ◌||◌, List, [], ◌∷◌, ◌++◌, length, map, Option, Some, None, is_some, filter, refl, sym, ap, ◌∙◌}
+use Rattle.std.proofs.Common.{◌≡◌, ℕ, ◌+◌, Bool, true, false, if◌then◌else◌, List, [], ◌∷◌, ◌++◌, map, Option, Some, None, is_some, filter, refl, sym, ap, ◌∙◌}
 use Rattle.std.specs.Prelude.{slice_get}
 use Rattle.std.proofs.lemmas.List.{map-append}
 use Rattle.std.proofs.lemmas.Option.{slice_get-map}
-use Rattle.std.specs.List.{flat_map, list_any}
+use Rattle.std.specs.List.{list_any}
 use Rattle.std.specs.Option.{option_map}
 use Rattle.pb_values.specs.Name.{NameValue}
 use Rattle.pb_syntax.specs.Limits.{alone}
@@ -19,19 +19,17 @@ use Rattle.pb_program.specs.Exprs.{ExprValue, ExprValues, OperandValues, number,
 use Rattle.pb_program.specs.Stmts.{StmtValue, StmtValues, let_number, let_matrix, assign, call_stmt, assign_cell, if_stmt, if_else, for_stmt, no_stmts, a_stmt, stmts}
 use Rattle.pb_program.specs.declared.meaning.Named.{Named}
 use Rattle.pb_program.specs.Forms.{DeclValue}
-use Rattle.pb_program.specs.Plans.{PlanCallValue, PlanValue, all_some, put, argument_slot, argument_slots, target_slots, slot_of, call_of, called_by, calls_of, is_call, items, transform_call}
-use Rattle.pb_program.specs.Places.{unplaced_named, unplaced_value, unplaced_values, unplaced_operand_values, unplaced_statement, unplaced_statements, unplaced_matrix, unplaced_read, unplaced_plan, unplaced_prog_rule, unplaced_prog_transform, unplaced_prog}
-use Rattle.pb_program.specs.Trees.{ProgTransform}
+use Rattle.pb_program.specs.Plans.{PlanCallValue, all_some, argument_slot, argument_slots, target_slots, slot_of, call_of, called_by, calls_of, is_call, items, transform_call}
+use Rattle.pb_program.specs.Places.{unplaced_named, unplaced_value, unplaced_values, unplaced_operand_values, unplaced_statement, unplaced_statements, unplaced_matrix, unplaced_plan, unplaced_prog_rule, unplaced_prog_transform, unplaced_prog}
 use Rattle.pb_names.specs.declared.matrices.Matrix.{Matrix}
 use Rattle.pb_names.specs.Unplaced.{unplaced_fault}
 use Rattle.pb_names.specs.Names.{look}
-use Rattle.pb_names.specs.Sums.{collected}
 use Rattle.pb_names.specs.Turns.{after_turns, turns, turn_faults}
-use Rattle.pb_names.specs.Kinds.{is_transform, calls, some_calls, some_operand_calls, plans, some_plans}
-use Rattle.pb_names.specs.Bodies.{Visible, after, stmt_of, stmt_faults, function_of}
-use Rattle.pb_names.specs.Views.{Matrices, after_outs, after_reads, binders, cond_of, cond_faults, has_names, is_size, outs_of, reads_of, outs_faults, reads_faults}
-use Rattle.pb_names.specs.Rules.{body_of, decl_of, inner, is_cell, is_plan, is_single, local_of, locals_of, plan_by, plan_with, rule_faults, rule_of}
-use Rattle.pb_names.specs.Transforms.{Minimums, all_matrices, all_names, around, between, count_of, decls_faults, decls_of, entries, faults_of, first_names, given, header_faults, header_form_faults, header_term_faults, least_at, least_by, matrices_of, matrix_faults, matrix_of, minimum_faults, minimums_of, named_faults, next_matrix, next_minimum, next_transform, program_of, put_size, ranges_of, seen, sizes, sizes_in, sizes_of, transform_faults, transform_of}
+use Rattle.pb_names.specs.Kinds.{calls, some_calls, some_operand_calls, plans, some_plans}
+use Rattle.pb_names.specs.Bodies.{Visible, after, stmt_of, stmt_faults}
+use Rattle.pb_names.specs.Views.{Matrices, after_outs, binders, cond_of, cond_faults, has_names}
+use Rattle.pb_names.specs.Rules.{body_of, decl_of, inner, is_cell, is_plan, is_single, local_of, locals_of, plan_by, rule_faults, rule_of}
+use Rattle.pb_names.specs.Transforms.{Minimums, all_matrices, all_names, between, count_of, decls_faults, decls_of, entries, faults_of, first_names, given, header_faults, header_form_faults, header_term_faults, least_at, least_by, matrices_of, matrix_faults, matrix_of, minimum_faults, minimums_of, named_faults, next_matrix, next_minimum, next_transform, program_of, put_size, ranges_of, seen, sizes, sizes_in, sizes_of, transform_faults, transform_of}
 use Rattle.pb_program.proofs.Kept.{joined, flat_kept, made_kept, same_kept, length_kept}
 use Rattle.pb_program.proofs.UnplacedLists.{items_kept, listed_kept}
 use Rattle.pb_names.proofs.UnplacedBodies.{after_kept, turns_kept, faults_kept, duplicate_kept, not_bound_kept, optional_faults, seen_kept, statement_kept, stmt_kept}

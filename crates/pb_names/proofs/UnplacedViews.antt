@@ -1,8 +1,7 @@
 -- What names are, and what is wrong with them, doesn't depend on the places of a tree: views and conditions.
-use Rattle.std.proofs.Common.{◌≡◌, ℕ, ◌&&◌, ◌==◌, Bool, true, false, if◌then◌else◌, List, [], ◌∷◌, ◌++◌, map, Option, Some, None, refl, ap, ◌∙◌}
-use Rattle.std.specs.List.{flat_map, list_all}
+use Rattle.std.proofs.Common.{◌≡◌, ℕ, ◌&&◌, ◌==◌, Bool, true, false, if◌then◌else◌, List, [], ◌∷◌, map, Option, Some, None, refl, ap, ◌∙◌}
+use Rattle.std.specs.List.{flat_map}
 use Rattle.std.specs.Option.{option_map}
-use Rattle.pb_linear.specs.Numbers.{Numbers}
 use Rattle.pb_values.specs.Name.{NameValue}
 use Rattle.pb_syntax.specs.Limits.{alone, alone_in}
 use Rattle.pb_syntax.specs.Forms.{FormValue}
@@ -16,12 +15,11 @@ use Rattle.pb_program.specs.declared.meaning.Meaning.{Meaning}
 use Rattle.pb_program.specs.declared.meaning.Meaning.TheVariants as meaning
 use Rattle.pb_program.specs.Forms.{CoordinateValue, nothing}
 use Rattle.pb_program.specs.Places.{unplaced_read}
-use Rattle.pb_names.specs.declared.fault.Fault.{Fault}
 use Rattle.pb_names.specs.declared.matrices.Matrix.{Matrix}
 use Rattle.pb_names.specs.Unplaced.{unplaced_fault}
 use Rattle.pb_names.specs.Sums.{add_by_name, add_term, add_terms, collected, sum_of_terms}
 use Rattle.pb_names.specs.Bodies.{Visible}
-use Rattle.pb_names.specs.Views.{Matrices, Place, after_out, after_outs, after_read, after_reads, are_free, binders, binders_in, bind, bound_faults, cond_faults, cond_of, coordinate_names, coordinates_faults, dims_of, forms_of, has_names, is_bad_output, is_row, kind_of, out_at, out_faults, out_faults_at, out_scope, outs_faults, outs_of, put_name, read_at, read_faults, read_faults_at, read_of, reads_faults, reads_of, repeats, start, variables_faults, view_form_faults, view_name_faults, view_of, view_term_faults, with_variables, x0_of, x1_of, y0_of, y1_of}
+use Rattle.pb_names.specs.Views.{Matrices, Place, after_out, after_outs, after_read, after_reads, are_free, binders, binders_in, bind, bound_faults, cond_faults, cond_of, coordinate_names, coordinates_faults, dims_of, forms_of, has_names, is_bad_output, is_row, kind_of, out_at, out_faults, out_faults_at, out_scope, outs_faults, outs_of, put_name, read_at, read_faults, read_faults_at, reads_faults, reads_of, repeats, start, variables_faults, view_form_faults, view_name_faults, view_of, view_term_faults, with_variables, x0_of, x1_of, y0_of, y1_of}
 use Rattle.pb_program.proofs.Kept.{joined, flat_kept}
 use Rattle.pb_names.proofs.UnplacedBodies.{after_kept, turns_kept, faults_kept, duplicate_kept, unknown_kept, bad_output_kept, optional_faults}
 

@@ -1,5 +1,5 @@
 -- A resolved program with its places aside: each place in it is 0.
-use Rattle.std.specs.Prelude.{ℕ, List, map, Option}
+use Rattle.std.specs.Prelude.{List, map}
 use Rattle.std.specs.Option.{option_map}
 use Rattle.pb_syntax.specs.Places.{unplaced_name}
 use Rattle.pb_program.specs.declared.meaning.Named.{Named}

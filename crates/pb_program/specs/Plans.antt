@@ -1,5 +1,5 @@
 -- What contracts see of plans, and which statements a plan has.
-use Rattle.std.specs.Prelude.{ℕ, Bool, true, false, List, [], ◌∷◌, Option, Some, None, filter}
+use Rattle.std.specs.Prelude.{ℕ, Bool, true, false, List, [], ◌∷◌, length, Option, Some, None, filter}
 use Rattle.pb_program.specs.declared.meaning.Meaning.{Meaning}
 use Rattle.pb_program.specs.declared.meaning.Meaning.TheVariants as meaning
 use Rattle.pb_program.specs.declared.meaning.Named.{Named}
@@ -75,6 +75,11 @@ call_of _ = None
 abbrev pub is_call : StmtValue → Bool
 is_call (s.let_matrix at n dims) = false
 is_call _ = true
+
+-- how many dimensions the matrix has that a statement declares, if it declares one
+abbrev pub declared_dims : StmtValue → List ℕ
+declared_dims (s.let_matrix at n dims) = length dims ∷ []
+declared_dims _ = []
 
 -- the calls, if each statement is a call of a transform or declares a matrix
 abbrev pub calls_of : List StmtValue → Option (List PlanCallValue)

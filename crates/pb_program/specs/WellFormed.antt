@@ -1,11 +1,11 @@
 -- What is true of each program that `resolve` answers.
 use Rattle.std.specs.Prelude.{◌≡◌, ◌≢◌, ℕ, ◌+◌, ◌^◌, ◌≤◌, ◌<◌, ℤ, pos, unsigned_abs, Bool, false, IsTrue, nat_le, ◌==◌, if◌then◌else◌, List, [], ◌∷◌, length, drop, take, map, Option, Some, None, ◌⊎◌, slice_index, slice_get}
-use Rattle.std.specs.List.{AllByRecursion, list_all}
+use Rattle.std.specs.List.{AllByRecursion, flat_map, list_all}
 use Rattle.pb_linear.specs.Numbers.{Numbers, coefficient}
 use Rattle.pb_linear.specs.declared.sizes.Ranges.{Ranges}
 use Rattle.pb_linear.specs.declared.sizes.TheConstants.{SIZE_TOP}
 use Rattle.pb_values.specs.Name.{NameValue}
-use Rattle.pb_syntax.specs.declared.limits.TheConstants.{MOST_TRANSFORMS, MOST_RULES, MOST_MATRICES, MOST_SIZES, MOST_VIEWS, MOST_CONDITIONS, MOST_STATEMENTS}
+use Rattle.pb_syntax.specs.declared.limits.TheConstants.{MOST_TRANSFORMS, MOST_RULES, MOST_MATRICES, MOST_SIZES, MOST_VIEWS, MOST_CONDITIONS, MOST_STATEMENTS, MOST_TERMS, MOST_NUMBER}
 use Rattle.pb_syntax.specs.declared.tree.expression.Relation.TheVariants.{Unequal}
 use Rattle.pb_syntax.specs.Limits.{is_known}
 use Rattle.pb_syntax.specs.WithinLimits.{IsNamed, Counts}
@@ -27,7 +27,7 @@ use Rattle.pb_program.specs.Exprs.{ExprValue, ExprValues, OperandValues, no_expr
 use Rattle.pb_program.specs.Exprs as e
 use Rattle.pb_program.specs.Stmts.{StmtValue, StmtValues, no_stmts, a_stmt}
 use Rattle.pb_program.specs.Stmts as s
-use Rattle.pb_program.specs.Plans.{PlanValue, PlanCallValue, calls_of}
+use Rattle.pb_program.specs.Plans.{PlanValue, PlanCallValue, calls_of, declared_dims}
 use Rattle.pb_program.specs.Trees.{ProgRule, ProgTransform}
 
 -- a number of a form: at most 2^23 in absolute value
@@ -154,11 +154,15 @@ module _ (a : Around) where
   NameIsThere l None = Unit {0}
   NameIsThere l (Some n) = IsThere l n.what
 
-  abbrev pub TermIsThere : ℕ → LocalTerm → Type 0
-  TermIsThere l t = NameIsThere l t.name
+  -- a term of a dimension of a local, within the limits
+  pub record IsTerm (l : ℕ) (t : LocalTerm) : Type 0 where
+    pub factor : t.factor ≤ MOST_NUMBER
+    pub quotient : (t.quotient ≡ 0) ⊎ Counts 2 4 t.quotient
+    pub name : NameIsThere l t.name
 
-  abbrev pub DimIsThere : ℕ → LocalFormValue → Type 0
-  DimIsThere l f = AllByRecursion (TermIsThere l) f.terms
+  pub record IsDim (l : ℕ) (f : LocalFormValue) : Type 0 where
+    pub few : Counts 1 MOST_TERMS (length f.terms)
+    pub terms : AllByRecursion (IsTerm l) f.terms
 
   -- how many locals are visible after a statement
   abbrev pub after : ℕ → StmtValue → ℕ
@@ -169,7 +173,7 @@ module _ (a : Around) where
   abbrev mutual
     pub IsStmt : ℕ → StmtValue → Type 0
     IsStmt l (s.let_number at n x) = (n.what ≡ meaning.Number l) × IsExpr l x
-    IsStmt l (s.let_matrix at n dims) = (n.what ≡ meaning.Matrix l) × AllByRecursion (DimIsThere l) dims
+    IsStmt l (s.let_matrix at n dims) = (n.what ≡ meaning.Matrix l) × Counts 1 2 (length dims) × AllByRecursion (IsDim l) dims
     IsStmt l (s.assign n x) = IsThere l n.what × IsExpr l x
     IsStmt l (s.call_stmt ns c xs) = AllByRecursion (λ n. IsThere l n.what) ns × IsCallee c.what × AllByRecursion (IsExpr l) xs
     IsStmt l (s.assign_cell n xs x) = IsThere l n.what × AllByRecursion (IsExpr l) xs × IsExpr l x
@@ -195,10 +199,11 @@ module _ (a : Around) where
     pub locals : AllByRecursion (IsDecl a.sizes) p.locals
     pub calls : AllByRecursion (IsPlanCall (length p.locals)) p.calls
 
-  -- a plan is there exactly where the rule is one and each statement is a declaration or a call; its calls are these
+  -- a plan is there exactly where the rule is one and each statement is a declaration or a call; its calls are these,
+  -- and its locals have the dimensions that are declared
   abbrev pub PlanFits : RuleKind → List StmtValue → Option PlanValue → Type 0
   PlanFits kind.Plan body None = calls_of body ≡ None
-  PlanFits kind.Plan body (Some p) = (calls_of body ≡ Some p.calls) × IsPlan p
+  PlanFits kind.Plan body (Some p) = (calls_of body ≡ Some p.calls) × (map (λ d. d.dims) p.locals ≡ flat_map declared_dims body) × IsPlan p
   PlanFits _ body None = Unit {0}
   PlanFits _ body (Some p) = ⊥
 

@@ -3,8 +3,8 @@ use Rattle.std.proofs.Common.{◌≡◌, refl, ◌<◌, ◌≤◌, ℕ, List, ma
 use Rattle.std.proofs.lemmas.Option.{slice_get-get_or, slice_get-map, slice_get_past}
 use Rattle.std.proofs.lemmas.List.{length-map}
 use Rattle.pb_program.specs.Trees.{ProgRule, ProgTransform}
-use Rattle.pb_region.specs.Dims.{AtTransform}
-use Rattle.pb_region.specs.Rules.{AtRule}
+use Rattle.pb_region.specs.Dims.{AtTransform, HasTransform}
+use Rattle.pb_region.specs.Rules.{AtRule, HasRule}
 
 pub held_at : {A B : Type 0} (f : A → B) (xs : List A) (k : ℕ) (x : A) → k < length xs → x ≡ get_or xs k x → slice_get (map f xs) k ≡ Some (f x)
 held_at f xs k x h e = rw (slice_get-map f xs k, slice_get-get_or xs k x h, ← e) refl
@@ -17,6 +17,9 @@ module _ (ts : List ProgTransform) (t r : ℕ) (P : ProgTransform → ProgRule �
   pub at_rule : (x : ProgTransform) (y : ProgRule) → slice_get ts t ≡ Some x → slice_get x.rules r ≡ Some y → P x y → AtRule ts t r P
   at_rule x y at there h = rw (at, there) h
 
+  pub has_rule : (x : ProgTransform) (y : ProgRule) → slice_get ts t ≡ Some x → slice_get x.rules r ≡ Some y → P x y → HasRule ts t r P
+  has_rule x y at there h = rw (at, there) h
+
   -- and of none where none is there
   pub no_transform : slice_get ts t ≡ None → AtRule ts t r P
   no_transform none = rw none tt
@@ -26,3 +29,6 @@ module _ (ts : List ProgTransform) (t r : ℕ) (P : ProgTransform → ProgRule �
 
 pub at_transform : (ts : List ProgTransform) (t : ℕ) (P : ProgTransform → Type 0) (x : ProgTransform) → slice_get ts t ≡ Some x → P x → AtTransform ts t P
 at_transform ts t P x at h = rw at h
+
+pub has_transform : (ts : List ProgTransform) (t : ℕ) (P : ProgTransform → Type 0) (x : ProgTransform) → slice_get ts t ≡ Some x → P x → HasTransform ts t P
+has_transform ts t P x at h = rw at h

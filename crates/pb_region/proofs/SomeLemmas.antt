@@ -1,10 +1,9 @@
 -- A transform has no negative side, or a first one.
-use Rattle.std.proofs.Common.{◌≡◌, ◌∙◌, refl, sym, ap, subst, inl, inr, ◌⊎◌, ℕ, zero, suc, ◌+◌, ◌-◌, ◌<◌, ◌≤◌, Bool, true, false, IsTrue, nat_eq, List, [], ◌∷◌, ◌++◌, length, take, get_or, slice_get, Some, ℤ, pos, negsuc, ◌*ℤ◌, ◌≤ℤ◌, ◌<ℤ◌, int_le, if◌then◌else◌, ◌==◌, arith}
+use Rattle.std.proofs.Common.{◌≡◌, refl, sym, ap, subst, inl, inr, ◌⊎◌, ℕ, zero, suc, ◌+◌, ◌-◌, ◌<◌, ◌≤◌, Bool, true, false, nat_eq, List, [], ◌∷◌, ◌++◌, length, take, get_or, slice_get, Some, ℤ, pos, negsuc, ◌*ℤ◌, ◌≤ℤ◌, ◌<ℤ◌, int_le, arith}
 use Rattle.std.specs.List.{All, list_all}
 use Rattle.std.proofs.Math.Seq.{take-append_seam, drop-append_seam}
 use Rattle.std.proofs.lemmas.List.{get_or-take, length-append, length-take}
 use Rattle.std.proofs.lemmas.Int.{ints}
-use Rattle.pb_linear.specs.Limits.{is_zero_from}
 use Rattle.pb_linear.specs.Most.{FirstGreatest, Most}
 use Rattle.pb_linear.specs.Numbers.{Numbers, exact_value, multiple, part_of}
 use Rattle.pb_linear.specs.Sizes.{InRange, IsRanges, leasts_of, sizes_of}
@@ -13,11 +12,10 @@ use Rattle.pb_linear.specs.declared.sizes.TheConstants.{SIZE_TOP}
 use Rattle.pb_linear.proofs.Parts.{first_alone, first_kept, first_taken, most_is}
 use Rattle.pb_linear.proofs.SizesLemmas.{InRange-length}
 use Rattle.pb_linear.proofs.Values.{exact_value-multiple}
-use Rattle.pb_syntax.specs.declared.refusal.Refusal.{Refusal}
 use Rattle.pb_syntax.specs.declared.refusal.Refusal.TheVariants.{NegativeDim}
 use Rattle.pb_program.specs.Forms.{DeclValue}
 use Rattle.pb_program.specs.Trees.{ProgTransform}
-use Rattle.pb_region.specs.Dims.{AreHeld, AreSides, HasNegative, HasNoNegative, HaveNoNegative, IsFirstAxis, IsFirstNegative, IsNegative, IsNeverNegative, IsRefused, sides}
+use Rattle.pb_region.specs.Dims.{AreHeld, AreSides, HasNegative, HasNoNegative, HaveNoNegative, IsFirstAxis, IsFirstNegative, IsNegative, IsNeverNegative, sides}
 
 le_or_lt : (a b : ℤ) → (a ≤ℤ b) ⊎ (b <ℤ a)
 le_or_lt a b = by_test (int_le a b) refl

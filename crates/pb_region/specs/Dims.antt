@@ -1,5 +1,5 @@
 -- The sides of the matrices of a transform, and the first of them that is negative at some sizes.
-use Rattle.std.specs.Prelude.{◌≡◌, ℕ, ◌==◌, if◌then◌else◌, ℤ, pos, negsuc, ◌*ℤ◌, ◌<ℤ◌, ◌≤ℤ◌, List, [], ◌∷◌, length, take, Some, IfSome, slice_get}
+use Rattle.std.specs.Prelude.{◌≡◌, ℕ, ◌==◌, if◌then◌else◌, ℤ, pos, negsuc, ◌*ℤ◌, ◌<ℤ◌, ◌≤ℤ◌, List, [], ◌∷◌, length, take, Some, IfSome, IsSomeAnd, slice_get}
 use Rattle.std.specs.List.{All}
 use Rattle.pb_linear.specs.Most.{Most}
 use Rattle.pb_linear.specs.Numbers.{Numbers, exact_value}
@@ -10,9 +10,13 @@ use Rattle.pb_syntax.specs.declared.refusal.Refusal.TheVariants.{NegativeDim}
 use Rattle.pb_program.specs.Forms.{DeclValue}
 use Rattle.pb_program.specs.Trees.{ProgTransform}
 
--- what is said of the transform with this number
+-- what is said of the transform with this number, where there is one
 abbrev pub AtTransform : List ProgTransform → ℕ → (ProgTransform → Type 0) → Type 0
 AtTransform ts t P = IfSome (slice_get ts t) P
+
+-- there is a transform with this number, of which this is said
+abbrev pub HasTransform : List ProgTransform → ℕ → (ProgTransform → Type 0) → Type 0
+HasTransform ts t P = IsSomeAnd (slice_get ts t) P
 
 -- the width, and where there are two dimensions the height: each at the place of its axis
 abbrev pub sides : DeclValue → List Numbers

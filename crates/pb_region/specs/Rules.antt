@@ -1,5 +1,5 @@
 -- When a rule is accepted, with which boxes, and for what it is refused.
-use Rattle.std.specs.Prelude.{◌≡◌, ℕ, List, map, not, Option, Some, None, IfSome, position, slice_get}
+use Rattle.std.specs.Prelude.{◌≡◌, ℕ, List, map, not, Option, Some, None, IfSome, IsSomeAnd, position, slice_get}
 use Rattle.pb_linear.specs.RuleBox.{Bounds}
 use Rattle.pb_linear.specs.Sizes.{leasts_of}
 use Rattle.pb_syntax.specs.declared.refusal.Refusal.{Refusal}
@@ -8,9 +8,13 @@ use Rattle.pb_program.specs.Trees.{ProgRule, ProgTransform}
 use Rattle.pb_region.specs.Boxes.{box_of, boxes, gaps_of, is_box}
 use Rattle.pb_region.specs.Overlaps.{HasNoOverlap, IsFirstOverlap}
 
--- what is said of the rule with this number of the transform with this number
+-- what is said of the rule with this number of the transform with this number, where there are both
 abbrev pub AtRule : List ProgTransform → ℕ → ℕ → (ProgTransform → ProgRule → Type 0) → Type 0
 AtRule ts t r P = IfSome (slice_get ts t) (λ transform. IfSome (slice_get transform.rules r) (P transform))
+
+-- there is a rule of these numbers, of which this is said
+abbrev pub HasRule : List ProgTransform → ℕ → ℕ → (ProgTransform → ProgRule → Type 0) → Type 0
+HasRule ts t r P = IsSomeAnd (slice_get ts t) (λ transform. IsSomeAnd (slice_get transform.rules r) (P transform))
 
 -- the number of the first condition that is no box
 abbrev pub first_no_box : ProgTransform → ProgRule → Option ℕ

@@ -4,7 +4,7 @@ ghost use Rattle.pb_linear.specs.Sizes.{IsRanges, leasts_of};
 ghost use Rattle.pb_syntax.specs.declared.limits.TheConstants.{MOST_MATRICES};
 ghost use Rattle.pb_program.specs.Trees.{bare_prog, bare_transform};
 ghost use Rattle.pb_program.specs.WellFormed.{IsWellFormed};
-ghost use Rattle.pb_region.specs.Dims.{AreHeld, AreSides, AtTransform, HasNoNegative, HaveNoNegative, IsFirstAxis, IsFirstNegative, IsNegative, IsNeverNegative, IsRefused};
+ghost use Rattle.pb_region.specs.Dims.{AreHeld, AreSides, AtTransform, HasNoNegative, HasTransform, HaveNoNegative, IsFirstAxis, IsFirstNegative, IsNegative, IsNeverNegative, IsRefused};
 ghost use Rattle.pb_region.specs.Small.{IsSmallTransform};
 
 use crate::forms::negative;
@@ -15,11 +15,11 @@ use pb_syntax::Refusal;
 
 /// Whether each side of each matrix of transform `t` is at least 0 at all sizes in range: `NegativeDim` with the first
 /// that isn't, in the order of the text, and the sizes that make its negative greatest. It takes no memory.
-#[tactic(auto, using(crate::proofs::RuleLemmas::at_transform))]
+#[tactic(auto, using(crate::proofs::RuleLemmas::at_transform, crate::proofs::RuleLemmas::has_transform))]
 pub fn check_dims(p: &Prog, t: u32) -> Result<(), Refusal>
     requires { IsWellFormed (bare_prog p.now) }
     ensures found { OnOk result (AtTransform (bare_prog p.now) t AreSides) }
-    ensures refused { IfErr result (λ e. AtTransform (bare_prog p.now) t (λ transform. IsRefused t transform e)) }
+    ensures refused { IfErr result (λ e. HasTransform (bare_prog p.now) t (λ transform. IsRefused t transform e)) }
 {
     match transform_at(p, t) {
         Some(transform) => check_sides(transform, t),

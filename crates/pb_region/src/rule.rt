@@ -4,7 +4,7 @@ ghost use Rattle.pb_syntax.specs.declared.refusal.Refusal.TheVariants.{Memory};
 ghost use Rattle.pb_program.specs.Trees.{bare_prog, bare_rule, bare_transform};
 ghost use Rattle.pb_program.specs.WellFormed.{IsWellFormed};
 ghost use Rattle.pb_region.specs.Boxes.{gaps_of};
-ghost use Rattle.pb_region.specs.Rules.{AtRule, HasBoxes, IsAccepted, IsRefused};
+ghost use Rattle.pb_region.specs.Rules.{AtRule, HasBoxes, HasRule, IsAccepted, IsRefused};
 ghost use Rattle.pb_region.specs.Small.{IsSmallRule, IsSmallTransform};
 
 use crate::bounds::first_no_box;
@@ -19,11 +19,11 @@ use std::alloc::Global;
 
 /// The boxes of rule `r` of transform `t`, one for each of its outputs: where the rule applies, apart from its guards.
 /// `NotABox` for its first condition that is no box, then `OverlapOutputs` for its first two outputs that may overlap.
-#[tactic(auto, using(crate::proofs::RuleLemmas::at_rule, crate::proofs::RuleLemmas::no_transform, crate::proofs::RuleLemmas::no_rule))]
+#[tactic(auto, using(crate::proofs::RuleLemmas::at_rule, crate::proofs::RuleLemmas::has_rule, crate::proofs::RuleLemmas::no_transform, crate::proofs::RuleLemmas::no_rule))]
 pub fn conditions(alloc: Global, p: &Prog, t: u32, r: u32) -> Result<Vec<RuleBox>, Refusal>
     requires { IsWellFormed (bare_prog p.now) }
     ensures found { IfOk result (λ bs. AtRule (bare_prog p.now) t r (λ transform rule. HasBoxes r transform rule bs.items)) }
-    ensures refused { IfErr result (λ e. (e ≡ Memory) ⊎ AtRule (bare_prog p.now) t r (λ transform rule. IsRefused t r transform rule e)) }
+    ensures refused { IfErr result (λ e. (e ≡ Memory) ⊎ HasRule (bare_prog p.now) t r (λ transform rule. IsRefused t r transform rule e)) }
 {
     let Some(transform) = transform_at(p, t) else {
         return Ok(Vec::new(alloc));

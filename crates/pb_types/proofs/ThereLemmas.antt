@@ -14,7 +14,7 @@ use Rattle.pb_program.specs.Forms.{DeclValue}
 use Rattle.pb_program.specs.Plans.{PlanCallValue, slot_of, argument_slot, put, target_slots, argument_slots, transform_call as called, call_by, called_by, call_of, calls_of, items}
 use Rattle.pb_program.specs.Trees.{ProgTransform}
 use Rattle.pb_types.specs.Least.{unless}
-use Rattle.pb_types.specs.Plans.{Known, is_given, is_free, make, argument_broken, argument_misfit, target_misfit, numbered, misfit, argument_dims, wanted, targets_broken, count_broken, takes, gives, call_place, call_broken, assign_broken, plan_stmt_broken, plan_stmts_broken, after}
+use Rattle.pb_types.specs.Plans.{Known, is_given, is_free, make, argument_broken, argument_misfit, target_misfit, numbered, misfit, argument_dims, wanted, targets_broken, count_broken, takes, gives, call_broken, assign_broken, plan_stmt_broken, plan_stmts_broken, after}
 use Rattle.pb_types.specs.Sorts.{place_of}
 use Rattle.pb_types.proofs.LeastLemmas.{none_left, none_right}
 
@@ -107,9 +107,9 @@ module _ (ts : List ProgTransform) where
       put_there (called_by n v) (calls_of rest) (assign_there k n v (none_left (assign_broken ts k n v) others none)) (calls_there (after k x) rest (none_right (assign_broken ts k n v) others none))
   calls_there k (s.call_stmt ns c xs ∷ rest) none =
       let x = s.call_stmt ns c xs in
-      let here = call_broken ts k (call_place ns c) ns c.at c.what xs in
+      let here = call_broken ts k c.at ns c.at c.what xs in
       let others = plan_stmts_broken ts (after k x) rest in
-      put_there (call_of x) (calls_of rest) (call_there k (call_place ns c) c.at ns c.what xs (none_left here others none)) (calls_there (after k x) rest (none_right here others none))
+      put_there (call_of x) (calls_of rest) (call_there k c.at c.at ns c.what xs (none_left here others none)) (calls_there (after k x) rest (none_right here others none))
   calls_there k (s.let_number at n x ∷ rest) none = cc
   calls_there k (s.assign_cell n xs x ∷ rest) none = cc
   calls_there k (s.if_stmt at x ss ∷ rest) none = cc

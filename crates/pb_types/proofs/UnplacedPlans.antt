@@ -1,14 +1,12 @@
 -- What is wrong with types doesn't depend on the places of a program: plans and whole programs.
-use Rattle.std.proofs.Common.{◌≡◌, ℕ, zero, suc, ◌+◌, ◌==◌, Bool, true, false, not, ◌&&◌, List, [], ◌∷◌, ◌++◌, length, map, take, drop, Option, Some, None, is_some, refl, sym, ap, ◌∙◌}
+use Rattle.std.proofs.Common.{◌≡◌, ℕ, zero, suc, ◌+◌, ◌==◌, true, false, not, List, [], ◌∷◌, length, map, Option, Some, None, refl, sym, ap, ◌∙◌}
 use Rattle.std.specs.Prelude.{slice_get}
-use Rattle.std.specs.List.{flat_map}
 use Rattle.std.specs.Option.{option_map, option_map_or, option_and_then}
 use Rattle.std.proofs.lemmas.Option.{slice_get-map}
 use Rattle.std.proofs.lemmas.List.{take-map, drop-map, map-append}
 use Rattle.pb_program.specs.declared.meaning.Meaning.{Meaning}
 use Rattle.pb_program.specs.declared.meaning.Meaning.TheVariants as meaning
 use Rattle.pb_program.specs.declared.meaning.Named.{Named}
-use Rattle.pb_program.specs.declared.meaning.Called.{Called}
 use Rattle.pb_program.specs.declared.meaning.Callee.{Callee}
 use Rattle.pb_program.specs.declared.meaning.Callee.TheVariants as callee
 use Rattle.pb_program.specs.declared.rule.RuleKind.{RuleKind}
@@ -20,7 +18,7 @@ use Rattle.pb_program.specs.Exprs.{ExprValue, number, name, call, parentheses, c
 use Rattle.pb_program.specs.Stmts.{StmtValue, let_number, let_matrix, assign, call_stmt, assign_cell, if_stmt, if_else, for_stmt, stmts}
 use Rattle.pb_program.specs.Plans.{items}
 use Rattle.pb_program.specs.Trees.{ProgRule, ProgTransform}
-use Rattle.pb_program.specs.Places.{unplaced_called, unplaced_local_form, unplaced_local_term, unplaced_named, unplaced_value, unplaced_statement, unplaced_matrix, unplaced_read, unplaced_prog_rule, unplaced_prog_transform, unplaced_prog}
+use Rattle.pb_program.specs.Places.{unplaced_local_form, unplaced_local_term, unplaced_named, unplaced_value, unplaced_statement, unplaced_matrix, unplaced_read, unplaced_prog_rule, unplaced_prog_transform, unplaced_prog}
 use Rattle.pb_program.proofs.Kept.{joined, flat_kept, length_kept, made_kept}
 use Rattle.pb_program.proofs.UnplacedLists.{items_kept, listed_kept}
 use Rattle.pb_types.specs.declared.known.Target.{Target}
@@ -28,7 +26,7 @@ use Rattle.pb_types.specs.Least.{unless}
 use Rattle.pb_types.specs.Sorts.{place_of, lone_name}
 use Rattle.pb_types.specs.Views.{is_cell, view_broken, view_dims}
 use Rattle.pb_types.specs.Bodies.{stmts_broken}
-use Rattle.pb_types.specs.Plans.{Known, after, argument_broken, argument_dims, argument_misfit, assign_broken, at_first, call_broken, call_place, count_broken, declare, dim_broken, gives, is_free, is_given, is_size, known_dims, made_assigned, made_at, made_by, make, make_all, misfit, never_made, numbered, out_target, plan_broken, plan_stmt_broken, plan_stmts_broken, plan_view_broken, takes, target_misfit, target_of, targets_broken, term_broken, transform_call, unmade, wanted}
+use Rattle.pb_types.specs.Plans.{Known, after, argument_broken, argument_dims, argument_misfit, assign_broken, at_first, call_broken, count_broken, declare, dim_broken, gives, is_free, is_given, is_size, known_dims, made_assigned, made_at, made_by, make, make_all, misfit, never_made, numbered, out_target, plan_broken, plan_stmt_broken, plan_stmts_broken, plan_view_broken, takes, target_misfit, target_of, targets_broken, term_broken, transform_call, unmade, wanted}
 use Rattle.pb_types.specs.Types.{body_broken, bound_of, broken, rule_broken, transform_broken}
 use Rattle.pb_types.proofs.UnplacedTypes.{no_place, unless_kept, option_kept, then_kept, view_kept, place_kept, lone_kept, stmts_kept}
 
@@ -182,10 +180,6 @@ gives_kept : (t : Option ProgTransform) → gives (option_map unplaced_prog_tran
 gives_kept None = refl
 gives_kept (Some t) = drop-map unplaced_matrix (t.inputs + t.middles) t.matrices
 
-place_of_call : (ns : List Named) (c : Called) → call_place (map unplaced_named ns) (unplaced_called c) ≡ 0
-place_of_call [] c = refl
-place_of_call (n ∷ ns) c = refl
-
 -- dimensions of locals
 term_kept : (t : LocalTerm) → term_broken (unplaced_local_term t) ≡ map no_place (term_broken t)
 unfolding term_broken
@@ -242,7 +236,7 @@ module _ (ts : List ProgTransform) where
   stmt_kept k (let_number at n x) = refl
   stmt_kept k (let_matrix at n dims) = flat_kept unplaced_local_form no_place dim_broken dim_broken dim_kept dims
   stmt_kept k (assign n x) = assign_kept k n x
-  stmt_kept k (call_stmt ns c xs) = rw (place_of_call ns c) (call_kept k (call_place ns c) ns c.at c.what xs)
+  stmt_kept k (call_stmt ns c xs) = call_kept k c.at ns c.at c.what xs
   stmt_kept k (assign_cell n xs x) = refl
   stmt_kept k (if_stmt at x ss) = refl
   stmt_kept k (if_else at x ss others) = refl

@@ -1,7 +1,6 @@
 -- What is wrong with types doesn't depend on the places of a program: views, expressions and statements.
-use Rattle.std.proofs.Common.{◌≡◌, ℕ, ◌+◌, ◌==◌, Bool, true, false, not, ◌&&◌, List, [], ◌∷◌, ◌++◌, length, map, Option, Some, None, is_some, if◌then◌else◌, refl, ap, ◌∙◌}
+use Rattle.std.proofs.Common.{◌≡◌, ℕ, ◌==◌, Bool, true, false, List, [], ◌∷◌, length, map, Option, Some, None, if◌then◌else◌, refl, ap, ◌∙◌}
 use Rattle.std.specs.Prelude.{slice_get}
-use Rattle.std.specs.List.{flat_map, list_any}
 use Rattle.std.specs.Option.{option_map, option_map_or, option_and_then}
 use Rattle.std.proofs.lemmas.Option.{slice_get-map}
 use Rattle.pb_program.specs.declared.meaning.Meaning.{Meaning}
@@ -21,9 +20,9 @@ use Rattle.pb_types.specs.declared.sort.Sort.{Sort}
 use Rattle.pb_types.specs.declared.sort.Sort.TheVariants.{Number, Truth}
 use Rattle.pb_types.specs.Least.{unless}
 use Rattle.pb_types.specs.Sorts.{is_sort, level_sort, lone_name, place_of, sign_sort, sort_of}
-use Rattle.pb_types.specs.Views.{Bound, are_dims, bound, cell_broken, dims_of, is_bound_cell, is_cell, is_number, matrix_broken, number_broken, view_broken, view_dims}
+use Rattle.pb_types.specs.Views.{Bound, bound, cell_broken, dims_of, is_bound_cell, is_cell, is_number, matrix_broken, number_broken, view_broken, view_dims}
 use Rattle.pb_types.specs.Numbers.{arguments_of, by_function, call_broken, expr_broken, how_many, matrix_argument, matrix_arguments, numbers_broken, operand_broken, operands_broken, sort_broken}
-use Rattle.pb_types.specs.Bodies.{cell_target_broken, is_assigned, is_output, stmt_broken, stmts_broken, target_broken}
+use Rattle.pb_types.specs.Bodies.{cell_target_broken, is_assigned, stmt_broken, stmts_broken, target_broken}
 
 abbrev pub no_place : ℕ → ℕ
 no_place at = 0

@@ -5,7 +5,6 @@ use Rattle.std.specs.Option.{option_and_then, option_map, option_map_or}
 use Rattle.pb_program.specs.declared.meaning.Meaning.{Meaning}
 use Rattle.pb_program.specs.declared.meaning.Meaning.TheVariants as meaning
 use Rattle.pb_program.specs.declared.meaning.Named.{Named}
-use Rattle.pb_program.specs.declared.meaning.Called.{Called}
 use Rattle.pb_program.specs.declared.meaning.Callee.{Callee}
 use Rattle.pb_program.specs.declared.meaning.Callee.TheVariants as callee
 use Rattle.pb_program.specs.declared.statement.LocalTerm.{LocalTerm}
@@ -144,11 +143,6 @@ term_broken t = option_map_or (λ n. unless (is_size n.what) n.at) t.name []
 unfoldable pub dim_broken : LocalFormValue → List ℕ
 dim_broken f = flat_map term_broken f.terms
 
--- the first byte of a statement with several targets
-abbrev pub call_place : List Named → Called → ℕ
-call_place [] c = c.at
-call_place (n ∷ ns) c = n.at
-
 -- what is known after a call
 abbrev pub made_by : Callee → Known → List Named → Known
 made_by (callee.Transform t) k ns = make_all k ns
@@ -180,7 +174,7 @@ unfoldable pub plan_view_broken : Read → List ℕ
 plan_view_broken r = unless (not (is_cell r.view)) r.at
 
 module _ (ts : List ProgTransform) where
-  -- a statement that is the call of a function is to blame
+  -- a call of a transform is as it has to be; where a function is called, `at` is to blame
   abbrev pub call_broken : Known → ℕ → List Named → ℕ → Callee → List ExprValue → List ℕ
   call_broken k at ns name (callee.Transform t) xs = transform_call k (takes (slice_get ts t)) (gives (slice_get ts t)) ns name xs
   call_broken k at ns name (callee.Function f) xs = at ∷ []
@@ -190,11 +184,12 @@ module _ (ts : List ProgTransform) where
   assign_broken k n (e.call c xs) = call_broken k n.at (n ∷ []) c.at c.what (items xs)
   assign_broken k n _ = n.at ∷ []
 
-  -- each statement declares a matrix, over sizes, or is the call of a transform; to blame is the statement
+  -- each statement declares a matrix, over sizes, or is the call of a transform; to blame is the statement. One with several targets is a call,
+  -- and to blame is the called name where it names a function
   abbrev pub plan_stmt_broken : Known → StmtValue → List ℕ
   plan_stmt_broken k (s.let_matrix at n dims) = flat_map dim_broken dims
   plan_stmt_broken k (s.assign n x) = assign_broken k n x
-  plan_stmt_broken k (s.call_stmt ns c xs) = call_broken k (call_place ns c) ns c.at c.what xs
+  plan_stmt_broken k (s.call_stmt ns c xs) = call_broken k c.at ns c.at c.what xs
   plan_stmt_broken k (s.let_number at n x) = at ∷ []
   plan_stmt_broken k (s.assign_cell n xs x) = n.at ∷ []
   plan_stmt_broken k (s.if_stmt at x ss) = at ∷ []

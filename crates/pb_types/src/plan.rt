@@ -5,7 +5,7 @@ ghost use Rattle.pb_program.specs.Exprs.{bare, exprs};
 ghost use Rattle.pb_program.specs.Plans.{items};
 ghost use Rattle.pb_program.specs.Trees.{bare_rule, bare_transform};
 ghost use Rattle.pb_types.specs.Least.{least_of};
-ghost use Rattle.pb_types.specs.Plans.{call_place, plan_view_broken, dim_broken, term_broken, call_broken, made_by, plan_broken};
+ghost use Rattle.pb_types.specs.Plans.{plan_view_broken, dim_broken, term_broken, call_broken, made_by, plan_broken};
 ghost use Rattle.pb_types.specs.Working.{assigned_in, made_in, step_in, steps_in, after_in};
 
 use crate::call::{gives, takes};
@@ -17,16 +17,6 @@ use pb_program::{
 };
 use pb_syntax::Refusal;
 use std::alloc::Global;
-
-/// The place of the first byte of a statement with several targets.
-fn call_place(targets: &[Named], called: Called) -> u32
-    ensures { result ≡ call_place targets.now called }
-{
-    match targets.first() {
-        Some(target) => target.at,
-        None => called.at,
-    }
-}
 
 /// The least place of a view that is a cell.
 #[tactic(auto, using(crate::proofs::LeastLemmas::least_next, crate::proofs::LeastLemmas::least_end))]
@@ -105,7 +95,7 @@ pub(crate) fn plan(
 }
 
 impl<'a> Known<'a> {
-    /// The least place of a fault in a call with these targets, in a statement at this place.
+    /// The least place of a fault in a call with these targets; where a function is called, it is `at`.
     #[tactic(auto, using(crate::proofs::LeastLemmas::least_one))]
     fn call(
         &mut self,
@@ -190,13 +180,7 @@ impl<'a> Known<'a> {
                 targets,
                 called,
                 arguments,
-            } => Ok(self.call(
-                transforms,
-                call_place(targets, *called),
-                targets,
-                *called,
-                arguments,
-            )),
+            } => Ok(self.call(transforms, called.at, targets, *called, arguments)),
             Stmt::AssignCell { target, .. } => Ok(Some(target.at)),
             Stmt::If { at, .. } => Ok(Some(*at)),
             Stmt::For { at, .. } => Ok(Some(*at)),

@@ -89,4 +89,18 @@ bad type|transform T from A[n] to B[n] { to (@B b) from (A a) { let t[n]; t = T(
 bad type|transform T from A[n] to B[n] { to (B b) from (A a) { let @t[n]; b = T(a); } }
 bad type|transform T from A[n] to B[n] { to (B b) from (A a) { b = @T(a, a); } }
 bad type|transform T from A[n] to B[n] { to (B b) from (A a) { let t[n,n]; @t = T(a); b = T(a); } }
+bad type|transform T from A[n] to B[n] { to (B b) from (A a) { let t[n]; t, b = @sum(a); t = T(a); b = T(t); } }
+bad type|transform T from A[n] to B[n] { to (B b) from (A a) { n, b = @sum(a); b = T(a); } }
+bad type|transform T from A[n] to B[n] { to (B b) from (A a) { @b = sum(a); b = T(a); } }
+bad type|transform T from A[n] to B[n] { to (B b) from (A a) { b = T(a); @if (1 < 2) { b = T(a); } } }
+bad type|transform T from A[n] to B[n] { to (B b) from (A a) { b = T(a); @for (k = 0 .. 2) { let m = 1; } } }
+bad type|transform T from A[n] to B[n] { to (B b) from (A a) { b = T(a); @b.cell(0) = 1; } }
+bad type|transform T from A[n] to B[n] { to (B b) from (A a) { @a = T(a); b = T(a); } }
+bad type|transform T from A[n] to B[n] { to (B b) from (A a) { @n = T(a); b = T(a); } }
+bad type|transform T from A[n] to B[n], C[n] { to (B b, C c) from (A a) { let t[n]; t, b = T(a); c, @c = T(a); } }
+bad type|transform T from A[n] to B[n], C[n] { to (B b, C c) from (A a) { b = @T(a); c = T(a); } }
+bad type|transform S from A[n,m] to B[n,m] { to (B b) from (A a) { b = S(a); } } transform T from A[n] to B[n] { \
+to (B b) from (A a) { let t[n,n]; t = S(@a); b = T(a); } }
+bad type|transform T from A[n] to B[n] { to (B b) from (A a) { let t[@a]; t = T(a); b = T(t); } }
+bad type|transform T from A[n] to B[n] { to (B.cell(i) b) from (A a, A.cell(i) c) { b = dot(a, @c); } }
 bad type|transform T from A[n] to B[n] { to (B.cell(i) b) from (A a) { let x = 1; b, x = @sum(a); } }";
