@@ -1,0 +1,5 @@
+pub mod FormLemmas
+pub mod ListLemmas
+pub mod CutLemmas
+pub mod GapLemmas
+pub mod GridLemmas

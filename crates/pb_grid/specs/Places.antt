@@ -1,0 +1,28 @@
+-- The places of a matrix at sizes, and the rules that may make the cell there.
+use Rattle.std.specs.Prelude.{ℕ, ℤ, int_le, int_lt, Bool, ◌&&◌, List, map, filter}
+use Rattle.std.specs.List.{list_all}
+use Rattle.pb_linear.specs.Form.{value}
+use Rattle.pb_linear.specs.RuleBox.{Bounds}
+use Rattle.pb_linear.specs.declared.vform.SymBox.{SymBox}
+use Rattle.pb_grid.specs.declared.axis.Axis.{Axis}
+use Rattle.pb_grid.specs.declared.axis.Axis.TheVariants as axis
+use Rattle.pb_grid.specs.declared.segments.Holder.{Holder}
+use Rattle.pb_grid.specs.Cuts.{lower, upper}
+use Rattle.pb_grid.specs.Segments.{SegmentValue, holder_of}
+
+module _ (sizes : List ℕ) (x y : ℤ) where
+  -- a segment's area holds the place
+  abbrev pub is_at : SegmentValue → Bool
+  is_at s = (int_le (value s.area.x0 sizes) x && int_lt x (value s.area.x1 sizes)) && (int_le (value s.area.y0 sizes) y && int_lt y (value s.area.y1 sizes))
+
+-- each lower bound is at most the coordinate, and the coordinate below each upper bound
+abbrev pub is_on : List ℕ → Axis → ℤ → Bounds → Bool
+is_on sizes a v b = list_all (λ f. int_le (value f sizes) v) (lower a b) && list_all (λ f. int_lt v (value f sizes)) (upper a b)
+
+-- a box holds the place
+abbrev pub is_in : List ℕ → ℤ → ℤ → Bounds → Bool
+is_in sizes x y b = is_on sizes axis.X x b && is_on sizes axis.Y y b
+
+-- the rules with a box that holds the place, in the order of the boxes
+abbrev pub holders_at : List ℕ → ℤ → ℤ → List Bounds → List Holder
+holders_at sizes x y boxes = map holder_of (filter (is_in sizes x y) boxes)

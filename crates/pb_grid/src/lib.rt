@@ -1,0 +1,19 @@
+//! Comes in: the boxes of the rules that write a matrix, its sides, and the sizes in range. Goes out: the matrix cut into
+//! segments at the bounds of the boxes, each with the rules that may make its cells, or why it can't be cut so. All of it
+//! holds for all sizes in range at once.
+//!
+//! The theorem is `grid` with the laws `a_place_is_in_one_segment` and `a_segment_has_the_rules_of_its_places`.
+#![tactic(auto)]
+
+mod axis;
+mod crossing;
+mod cuts;
+mod forms;
+mod gaps;
+mod matrix;
+mod refusal;
+mod segments;
+
+pub use matrix::grid;
+pub use refusal::GridRefusal;
+pub use segments::Segment;
