@@ -78,7 +78,7 @@ module _ {A : Type 0} (same : A → A → Bool) (trans : (a b c : A) → same a 
   any_step x y z zs n l h false e = ap (λ r. same z y || r) h
   any_step x y z zs n l h true e = h ∙ apart x y z (list_any (λ w. same w y) zs) e n (same z y) refl
 
-  any_kept : (x y : A) (zs : List A) → same x y ≡ false →
+  pub any_kept : (x y : A) (zs : List A) → same x y ≡ false →
       list_any (λ z. same z y) (filter (λ z. not (same x z)) zs) ≡ list_any (λ z. same z y) zs
   any_kept x y [] n = refl
   any_kept x y (z ∷ zs) n = any_step x y z zs n _ (any_kept x y zs n) (same x z) refl

@@ -1,13 +1,14 @@
 -- The places of a matrix at sizes, and the rules that may make the cell there.
-use Rattle.std.specs.Prelude.{ℕ, ℤ, int_le, int_lt, Bool, ◌&&◌, List, map, filter}
+use Rattle.std.specs.Prelude.{ℕ, ℤ, pos, ◌≤ℤ◌, ◌<ℤ◌, int_le, int_lt, Bool, ◌&&◌, List, map, filter}
 use Rattle.std.specs.List.{list_all}
 use Rattle.pb_linear.specs.Form.{value}
 use Rattle.pb_linear.specs.RuleBox.{Bounds}
-use Rattle.pb_linear.specs.declared.vform.SymBox.{SymBox}
+use Rattle.pb_linear.specs.Sizes.{InRange}
 use Rattle.pb_grid.specs.declared.axis.Axis.{Axis}
 use Rattle.pb_grid.specs.declared.axis.Axis.TheVariants as axis
 use Rattle.pb_grid.specs.declared.segments.Holder.{Holder}
 use Rattle.pb_grid.specs.Cuts.{lower, upper}
+use Rattle.pb_grid.specs.Grids.{Matrix}
 use Rattle.pb_grid.specs.Segments.{SegmentValue, holder_of}
 
 module _ (sizes : List ℕ) (x y : ℤ) where
@@ -26,3 +27,11 @@ is_in sizes x y b = is_on sizes axis.X x b && is_on sizes axis.Y y b
 -- the rules with a box that holds the place, in the order of the boxes
 abbrev pub holders_at : List ℕ → ℤ → ℤ → List Bounds → List Holder
 holders_at sizes x y boxes = map holder_of (filter (is_in sizes x y) boxes)
+
+-- a place of the matrix at sizes in range
+pub record IsPlace (m : Matrix) (sizes : List ℕ) (x y : ℤ) : Type 0 where
+  pub in_range : InRange m.leasts sizes
+  pub from_x : pos 0 ≤ℤ x
+  pub before_x : x <ℤ value m.width sizes
+  pub from_y : pos 0 ≤ℤ y
+  pub before_y : y <ℤ value m.height sizes

@@ -10,10 +10,12 @@ mod crossing;
 mod cuts;
 mod forms;
 mod gaps;
+mod laws;
 mod matrix;
 mod refusal;
 mod segments;
 
+pub use laws::{a_place_is_in_one_segment, a_segment_has_the_rules_of_its_places};
 pub use matrix::grid;
 pub use refusal::GridRefusal;
 pub use segments::Segment;
