@@ -3,6 +3,7 @@ use Rattle.std.proofs.Common.{◌≡◌, refl, sym, subst, ℕ, ℤ, true, List,
 use Rattle.std.specs.List.{All}
 use Rattle.std.proofs.lemmas.Bool.{and_parts}
 use Rattle.pb_linear.specs.Form.{HasNumbers, numbers, value}
+use Rattle.pb_linear.specs.Held.{AreHeld}
 use Rattle.pb_linear.specs.Most.{Most}
 use Rattle.pb_linear.specs.Numbers.{difference}
 use Rattle.pb_linear.specs.RuleBox.{Bounds}
@@ -12,7 +13,7 @@ use Rattle.pb_linear.proofs.SizesLemmas.{le_everywhere-refl, le_everywhere-trans
 use Rattle.pb_linear.specs.declared.sizes.Sizes.{Sizes}
 use Rattle.pb_grid.specs.declared.axis.Axis.{Axis}
 use Rattle.pb_grid.specs.declared.axis.Axis.TheVariants as axis
-use Rattle.pb_grid.specs.Crossings.{AreHeld, IsFarthest}
+use Rattle.pb_grid.specs.Crossings.{IsFarthest}
 use Rattle.pb_grid.specs.Cuts.{AreSmall, IsSmallBox, le, lower, same, upper}
 use Rattle.pb_grid.proofs.FormLemmas.{difference_value}
 

@@ -6,3 +6,4 @@ pub mod GridLemmas
 pub mod OrderLemmas
 pub mod ValueLemmas
 pub mod PlaceLemmas
+pub mod AnswerLemmas

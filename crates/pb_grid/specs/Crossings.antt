@@ -1,6 +1,7 @@
 -- Two cuts that cross, and the sizes that show it.
 use Rattle.std.specs.Prelude.{◌≡◌, ℕ, ℤ, ◌-ℤ◌, List, length, Option, Some, None}
 use Rattle.pb_linear.specs.Form.{value}
+use Rattle.pb_linear.specs.Held.{AreHeld}
 use Rattle.pb_linear.specs.Most.{Most}
 use Rattle.pb_linear.specs.Sizes.{sizes_of}
 use Rattle.pb_linear.specs.declared.form.Form.{Form}
@@ -9,11 +10,6 @@ use Rattle.pb_grid.specs.declared.refusal.GridRefusal.{GridRefusal}
 use Rattle.pb_grid.specs.declared.refusal.GridRefusal.TheVariants.{Crossing}
 use Rattle.pb_grid.specs.Cuts.{crosses}
 use Rattle.pb_grid.specs.Lists.{first_pair}
-
--- so many sizes, in an array of 8
-pub record AreHeld (count : ℕ) (sizes : Sizes) : Type 0 where
-  pub counted : sizes.count ≡ count
-  pub full : length sizes.of ≡ 8
 
 -- the least sizes at which a form is above another by the most
 pub record IsFarthest (leasts : List ℕ) (high low : Form) (sizes : Sizes) : Type 0 where

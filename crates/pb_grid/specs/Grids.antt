@@ -69,3 +69,13 @@ module _ (m : Matrix) where
   abbrev pub IsRefused : GridRefusal → Type 0
   IsRefused (Uncovered area) = AreCuts m.leasts cuts_x cuts_y × (find (is_uncovered m.leasts m.boxes) areas_of ≡ Some area)
   IsRefused e = IsCutRefused m.leasts cuts_x cuts_y e
+
+  -- there are such segments
+  pub record HasGrid : Type 0 where
+    pub segments : List SegmentValue
+    pub is : IsGrid segments
+
+  -- there is such a refusal
+  pub record HasRefusal : Type 0 where
+    pub why : GridRefusal
+    pub told : IsRefused why

@@ -1,7 +1,8 @@
 ghost use Rattle.std.specs.Prelude.{◌≡◌, ◌≤◌, IfSome, MatchOption, None, length};
 ghost use Rattle.std.specs.List.{All, find};
+ghost use Rattle.pb_linear.specs.Held.{AreHeld};
 ghost use Rattle.pb_linear.specs.Sizes.{IsRanges, leasts_of};
-ghost use Rattle.pb_grid.specs.Crossings.{AreHeld, crossing, IsCrossingOn, IsFarthest};
+ghost use Rattle.pb_grid.specs.Crossings.{crossing, IsCrossingOn, IsFarthest};
 ghost use Rattle.pb_grid.specs.Cuts.{AreSmall, crosses};
 
 use crate::forms::{cross, difference};

@@ -1,8 +1,12 @@
-ghost use Rattle.std.specs.Prelude.{◌≡◌, ℕ, ℤ, pos, ◌≤ℤ◌, ◌<ℤ◌, IsTrue, List, filter, length};
+ghost use Rattle.std.specs.Prelude.{◌≡◌, ◌⊎◌, ℕ, ℤ, pos, ◌≤ℤ◌, ◌<ℤ◌, IsTrue, List, filter, length};
 ghost use Rattle.std.specs.List.{All};
 ghost use Rattle.pb_linear.specs.Form.{value};
-ghost use Rattle.pb_linear.specs.Sizes.{InRange};
-ghost use Rattle.pb_grid.specs.Grids.{IsGrid, Matrix};
+ghost use Rattle.pb_linear.specs.Sizes.{InRange, IsRanges};
+ghost use Rattle.pb_linear.specs.RuleBox.{Bounds};
+ghost use Rattle.pb_linear.specs.declared.form.Form.{Form};
+ghost use Rattle.pb_linear.specs.declared.sizes.Ranges.{Ranges};
+ghost use Rattle.pb_grid.specs.declared.refusal.GridRefusal.{GridRefusal};
+ghost use Rattle.pb_grid.specs.Grids.{HasGrid, HasRefusal, IsGrid, IsRefused, Matrix, matrix_of};
 ghost use Rattle.pb_grid.specs.Places.{holders_at, is_at, IsPlace};
 ghost use Rattle.pb_grid.specs.Segments.{best, SegmentValue};
 
@@ -17,4 +21,13 @@ pub fn a_place_is_in_one_segment()
 pub fn a_segment_has_the_rules_of_its_places()
     ensures { (m : Matrix) (segments : List SegmentValue) (sizes : List ℕ) (x y : ℤ) → IsGrid m segments → IsPlace m sizes x y
         → All (λ s. IsTrue (is_at sizes x y s) → s.rules ≡ best (holders_at sizes x y m.boxes)) segments }
+{}
+
+/// A law: a matrix has a grid or is refused; it has one grid at most, and one refusal at most, and never both.
+pub fn a_matrix_has_one_answer()
+    ensures some { (ranges : Ranges) (boxes : List Bounds) (width height : Form) → IsRanges ranges
+        → HasGrid (matrix_of ranges boxes width height) ⊎ HasRefusal (matrix_of ranges boxes width height) }
+    ensures one_grid { (m : Matrix) (segments others : List SegmentValue) → IsGrid m segments → IsGrid m others → segments ≡ others }
+    ensures one_refusal { (m : Matrix) (e f : GridRefusal) → IsRefused m e → IsRefused m f → e ≡ f }
+    ensures not_both { (m : Matrix) (segments : List SegmentValue) (e : GridRefusal) → IsGrid m segments → IsRefused m e → ⊥ }
 {}

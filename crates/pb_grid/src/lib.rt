@@ -15,7 +15,9 @@ mod matrix;
 mod refusal;
 mod segments;
 
-pub use laws::{a_place_is_in_one_segment, a_segment_has_the_rules_of_its_places};
+pub use laws::{
+    a_matrix_has_one_answer, a_place_is_in_one_segment, a_segment_has_the_rules_of_its_places,
+};
 pub use matrix::grid;
 pub use refusal::GridRefusal;
 pub use segments::Segment;
