@@ -1,5 +1,5 @@
 -- Gaps with flags, and the segments between them.
-use Rattle.std.proofs.Common.{◌≡◌, ◌∙◌, refl, sym, ap, Option, Some, ℕ, zero, suc, ◌+◌, ◌<◌, Bool, true, false, ◌&&◌, List, [], ◌∷◌, ◌++◌, length, map, take, get_or, arith}
+use Rattle.std.proofs.Common.{◌≡◌, ◌∙◌, refl, sym, ap, Some, ℕ, zero, suc, ◌+◌, ◌<◌, Bool, true, false, ◌&&◌, List, [], ◌∷◌, ◌++◌, length, map, take, get_or, arith}
 use Rattle.std.specs.Prelude.{filter, nat_eq, option_map}
 use Rattle.std.specs.List.{All, find, flat_map, list_any}
 use Rattle.std.proofs.Math.Bool.{cond}

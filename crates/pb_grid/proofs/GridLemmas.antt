@@ -1,9 +1,9 @@
 -- The grid by the cuts of its axes.
-use Rattle.std.proofs.Common.{◌≡◌, ◌∙◌, sym, ap, subst, inl, inr, ◌⊎◌, Ok, Err, List, map, Some, None}
+use Rattle.std.proofs.Common.{◌≡◌, ◌∙◌, sym, ap, subst, inl, inr, ◌⊎◌, Ok, Err, List, map, None}
 use Rattle.std.specs.Prelude.{IfOk, IfErr, Result}
 use Rattle.pb_linear.specs.declared.form.Form.{Form}
 use Rattle.pb_grid.specs.declared.refusal.GridRefusal.{GridRefusal}
-use Rattle.pb_grid.specs.declared.refusal.GridRefusal.TheVariants.{Crossing, TooManySegments, Uncovered, Memory}
+use Rattle.pb_grid.specs.declared.refusal.GridRefusal.TheVariants.{Uncovered, Memory}
 use Rattle.pb_grid.specs.Cuts.{le}
 use Rattle.pb_grid.specs.Gaps.{HeldValue, IsBareRefused, bare_area, held_of, made}
 use Rattle.pb_grid.specs.Grids.{AreCuts, IsGrid, IsRefused, Matrix, areas_of, cuts_x, cuts_y}

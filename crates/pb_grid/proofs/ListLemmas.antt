@@ -1,8 +1,7 @@
 -- Lists of firsts, in order, by pairs; and the first that passes.
-use Rattle.std.proofs.Common.{◌≡◌, ◌∙◌, refl, sym, ap, subst, ℕ, zero, suc, ◌+◌, ◌-◌, ◌<◌, ◌≤◌, Bool, true, false, not, ◌||◌, List, [], ◌∷◌, ◌++◌, length, map, take, drop, get_or, Option, Some, None, arith}
-use Rattle.std.specs.Prelude.{if◌then◌else◌, filter, option_map}
+use Rattle.std.proofs.Common.{◌≡◌, ◌∙◌, refl, sym, ap, subst, ℕ, zero, suc, ◌+◌, ◌-◌, ◌<◌, ◌≤◌, Bool, true, false, not, ◌||◌, List, [], ◌∷◌, ◌++◌, length, map, take, drop, get_or, Some, None, arith}
+use Rattle.std.specs.Prelude.{filter}
 use Rattle.std.specs.List.{All, find, flat_map, insert, list_any, position_or_len}
-use Rattle.std.specs.Option.{option_or}
 use Rattle.std.proofs.Math.Bool.{cond}
 use Rattle.std.proofs.Math.Seq.{drop-cons}
 use Rattle.std.proofs.lemmas.List.{append-nil, length-drop, map-append, take_all, take_more}

@@ -1,5 +1,5 @@
 -- The segments at a place of a matrix.
-use Rattle.std.proofs.Common.{◌≡◌, ◌∙◌, refl, sym, ap, subst, inl, inr, ◌⊎◌, ℕ, zero, suc, ◌+◌, ◌*◌, ◌<◌, Bool, true, false, ◌&&◌, ◌||◌, not, List, [], ◌∷◌, ◌++◌, length, map, get_or, Some, None, ℤ, pos, ◌*ℤ◌, ◌≤ℤ◌, ◌<ℤ◌, int_le, int_lt, arith}
+use Rattle.std.proofs.Common.{◌≡◌, ◌∙◌, refl, sym, ap, subst, inl, inr, ◌⊎◌, ℕ, zero, suc, ◌+◌, ◌*◌, Bool, true, false, ◌&&◌, ◌||◌, not, List, [], ◌∷◌, ◌++◌, length, map, None, ℤ, pos, ◌≤ℤ◌, ◌<ℤ◌, int_le, int_lt, arith}
 use Rattle.std.specs.Prelude.{filter}
 use Rattle.std.specs.List.{All, AllByRecursion, flat_map, list_all, list_any}
 use Rattle.std.proofs.Math.Bool.{cond}
@@ -23,9 +23,9 @@ use Rattle.pb_grid.specs.Cuts.{bounds_on, cuts, is_inner, le, lower, same, upper
 use Rattle.pb_grid.specs.Grids.{IsGrid, Matrix, areas_of, cuts_x, cuts_y}
 use Rattle.pb_grid.specs.Lists.{firsts, in_order, neighbours}
 use Rattle.pb_grid.specs.Places.{holders_at, is_at, is_in, is_on}
-use Rattle.pb_grid.specs.Segments.{SegmentValue, area_of, areas, best, holder_of, holders, holds, holds_on, segment_of}
+use Rattle.pb_grid.specs.Segments.{SegmentValue, area_of, best, holder_of, holds, holds_on, segment_of}
 use Rattle.pb_grid.proofs.CutLemmas.{le-refl, le-trans, same-trans}
-use Rattle.pb_grid.proofs.ListLemmas.{all_more, all_tail, any_kept}
+use Rattle.pb_grid.proofs.ListLemmas.{all_tail, any_kept}
 use Rattle.pb_grid.proofs.OrderLemmas.{Beside, Rises, beside, both, list_any-in_order, or_cases, rises}
 use Rattle.pb_grid.proofs.ValueLemmas.{is_between, lower_test, one_gap, true_le, true_lt, upper_test}
 

@@ -1,12 +1,11 @@
 -- How many gaps between rising values hold a value, and what a bound beside a gap says there.
-use Rattle.std.proofs.Common.{◌≡◌, ◌∙◌, refl, sym, ap, inl, inr, ◌⊎◌, suc, Bool, true, false, ◌&&◌, ◌||◌, List, [], ◌∷◌, length, ℤ, ◌≤ℤ◌, ◌<ℤ◌, int_le, int_lt, arith}
+use Rattle.std.proofs.Common.{◌≡◌, ◌∙◌, refl, sym, ap, inl, inr, suc, Bool, true, false, ◌&&◌, ◌||◌, List, [], ◌∷◌, length, ℤ, ◌≤ℤ◌, ◌<ℤ◌, int_le, int_lt, arith}
 use Rattle.std.specs.Prelude.{filter}
 use Rattle.std.specs.List.{list_all, list_any}
-use Rattle.std.proofs.Math.Bool.{cond}
 use Rattle.std.proofs.lemmas.Bool.{and_parts}
 use Rattle.std.proofs.lemmas.Int.{ints}
 use Rattle.pb_grid.specs.Lists.{neighbours, pairs_from}
-use Rattle.pb_grid.proofs.OrderLemmas.{Beside, Rises, both, or_cases}
+use Rattle.pb_grid.proofs.OrderLemmas.{Beside, Rises, or_cases}
 
 le_true : (a b : ℤ) → a ≤ℤ b → int_le a b ≡ true
 le_true a b h = grind (arith, ints)

@@ -1,5 +1,5 @@
 -- Two cuts that cross, and the sizes that show it.
-use Rattle.std.specs.Prelude.{◌≡◌, ℕ, ℤ, ◌-ℤ◌, List, length, Option, Some, None}
+use Rattle.std.specs.Prelude.{◌≡◌, ℕ, ℤ, ◌-ℤ◌, List, length, Option, Some}
 use Rattle.pb_linear.specs.Form.{value}
 use Rattle.pb_linear.specs.Held.{AreHeld}
 use Rattle.pb_linear.specs.Most.{Most}

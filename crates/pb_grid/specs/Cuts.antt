@@ -1,5 +1,5 @@
 -- The cuts of an axis of a matrix.
-use Rattle.std.specs.Prelude.{refl, ◌^◌, ℕ, ℤ, pos, unsigned_abs, nat_le, Bool, IsTrue, ◌&&◌, not, List, [], ◌∷◌, ◌++◌, filter}
+use Rattle.std.specs.Prelude.{◌≡◌, refl, ◌^◌, ℕ, ℤ, pos, unsigned_abs, nat_le, Bool, IsTrue, ◌&&◌, not, List, [], ◌∷◌, ◌++◌, filter}
 use Rattle.std.specs.List.{All, flat_map, list_all}
 use Rattle.pb_linear.specs.Form.{value}
 use Rattle.pb_linear.specs.RuleBox.{Bounds}
@@ -62,6 +62,13 @@ listed leasts a side boxes = zero ∷ side ∷ filter (is_inner leasts side) (fl
 -- the cuts in the order of the boxes: of equal forms the first
 unfoldable pub cuts : List ℕ → Axis → Form → List Bounds → List Form
 cuts leasts a side boxes = firsts (same leasts) (listed leasts a side boxes)
+
+-- two forms differ by a constant
+pub record AreParallel (a b : Form) : Type 0 where
+  pub whole : a.whole ≡ b.whole
+  pub half : a.half ≡ b.half
+  pub third : a.third ≡ b.third
+  pub quarter : a.quarter ≡ b.quarter
 
 -- a number that may be taken from another: at most 2^25 in absolute value
 abbrev pub is_half_number : ℤ → Bool

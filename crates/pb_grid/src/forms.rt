@@ -1,8 +1,8 @@
-ghost use Rattle.std.specs.Prelude.{◌≡◌};
+ghost use Rattle.std.specs.Prelude.{◌≡◌, IsTrue};
 ghost use Rattle.pb_linear.specs.Form.{HasNumbers, numbers};
 ghost use Rattle.pb_linear.specs.Numbers.{difference};
 ghost use Rattle.pb_linear.specs.Sizes.{IsRanges, leasts_of};
-ghost use Rattle.pb_grid.specs.Cuts.{AreSmall, crosses, le, same, zero};
+ghost use Rattle.pb_grid.specs.Cuts.{AreParallel, AreSmall, crosses, le, same, zero};
 
 use pb_linear::{Form, Ranges};
 
@@ -33,6 +33,23 @@ pub(crate) fn difference(left: &Form, right: &Form) -> Form
     }
 }
 
+/// Whether two rows of coefficients are equal.
+fn is_same_row(a: &[i64; 8], b: &[i64; 8]) -> bool
+    ensures { IsTrue result → a.now ≡ b.now }
+{
+    a == b
+}
+
+/// Whether two forms differ by a constant.
+fn are_parallel(a: &Form, b: &Form) -> bool
+    ensures { IsTrue result → AreParallel a.now b.now }
+{
+    if !is_same_row(&a.whole, &b.whole) || !is_same_row(&a.half, &b.half) {
+        return false;
+    }
+    is_same_row(&a.third, &b.third) && is_same_row(&a.quarter, &b.quarter)
+}
+
 /// Whether a form is at most another at all sizes in range.
 #[tactic(auto, using(crate::proofs::FormLemmas::le_by_difference))]
 pub(crate) fn is_at_most(ranges: &Ranges, a: &Form, b: &Form) -> bool
@@ -41,6 +58,9 @@ pub(crate) fn is_at_most(ranges: &Ranges, a: &Form, b: &Form) -> bool
     requires b { AreSmall b.now }
     ensures { result ≡ le (leasts_of ranges.now) a.now b.now }
 {
+    if are_parallel(a, b) {
+        return a.constant <= b.constant;
+    }
     difference(a, b).everywhere_le0(ranges)
 }
 

@@ -1,4 +1,4 @@
-use Rattle.std.proofs.Common.{◌≡◌, ◌≤◌, map, take}
+use Rattle.std.proofs.Common.{◌≡◌, map, take}
 use Rattle.pb_linear.specs.Sizes.{leasts_of}
 use Rattle.pb_grid.specs.Gaps.{gap_of}
 use Rattle.pb_grid.specs.Lists.{neighbours}

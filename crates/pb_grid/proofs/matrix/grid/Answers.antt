@@ -1,4 +1,4 @@
-use Rattle.std.proofs.Common.{◌∙◌, sym, ap, map}
+use Rattle.std.proofs.Common.{◌∙◌}
 use Rattle.pb_grid.specs.Grids.{matrix_of}
 use Rattle.pb_grid.proofs.GridLemmas.{bare_refused, err_map, grid_is, ok_map}
 use Rattle.pb_grid.proofs.matrix.grid.Goals as goal
