@@ -75,7 +75,7 @@ module _ (leasts : List ℕ) (boxes : List Bounds) where
   made_is (s ∷ ss) = ap (λ l. segment_of leasts boxes s ∷ l) (made_is ss)
 
 -- ---- the numbers of the best rules
-nat-trans : (a b c : ℕ) → nat_eq a b ≡ true → nat_eq b c ≡ true → nat_eq a c ≡ true
+pub nat-trans : (a b c : ℕ) → nat_eq a b ≡ true → nat_eq b c ≡ true → nat_eq a c ≡ true
 nat-trans a b c h k = let e = eqb-true a b h in let f = eqb-true b c k in eq-eqb a c (e ∙ f)
 
 module _ (hs : List Holder) (i : ℕ) (d : Holder) (here : i < length hs) (l k : List ℕ) (inv : l ≡ firsts nat_eq (map (λ h. h.rule) (filter (is_best hs) (take i hs)))) (kept : is_best hs (get_or hs i d) ≡ true) where

@@ -7,3 +7,4 @@ pub mod OrderLemmas
 pub mod ValueLemmas
 pub mod PlaceLemmas
 pub mod AnswerLemmas
+pub mod RuleLemmas

@@ -1,6 +1,6 @@
 -- The places of a matrix at sizes, and the rules that may make the cell there.
-use Rattle.std.specs.Prelude.{ℕ, ℤ, pos, ◌≤ℤ◌, ◌<ℤ◌, int_le, int_lt, Bool, ◌&&◌, List, map, filter}
-use Rattle.std.specs.List.{list_all}
+use Rattle.std.specs.Prelude.{◌≡◌, ◌≤◌, false, IsTrue, ℕ, ℤ, pos, ◌≤ℤ◌, ◌<ℤ◌, int_le, int_lt, Bool, ◌&&◌, List, map, filter}
+use Rattle.std.specs.List.{All, Contains, list_all}
 use Rattle.pb_linear.specs.Form.{value}
 use Rattle.pb_linear.specs.RuleBox.{Bounds}
 use Rattle.pb_linear.specs.Sizes.{InRange}
@@ -35,3 +35,12 @@ pub record IsPlace (m : Matrix) (sizes : List ℕ) (x y : ℤ) : Type 0 where
   pub before_x : x <ℤ value m.width sizes
   pub from_y : pos 0 ≤ℤ y
   pub before_y : y <ℤ value m.height sizes
+
+-- a rule may make the cell there: one of its boxes holds the place, and its priority is at most that of each unguarded
+-- rule with a box that does
+pub record MayMake (boxes : List Bounds) (sizes : List ℕ) (x y : ℤ) (rule : ℕ) : Type 0 where
+  pub box : Bounds
+  pub there : Contains boxes box
+  pub numbered : box.rule ≡ rule
+  pub inside : IsTrue (is_in sizes x y box)
+  pub least : All (λ b. IsTrue (is_in sizes x y b) → b.guarded ≡ false → box.priority ≤ b.priority) boxes

@@ -1,5 +1,5 @@
-ghost use Rattle.std.specs.Prelude.{◌≡◌, ◌⊎◌, ℕ, ℤ, pos, ◌≤ℤ◌, ◌<ℤ◌, IsTrue, List, filter, length};
-ghost use Rattle.std.specs.List.{All};
+ghost use Rattle.std.specs.Prelude.{◌≡◌, ◌↔◌, ◌⊎◌, ℕ, ℤ, pos, ◌≤ℤ◌, ◌<ℤ◌, IsTrue, List, filter, length};
+ghost use Rattle.std.specs.List.{All, Contains};
 ghost use Rattle.pb_linear.specs.Form.{value};
 ghost use Rattle.pb_linear.specs.Sizes.{InRange, IsRanges};
 ghost use Rattle.pb_linear.specs.RuleBox.{Bounds};
@@ -7,7 +7,7 @@ ghost use Rattle.pb_linear.specs.declared.form.Form.{Form};
 ghost use Rattle.pb_linear.specs.declared.sizes.Ranges.{Ranges};
 ghost use Rattle.pb_grid.specs.declared.refusal.GridRefusal.{GridRefusal};
 ghost use Rattle.pb_grid.specs.Grids.{HasGrid, HasRefusal, IsGrid, IsRefused, Matrix, matrix_of};
-ghost use Rattle.pb_grid.specs.Places.{holders_at, is_at, IsPlace};
+ghost use Rattle.pb_grid.specs.Places.{holders_at, is_at, IsPlace, MayMake};
 ghost use Rattle.pb_grid.specs.Segments.{best, SegmentValue};
 
 /// A law: at all sizes in range each place of the matrix lies in exactly one segment.
@@ -21,6 +21,12 @@ pub fn a_place_is_in_one_segment()
 pub fn a_segment_has_the_rules_of_its_places()
     ensures { (m : Matrix) (segments : List SegmentValue) (sizes : List ℕ) (x y : ℤ) → IsGrid m segments → IsPlace m sizes x y
         → All (λ s. IsTrue (is_at sizes x y s) → s.rules ≡ best (holders_at sizes x y m.boxes)) segments }
+{}
+
+/// A law: the rules at a place are those that may make the cell there.
+pub fn a_rule_is_at_a_place_exactly_where_it_may_make_the_cell()
+    ensures { (boxes : List Bounds) (sizes : List ℕ) (x y : ℤ) (rule : ℕ)
+        → Contains (best (holders_at sizes x y boxes)) rule ↔ MayMake boxes sizes x y rule }
 {}
 
 /// A law: a matrix has a grid or is refused; it has one grid at most, and one refusal at most, and never both.

@@ -16,7 +16,8 @@ mod refusal;
 mod segments;
 
 pub use laws::{
-    a_matrix_has_one_answer, a_place_is_in_one_segment, a_segment_has_the_rules_of_its_places,
+    a_matrix_has_one_answer, a_place_is_in_one_segment,
+    a_rule_is_at_a_place_exactly_where_it_may_make_the_cell, a_segment_has_the_rules_of_its_places,
 };
 pub use matrix::grid;
 pub use refusal::GridRefusal;
