@@ -7,3 +7,4 @@ pub mod SameForms
 pub mod SizesLemmas
 pub mod Values
 pub mod Worst
+pub mod Held

@@ -5,3 +5,4 @@ pub mod Form
 pub mod VForm
 pub mod Most
 pub mod RuleBox
+pub mod Held
