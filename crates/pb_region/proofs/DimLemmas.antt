@@ -11,7 +11,8 @@ use Rattle.pb_linear.specs.Sizes.{sizes_of}
 use Rattle.pb_linear.specs.declared.form.Form.{Form}
 use Rattle.pb_linear.specs.declared.sizes.Sizes.{Sizes}
 use Rattle.pb_linear.proofs.Values.{exact_value-multiple}
-use Rattle.pb_region.specs.Dims.{AreHeld, IsNegative, IsNeverNegative}
+use Rattle.pb_linear.specs.Held.{AreHeld}
+use Rattle.pb_region.specs.Dims.{IsNegative, IsNeverNegative}
 
 module _ (leasts : List ℕ) (n : Numbers) (f : Form) (m : ℤ) (s : Sizes) (same : numbers f ≡ multiple (negsuc 0) n) (most : Most (value f) leasts m (sizes_of s)) where
   value_of : (t : List ℕ) → value f t ≡ negsuc 0 *ℤ exact_value n t

@@ -1,24 +1,20 @@
 -- A transform has no negative side, or one first side with one list of sizes.
-use Rattle.std.proofs.Common.{◌≡◌, ◌∙◌, sym, ap, get_or, IsTrue, subst, inl, inr, ℕ, ◌<◌, ◌≤◌, List, length, take, slice_get, Some, ℤ, negsuc, ◌*ℤ◌, arith}
+use Rattle.std.proofs.Common.{◌≡◌, ◌∙◌, sym, ap, subst, inl, inr, ℕ, ◌<◌, ◌≤◌, List, length, take, slice_get, Some, negsuc, ◌*ℤ◌, arith}
 use Rattle.std.specs.List.{All}
 use Rattle.std.proofs.lemmas.Bool.{cases_lt}
 use Rattle.std.proofs.lemmas.Int.{ints}
-use Rattle.std.proofs.lemmas.List.{ext_get_or, get_or-take, length-take-le}
+use Rattle.std.proofs.lemmas.List.{get_or-take, length-take-le}
 use Rattle.std.proofs.lemmas.Option.{get_or_from_slice_get, slice_get_within}
-use Rattle.std.proofs.Math.Bool.{Bool-set}
-use Rattle.std.proofs.Math.Bridge.{le_prop}
-use Rattle.std.proofs.Math.Path.{to_path_p}
-use Rattle.pb_linear.specs.Limits.{is_zero_from}
 use Rattle.pb_linear.specs.Most.{Most}
 use Rattle.pb_linear.specs.Numbers.{Numbers, exact_value}
 use Rattle.pb_linear.specs.Sizes.{leasts_of, sizes_of}
 use Rattle.pb_linear.specs.declared.sizes.Sizes.{Sizes}
-use Rattle.pb_linear.proofs.SizesLemmas.{InRange-length, size_at}
 use Rattle.pb_syntax.specs.declared.refusal.Refusal.{Refusal}
 use Rattle.pb_syntax.specs.declared.refusal.Refusal.TheVariants.{NegativeDim}
 use Rattle.pb_program.specs.Forms.{DeclValue}
 use Rattle.pb_program.specs.Trees.{ProgTransform}
-use Rattle.pb_region.specs.Dims.{AreHeld, AreSides, HasNoNegative, IsFirstAxis, IsFirstNegative, IsNegative, IsNeverNegative, IsRefused, sides}
+use Rattle.pb_linear.proofs.Held.{held_same, same_most}
+use Rattle.pb_region.specs.Dims.{AreSides, HasNoNegative, IsFirstAxis, IsFirstNegative, IsNegative, IsNeverNegative, IsRefused, sides}
 
 pub all_at : {A : Type 0} (P : A → Type 0) (xs : List A) (k : ℕ) (x : A) → All P xs → slice_get xs k ≡ Some x → P x
 all_at P xs k x h at = subst P (get_or_from_slice_get xs k x x at) (h k x (slice_get_within xs k x at))
@@ -58,16 +54,10 @@ module _ (leasts : List ℕ) where
     | inr after ↦ elim (cases_lt b a) [ inl before ↦ absurd (axis_before d b a u s k h before) | inr same ↦ omega arith ]
   ]
 
-  -- the sizes are the least that reach the greatest value
-  same_most : (f : List ℕ → ℤ) (m n : ℤ) (s u : List ℕ) → Most f leasts m s → Most f leasts n u → s ≡ u
-  same_most f m n s u h k =
-      let same : m ≡ n = omega (arith, ints, h.greatest u k.in_range, k.greatest s h.in_range, h.reached, k.reached) in
-      ext_get_or 0 s u (omega (arith, InRange-length leasts s h.in_range, InRange-length leasts u k.in_range)) (λ i below. omega (arith, h.least u k.in_range (k.reached ∙ sym same) i, k.least s h.in_range (h.reached ∙ same) i))
-
   same_sizes : (d : DeclValue) (a b : ℕ) (s u : Sizes) → a ≡ b → IsFirstAxis leasts d a s → IsFirstAxis leasts d b u → sizes_of s ≡ sizes_of u
   same_sizes d a b s u e h k =
       let side : h.side ≡ k.side = let there : slice_get (sides d) b ≡ Some h.side = rw (sym e) h.there in some_same h.side k.side (sym there ∙ k.there) in
-      same_most (λ t. negsuc 0 *ℤ exact_value k.side t) h.negative.most k.negative.most (sizes_of s) (sizes_of u) (subst (λ n. Most (λ t. negsuc 0 *ℤ exact_value n t) leasts h.negative.most (sizes_of s)) side h.negative.greatest) k.negative.greatest
+      same_most leasts (λ t. negsuc 0 *ℤ exact_value k.side t) h.negative.most k.negative.most (sizes_of s) (sizes_of u) (subst (λ n. Most (λ t. negsuc 0 *ℤ exact_value n t) leasts h.negative.most (sizes_of s)) side h.negative.greatest) k.negative.greatest
 
   pub same_side : (ms : List DeclValue) (i a j b : ℕ) (s u : Sizes) → IsFirstNegative leasts ms i a s → IsFirstNegative leasts ms j b u → (a ≡ b) × (sizes_of s ≡ sizes_of u)
   same_side ms i a j b s u h k =
@@ -83,18 +73,6 @@ not_refused number t (NegativeDim transform matrix axis s) none h =
 not_refused number t _ none h = absurd h
 
 -- two refusals are one
-sizes_same : (a b : Sizes) → a.count ≡ b.count → a.of ≡ b.of → a ≡ b
-sizes_same a b counts entries = λ i. record {
-  count = counts i;
-  of = entries i;
-  few = to_path_p (λ k. counts k ≤ 8) {a = a.few} {b = b.few} (le_prop _ _) i;
-  zero_past_count = to_path_p (λ k. IsTrue (is_zero_from (counts k) (entries k))) {a = a.zero_past_count} {b = b.zero_past_count} (Bool-set _ _ _ _) i;
-}
-
-held_same : (count : ℕ) (s u : Sizes) → AreHeld count s → AreHeld count u → sizes_of s ≡ sizes_of u → s ≡ u
-held_same count s u h k e = sizes_same s u (h.counted ∙ sym k.counted) (ext_get_or 0 s.of u.of (h.full ∙ sym k.full)
-    (λ i below. sym (size_at s.count s.of s.zero_past_count i) ∙ ap (λ l. get_or l i 0) e ∙ size_at u.count u.of u.zero_past_count i))
-
 same_told : (number matrix other axis more : ℕ) (s u : Sizes) → matrix ≡ other → axis ≡ more → s ≡ u → NegativeDim number matrix axis s ≡ NegativeDim number other more u
 same_told number matrix other axis more s u a b c = cc
 

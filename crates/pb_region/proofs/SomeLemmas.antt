@@ -1,104 +1,20 @@
 -- A transform has no negative side, or a first one.
-use Rattle.std.proofs.Common.{◌≡◌, refl, sym, ap, subst, inl, inr, ◌⊎◌, ℕ, zero, suc, ◌+◌, ◌-◌, ◌<◌, ◌≤◌, Bool, true, false, nat_eq, List, [], ◌∷◌, ◌++◌, length, take, get_or, slice_get, Some, ℤ, pos, negsuc, ◌*ℤ◌, ◌≤ℤ◌, ◌<ℤ◌, int_le, arith}
-use Rattle.std.specs.List.{All, list_all}
-use Rattle.std.proofs.Math.Seq.{take-append_seam, drop-append_seam}
-use Rattle.std.proofs.lemmas.List.{get_or-take, length-append, length-take}
+use Rattle.std.proofs.Common.{◌≡◌, refl, sym, subst, inl, inr, ◌⊎◌, ℕ, zero, suc, ◌<◌, ◌≤◌, List, [], ◌∷◌, length, take, get_or, slice_get, Some, ℤ, pos, negsuc, ◌*ℤ◌, ◌≤ℤ◌, ◌<ℤ◌, arith}
+use Rattle.std.specs.List.{All}
 use Rattle.std.proofs.lemmas.Int.{ints}
-use Rattle.pb_linear.specs.Most.{FirstGreatest, Most}
-use Rattle.pb_linear.specs.Numbers.{Numbers, exact_value, multiple, part_of}
-use Rattle.pb_linear.specs.Sizes.{InRange, IsRanges, leasts_of, sizes_of}
+use Rattle.pb_linear.specs.Most.{Most}
+use Rattle.pb_linear.specs.Numbers.{Numbers, exact_value, multiple}
+use Rattle.pb_linear.specs.Sizes.{IsRanges, leasts_of}
 use Rattle.pb_linear.specs.declared.sizes.Sizes.{Sizes}
 use Rattle.pb_linear.specs.declared.sizes.TheConstants.{SIZE_TOP}
-use Rattle.pb_linear.proofs.Parts.{first_alone, first_kept, first_taken, most_is}
 use Rattle.pb_linear.proofs.SizesLemmas.{InRange-length}
 use Rattle.pb_linear.proofs.Values.{exact_value-multiple}
 use Rattle.pb_syntax.specs.declared.refusal.Refusal.TheVariants.{NegativeDim}
 use Rattle.pb_program.specs.Forms.{DeclValue}
 use Rattle.pb_program.specs.Trees.{ProgTransform}
-use Rattle.pb_region.specs.Dims.{AreHeld, AreSides, HasNegative, HasNoNegative, HaveNoNegative, IsFirstAxis, IsFirstNegative, IsNegative, IsNeverNegative, sides}
-
-le_or_lt : (a b : ℤ) → (a ≤ℤ b) ⊎ (b <ℤ a)
-le_or_lt a b = by_test (int_le a b) refl
-  where
-    by_test : (t : Bool) → int_le a b ≡ t → (a ≤ℤ b) ⊎ (b <ℤ a)
-    by_test true e = inl (grind (arith, ints))
-    by_test false e = inr (grind (arith, ints))
-
--- a part has a greatest value among some sizes
-one_more : (g : ℕ → ℤ) (start v best : ℕ) → FirstGreatest g start v best → (g v ≤ℤ g best) ⊎ (g best <ℤ g v) → (place : ℕ) × FirstGreatest g start (v + 1) place
-one_more g start v best b (inl less) = (best, first_kept g start v best best b less refl)
-one_more g start v best b (inr more) = (v, first_taken g start v best v b more refl)
-
-greatest_among : (g : ℕ → ℤ) (start k : ℕ) → (place : ℕ) × FirstGreatest g start (start + k + 1) place
-greatest_among g start zero = (start, let e : start + 0 + 1 ≡ start + 1 = omega arith in rw e (first_alone g start))
-greatest_among g start (suc k) =
-    let rest = greatest_among g start k in
-    let e : start + suc k + 1 ≡ start + k + 1 + 1 = omega arith in
-    rw e (one_more g start (start + k + 1) rest.0 rest.1 (le_or_lt (g (start + k + 1)) (g rest.0)))
-
-greatest_to : (g : ℕ → ℤ) (start k end : ℕ) → start + k + 1 ≡ end → (place : ℕ) × FirstGreatest g start end place
-greatest_to g start k end e = let found = greatest_among g start k in (found.0, subst (λ n. FirstGreatest g start n found.0) e found.1)
-
--- sizes at each of which its part is greatest
-record AreGreatest (n : Numbers) (from : ℕ) (leasts sizes : List ℕ) : Type 0 where
-  inside : InRange leasts sizes
-  each : (i : ℕ) → i < length leasts → FirstGreatest (part_of n (from + i)) (get_or leasts i 0) (SIZE_TOP + 1) (get_or sizes i 0)
-
-with_first : (n : Numbers) (from least size : ℕ) (leasts sizes : List ℕ) → FirstGreatest (part_of n from) least (SIZE_TOP + 1) size → AreGreatest n (from + 1) leasts sizes
-    → AreGreatest n from (least ∷ leasts) (size ∷ sizes)
-with_first n from least size leasts sizes first rest = record {
-  inside = (first.low, omega (arith, first.high), rest.inside);
-  each = λ i below. at i below;
-}
-  where
-    at : (i : ℕ) → i < length (least ∷ leasts) → FirstGreatest (part_of n (from + i)) (get_or (least ∷ leasts) i 0) (SIZE_TOP + 1) (get_or (size ∷ sizes) i 0)
-    at zero below = let e : from + 0 ≡ from = omega arith in rw e first
-    at (suc i) below = let e : from + suc i ≡ from + 1 + i = omega arith in rw e (rest.each i (omega arith))
-
-all_greatest : (n : Numbers) (from : ℕ) (leasts : List ℕ) → ((i : ℕ) → i < length leasts → get_or leasts i 0 ≤ SIZE_TOP) → (sizes : List ℕ) × AreGreatest n from leasts sizes
-all_greatest n from [] low = ([], record { inside = tt; each = λ i below. absurd (omega arith) })
-all_greatest n from (least ∷ leasts) low =
-    let first : least ≤ SIZE_TOP = low 0 (omega arith) in
-    let one = greatest_to (part_of n from) least (SIZE_TOP - least) (SIZE_TOP + 1) (omega arith) in
-    let rest = all_greatest n (from + 1) leasts (λ i below. low (suc i) (omega arith)) in
-    (one.0 ∷ rest.0, with_first n from least one.0 leasts rest.0 one.1 rest.1)
-
--- a form has a greatest value
-some_most : (n : Numbers) (leasts : List ℕ) → length leasts ≤ 8 → ((i : ℕ) → i < length leasts → get_or leasts i 0 ≤ SIZE_TOP) → (sizes : List ℕ) × Most (exact_value n) leasts (exact_value n sizes) sizes
-some_most n leasts few low =
-    let found = all_greatest n 0 leasts low in
-    (found.0, most_is n leasts found.0 few found.1.inside (λ i below. let e : 0 + i ≡ i = omega arith in subst (λ k. FirstGreatest (part_of n k) (get_or leasts i 0) (SIZE_TOP + 1) (get_or found.0 i 0)) e (found.1.each i below)) (exact_value n found.0) refl)
-
--- sizes as they are held
-zeros : ℕ → List ℕ
-zeros zero = []
-zeros (suc k) = 0 ∷ zeros k
-
-zeros_long : (k : ℕ) → length (zeros k) ≡ k
-unfolding zeros
-zeros_long zero = refl
-zeros_long (suc k) = ap suc (zeros_long k)
-
-zeros_all : (k : ℕ) → list_all (λ v. nat_eq v 0) (zeros k) ≡ true
-unfolding zeros
-zeros_all zero = refl
-zeros_all (suc k) = zeros_all k
-
-hold : (s : List ℕ) → length s ≤ 8 → Sizes
-hold s few = record {
-  count = length s;
-  of = s ++ zeros (8 - length s);
-  few = few;
-  zero_past_count = rw (drop-append_seam s (zeros (8 - length s))) (zeros_all (8 - length s));
-}
-
-hold_is : (s : List ℕ) (few : length s ≤ 8) → sizes_of (hold s few) ≡ s
-unfolding hold
-hold_is s few = take-append_seam s (zeros (8 - length s))
-
-hold_held : (s : List ℕ) (few : length s ≤ 8) → AreHeld (length s) (hold s few)
-unfolding hold
-hold_held s few = record { counted = refl; full = omega (arith, length-append s (zeros (8 - length s)), zeros_long (8 - length s)) }
+use Rattle.pb_linear.specs.Held.{AreHeld}
+use Rattle.pb_linear.proofs.Held.{few_leasts, hold, hold_held, hold_is, least_low, le_or_lt, some_most}
+use Rattle.pb_region.specs.Dims.{AreSides, HasNegative, HasNoNegative, HaveNoNegative, IsFirstAxis, IsFirstNegative, IsNegative, IsNeverNegative, sides}
 
 module _ (leasts : List ℕ) (few : length leasts ≤ 8) (low : (i : ℕ) → i < length leasts → get_or leasts i 0 ≤ SIZE_TOP) where
   negative_by : (n : Numbers) (s : List ℕ) → Most (exact_value (multiple (negsuc 0) n)) leasts (exact_value (multiple (negsuc 0) n) s) s
@@ -161,14 +77,9 @@ module _ (leasts : List ℕ) (few : length leasts ≤ 8) (low : (i : ℕ) → i 
     | inr f ↦ inr (f.place, f.is.0, f.is.1, record { decl = f.item; there = f.there; first = f.is.2; earlier = f.earlier })
   ]
 
-least_low : (t : ProgTransform) → IsRanges t.ranges → (i : ℕ) → i < length (leasts_of t.ranges) → get_or (leasts_of t.ranges) i 0 ≤ SIZE_TOP
-least_low t ok i below =
-    let within : i < t.ranges.count = omega (arith, length-take t.ranges.count t.ranges.least) in
-    omega (arith, get_or-take t.ranges.count t.ranges.least i 0 within, ok.low_enough i within)
-
 pub sides_or_refused : (number : ℕ) (t : ProgTransform) → IsRanges t.ranges → AreSides t ⊎ HasNegative number t
 sides_or_refused number t ok =
-    elim (matrices_answer (leasts_of t.ranges) (omega (arith, ok.few, length-take t.ranges.count t.ranges.least)) (least_low t ok) t.matrices) [
+    elim (matrices_answer (leasts_of t.ranges) (few_leasts t.ranges ok) (least_low t.ranges ok) t.matrices) [
       | inl none ↦ inl none
       | inr f ↦ inr (record { why = NegativeDim number f.0 f.1 f.2; told = (refl, f.3) })
     ]

@@ -1,6 +1,7 @@
 -- The sides of the matrices of a transform, and the first of them that is negative at some sizes.
 use Rattle.std.specs.Prelude.{◌≡◌, ℕ, ◌==◌, if◌then◌else◌, ℤ, pos, negsuc, ◌*ℤ◌, ◌<ℤ◌, ◌≤ℤ◌, List, [], ◌∷◌, length, take, Some, IfSome, IsSomeAnd, slice_get}
 use Rattle.std.specs.List.{All}
+use Rattle.pb_linear.specs.Held.{AreHeld}
 use Rattle.pb_linear.specs.Most.{Most}
 use Rattle.pb_linear.specs.Numbers.{Numbers, exact_value}
 use Rattle.pb_linear.specs.Sizes.{InRange, leasts_of, sizes_of}
@@ -21,11 +22,6 @@ HasTransform ts t P = IsSomeAnd (slice_get ts t) P
 -- the width, and where there are two dimensions the height: each at the place of its axis
 abbrev pub sides : DeclValue → List Numbers
 sides d = d.w ∷ (if d.dims == 1 then [] else d.h ∷ [])
-
--- so many sizes, in an array of 8
-pub record AreHeld (count : ℕ) (sizes : Sizes) : Type 0 where
-  pub counted : sizes.count ≡ count
-  pub full : length sizes.of ≡ 8
 
 module _ (leasts : List ℕ) where
   -- at least 0 at all sizes in range

@@ -1,10 +1,11 @@
 ghost use Rattle.std.specs.Prelude.{◌≡◌, ◌<◌, ◌≤◌, IfErr, IfSome, MatchOption, OnOk, length};
 ghost use Rattle.pb_linear.specs.Form.{numbers};
+ghost use Rattle.pb_linear.specs.Held.{AreHeld};
 ghost use Rattle.pb_linear.specs.Sizes.{IsRanges, leasts_of};
 ghost use Rattle.pb_syntax.specs.declared.limits.TheConstants.{MOST_MATRICES};
 ghost use Rattle.pb_program.specs.Trees.{bare_prog, bare_transform};
 ghost use Rattle.pb_program.specs.WellFormed.{IsWellFormed};
-ghost use Rattle.pb_region.specs.Dims.{AreHeld, AreSides, AtTransform, HasNoNegative, HasTransform, HaveNoNegative, IsFirstAxis, IsFirstNegative, IsNegative, IsNeverNegative, IsRefused};
+ghost use Rattle.pb_region.specs.Dims.{AreSides, AtTransform, HasNoNegative, HasTransform, HaveNoNegative, IsFirstAxis, IsFirstNegative, IsNegative, IsNeverNegative, IsRefused};
 ghost use Rattle.pb_region.specs.Small.{IsSmallTransform};
 
 use crate::forms::negative;
