@@ -1,5 +1,5 @@
 -- Configurations: which rule one chooses, and when one is valid for a program.
-use Rattle.std.specs.Prelude.{◌≡◌, ℕ, ◌≤◌, Bool, true, false, ◌&&◌, ◌==◌, nat_le, nat_lt, IsTrue, List, [], ◌∷◌, length, map, filter, Option, Some, slice_get, slice_index}
+use Rattle.std.specs.Prelude.{◌≡◌, ℕ, ◌≤◌, Bool, true, false, ◌&&◌, ◌==◌, nat_le, nat_lt, IsTrue, List, [], ◌∷◌, length, map, filter, Some, slice_get, slice_index}
 use Rattle.std.specs.List.{AllByRecursion, list_all, list_any, find}
 use Rattle.std.specs.Option.{option_map_or}
 use Rattle.std.specs.Str.{bytes_eq}
@@ -91,9 +91,10 @@ pub record IsEntry (p : List ProgTransform) (e : EntryValue) : Type 0 where
 abbrev pub has_site : SiteValue → List EntryValue → Bool
 has_site s entries = list_any (λ e. same_site s e.site) entries
 
+-- no entry has the site of an earlier one
 abbrev pub HaveDistinctSites : List EntryValue → Type 0
 HaveDistinctSites [] = Unit {0}
-HaveDistinctSites (e ∷ rest) = (has_site e.site rest ≡ false) × HaveDistinctSites rest
+HaveDistinctSites (e ∷ rest) = (list_any (λ later. same_site later.site e.site) rest ≡ false) × HaveDistinctSites rest
 
 -- a configuration is valid for a program
 pub record IsValid (p : List ProgTransform) (c : ConfigValue) : Type 0 where
