@@ -9,3 +9,4 @@ pub mod Conditions
 pub mod Areas
 pub mod WellFormed
 pub mod Places
+pub mod Configs

@@ -3,6 +3,7 @@
 //! `specs/` says when a program is well formed, which conditions a rule has, and where it applies. Nothing here computes.
 #![tactic(auto)]
 
+mod config;
 mod expression;
 mod meaning;
 mod plan;
@@ -11,6 +12,7 @@ mod statement;
 mod transform;
 mod view;
 
+pub use config::{Config, Entry, Selector, Site};
 pub use expression::Expr;
 pub use meaning::{Called, Callee, Function, Meaning, Named};
 pub use plan::{Plan, PlanCall, Slot};

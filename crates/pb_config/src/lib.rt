@@ -1,0 +1,20 @@
+//! Configurations: reading their text, with the line of its first fault, writing it, and what one chooses.
+//!
+//! In: the bytes of a file, or a configuration, and the program that it is for. Out: the configuration or the first
+//! fault; its text; the rule that is chosen. The theorem: `read_config` gives just what the text says.
+#![tactic(auto)]
+
+mod choice;
+mod chosen;
+mod entries;
+mod lines;
+mod parts;
+mod print;
+mod read;
+mod refusal;
+mod site;
+
+pub use chosen::choose;
+pub use print::print_config;
+pub use read::read_config;
+pub use refusal::ConfigRefusal;
