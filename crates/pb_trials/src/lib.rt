@@ -4,7 +4,11 @@
 #[cfg(test)]
 mod bounds;
 #[cfg(test)]
+mod configs;
+#[cfg(test)]
 mod forms;
+#[cfg(test)]
+mod grids;
 #[cfg(test)]
 mod linear;
 #[cfg(test)]

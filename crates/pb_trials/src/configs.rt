@@ -1,0 +1,124 @@
+//! Configurations: what is read from a text for a program, how it is printed, and what it chooses.
+ghost use Rattle.std.specs.Prelude.{IfOk};
+ghost use Rattle.pb_program.specs.Trees.{bare_prog};
+ghost use Rattle.pb_program.specs.WellFormed.{IsWellFormed};
+
+use pb_config::{ConfigRefusal, choose, print_config, read_config};
+use pb_front::{a_tree_that_is_read_is_within_limits, read_text};
+use pb_prog::Refusal;
+use pb_resolve::{Prog, resolve};
+use std::alloc::{AllocError, Global};
+use std::test::Fail;
+
+// A matrix that two rules write, and one that only the second writes.
+const PROGRAM: &str =
+    "transform T from A[n] through M[n] to B[n] { to (B.cell(i) b) from (A.cell(i) a) { b = a; } \
+to (B b, M m) from (A a) { } to (M.cell(i) m) from () { m = 1; } }";
+
+// A text, and the text that is printed of it with what it chooses of the rules 0 and 1 of `B` at the sizes 3 and 4; or
+// the fault of a line.
+const ROWS: [(&str, &str); 24] = [
+    ("", "; 0 0"),
+    ("choose T.B {0,1} = 1", "choose T.B {0,1} = 1\n; 1 1"),
+    (
+        "\t# choose\r\n \t\r\n\n choose T . B { 0 , 01 } = 0000001 until 4 then 0 ",
+        "choose T.B {0,1} = 1 until 4 then 0\n; 1 0",
+    ),
+    (
+        "chooseT.B{0,1}=0until4then1",
+        "choose T.B {0,1} = 0 until 4 then 1\n; 0 1",
+    ),
+    (
+        "choose T.B {0} = 0\nchoose T.M {1,2} = 2 until 9 then 1",
+        "choose T.B {0} = 0\nchoose T.M {1,2} = 2 until 9 then 1\n; 0 0",
+    ),
+    (
+        "choose T.B {0,1} = 0 until 1048576 then 1",
+        "choose T.B {0,1} = 0 until 1048576 then 1\n; 0 0",
+    ),
+    ("choose", "bad line 1"),
+    ("# a remark\n\nchoose T.B {0,1} = 0\r", "bad line 3"),
+    ("choose T.B {1,0} = 0", "bad line 1"),
+    ("choose T.B {} = 0", "bad line 1"),
+    ("choose T.B {0,1,} = 0", "bad line 1"),
+    ("choose T.B {0} = 0 x", "bad line 1"),
+    ("choose T.B {0,1} = 0 until 0 then 1", "bad line 1"),
+    ("choose T.B {0,1} = 0 until 1048577 then 1", "bad line 1"),
+    ("choose T.B {0,00000001} = 0", "bad line 1"),
+    ("choose T.A {0} = 0", "unknown place 1"),
+    ("choose T.M {0} = 0", "unknown place 1"),
+    ("choose T.B {0,3} = 7", "unknown place 1"),
+    ("choose transform.B {0} = 0", "unknown place 1"),
+    ("choose T.B {0,1} = 2", "not in set 1"),
+    (
+        "choose T.B {0} = 0 until 5 then 1 until 5 then 0",
+        "not in set 1",
+    ),
+    (
+        "choose T.B {0,1} = 0 until 8 then 1 until 8 then 0",
+        "not rising 1",
+    ),
+    (
+        "choose T.B {0} = 0\nchoose T.B {0,1} = 0\nchoose T.B {0} = 0",
+        "twice 3",
+    ),
+    (
+        "choose T.B {0,1} = 0 until 1 then 1 until 2 then 0 until 3 then 1 until 4 then 0 until 5 then 1 until 6 then 0 until 7 then 1 until 8 then 0",
+        "bad line 1",
+    ),
+];
+
+fn read(alloc: Global, p: &Prog, text: &str) -> Result<Vec<u8>, ConfigRefusal>
+    requires { IsWellFormed (bare_prog p.now) }
+{
+    let config = read_config(alloc, text.as_bytes(), p)?;
+    let mut found = print_config(alloc, &config, p)?;
+    let (small, large) = (
+        choose(&config, 0, 2, &[0, 1], 3),
+        choose(&config, 0, 2, &[0, 1], 4),
+    );
+    let chosen = format!(in alloc; "; {small} {large}")?;
+    found.extend_from_slice(chosen.as_bytes())?;
+    Ok(found)
+}
+
+// What is said of a text.
+fn said(alloc: Global, p: &Prog, text: &str) -> Result<Vec<u8>, AllocError>
+    requires { IsWellFormed (bare_prog p.now) }
+{
+    let line = match read(alloc, p, text) {
+        Ok(found) => return Ok(found),
+        Err(ConfigRefusal::BadLine { line }) => format!(in alloc; "bad line {line}")?,
+        Err(ConfigRefusal::UnknownPlace { line }) => format!(in alloc; "unknown place {line}")?,
+        Err(ConfigRefusal::NotInSet { line }) => format!(in alloc; "not in set {line}")?,
+        Err(ConfigRefusal::CutoffsNotRising { line }) => format!(in alloc; "not rising {line}")?,
+        Err(ConfigRefusal::Twice { line }) => format!(in alloc; "twice {line}")?,
+        Err(ConfigRefusal::Memory) => return Err(AllocError),
+    };
+    Ok(line.into_bytes())
+}
+
+fn program(alloc: Global) -> Result<Prog, Refusal>
+    ensures { IfOk result (λ p. IsWellFormed (bare_prog p.now)) }
+{
+    let tree = read_text(alloc, PROGRAM.as_bytes())?;
+    a_tree_that_is_read_is_within_limits();
+    resolve(alloc, &tree)
+}
+
+#[test]
+fn configurations_are_read_and_chosen_from(rt: HostRuntime) -> Result<(), Fail> {
+    let alloc = rt.alloc();
+    let Ok(program) = program(alloc) else {
+        assert!(rt; false, "the program is refused");
+        return Ok(());
+    };
+    for (text, expected) in &ROWS {
+        let found = said(alloc, &program, text)?;
+        assert!(rt;
+            found.as_slice() == expected.as_bytes(),
+            "{text}: {found:?}"
+        );
+    }
+    Ok(())
+}
