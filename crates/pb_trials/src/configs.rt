@@ -78,6 +78,10 @@ fn read(alloc: Global, p: &Prog, text: &str) -> Result<Vec<u8>, ConfigRefusal>
         choose(&config, 0, 2, &[0, 1], 4),
     );
     let chosen = format!(in alloc; "; {small} {large}")?;
+    let again = print_config(alloc, &read_config(alloc, &found, p)?, p)?;
+    if again != found {
+        found.extend_from_slice(b"; not read again")?;
+    }
     found.extend_from_slice(chosen.as_bytes())?;
     Ok(found)
 }
