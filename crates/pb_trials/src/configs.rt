@@ -103,7 +103,7 @@ fn said(alloc: Global, p: &Prog, text: &str) -> Result<Vec<u8>, AllocError>
 }
 
 fn program(alloc: Global) -> Result<Prog, Refusal>
-    ensures { IfOk result (λ p. IsWellFormed (bare_prog p.now)) }
+    ensures { IfOk result (λ p. IsWellFormed (bare_prog p)) }
 {
     let tree = read_text(alloc, PROGRAM.as_bytes())?;
     a_tree_that_is_read_is_within_limits();

@@ -94,7 +94,7 @@ fn from(least: u64) -> Ranges
 }
 
 fn written_by(alloc: Global, rule: u32, writer: Writer) -> Result<RuleBox, GridRefusal>
-    ensures { IfOk result (λ b. IsSmallBox b.now) }
+    ensures { IfOk result (λ b. IsSmallBox b) }
 {
     let (priority, guarded, lower, upper) = writer;
     let mut found = RuleBox {
