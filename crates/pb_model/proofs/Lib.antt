@@ -1,0 +1,4 @@
+pub mod ListLemmas
+pub mod LawfulLemmas
+pub mod ReadLemmas
+pub mod ChosenLemmas
