@@ -15,3 +15,4 @@ pub mod BoxLemmas
 pub mod NegativeLemmas
 pub mod SomeLemmas
 pub mod WithinLemmas
+pub mod LimitLemmas

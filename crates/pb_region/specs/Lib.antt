@@ -1,7 +1,7 @@
-pub mod Small
 pub mod Gaps
 pub mod Ends
 pub mod Boxes
+pub mod Small
 pub mod Overlaps
 pub mod Rules
 pub mod Dims

@@ -1,6 +1,6 @@
 -- Numbers so small that no sum of them passes the limit of forms.
-use Rattle.std.specs.Prelude.{◌^◌, ◌≤◌, IsTrue, unsigned_abs, length}
-use Rattle.std.specs.List.{All, list_all}
+use Rattle.std.specs.Prelude.{◌^◌, ◌≤◌, ℤ, Bool, IsTrue, nat_le, unsigned_abs, length}
+use Rattle.std.specs.List.{All, AllByRecursion, list_all}
 use Rattle.pb_linear.specs.Numbers.{Numbers}
 use Rattle.pb_linear.specs.Sizes.{IsRanges}
 use Rattle.pb_syntax.specs.declared.limits.TheConstants.{MOST_CONDITIONS, MOST_MATRICES, MOST_VIEWS}
@@ -9,6 +9,7 @@ use Rattle.pb_program.specs.declared.view.Read.{Read}
 use Rattle.pb_program.specs.Forms.{CoordinateValue, DeclValue}
 use Rattle.pb_program.specs.Trees.{ProgRule, ProgTransform}
 use Rattle.pb_program.specs.WellFormed.{is_small}
+use Rattle.pb_region.specs.Boxes.{Limits}
 use Rattle.pb_region.specs.Ends.{Ends, Interval}
 
 -- each coefficient of a form is at most 2^23 in absolute value, and the constant at most 2^24
@@ -65,3 +66,21 @@ pub record IsSmallRule (r : ProgRule) : Type 0 where
   pub outs : All IsSmallRead r.outs
   pub reads : All IsSmallRead r.reads
   pub conds : All IsSmallCond r.conds
+
+-- a number of a bound: at most 2^25 in absolute value
+abbrev pub is_bound_number : ℤ → Bool
+is_bound_number z = nat_le (unsigned_abs z) (2 ^ 25)
+
+-- a bound of such numbers
+pub record IsSmallBound (n : Numbers) : Type 0 where
+  pub constant : IsTrue (is_bound_number n.constant)
+  pub whole : IsTrue (list_all is_bound_number n.whole)
+  pub half : IsTrue (list_all is_bound_number n.half)
+  pub third : IsTrue (list_all is_bound_number n.third)
+  pub quarter : IsTrue (list_all is_bound_number n.quarter)
+
+pub record AreSmallLimits (l : Limits) : Type 0 where
+  pub lower_x : AllByRecursion IsSmallBound l.lower_x
+  pub upper_x : AllByRecursion IsSmallBound l.upper_x
+  pub lower_y : AllByRecursion IsSmallBound l.lower_y
+  pub upper_y : AllByRecursion IsSmallBound l.upper_y

@@ -1,5 +1,5 @@
 ghost use Rattle.std.specs.Prelude.{◌≡◌, ◌↔◌, ◌⊎◌, ℕ, ℤ, pos, ◌≤ℤ◌, false, List, Some, slice_get};
-ghost use Rattle.std.specs.List.{AllByRecursion};
+ghost use Rattle.std.specs.List.{AllByRecursion, Contains};
 ghost use Rattle.pb_linear.specs.Numbers.{exact_value};
 ghost use Rattle.pb_linear.specs.Sizes.{InRange, IsRanges, leasts_of};
 ghost use Rattle.pb_syntax.specs.declared.refusal.Refusal.{Refusal};
@@ -16,6 +16,7 @@ ghost use Rattle.pb_region.specs.Dims as Dims;
 ghost use Rattle.pb_region.specs.Ends.{area_at, ends_of};
 ghost use Rattle.pb_region.specs.Gaps.{gap};
 ghost use Rattle.pb_region.specs.Inside.{bounding, guards, IsInside};
+ghost use Rattle.pb_region.specs.Small.{AreSmallLimits};
 ghost use Rattle.pb_region.specs.Within.{IsWithin};
 ghost use Rattle.pb_region.specs.Rules.{HasRefusal, IsAccepted, IsRefused};
 
@@ -61,6 +62,12 @@ pub fn ends_are_those_of_the_area()
 pub fn a_read_is_within_its_matrix()
     ensures { (t : ProgTransform) (r : ProgRule) (k n : ℕ) (read : Read) (d : DeclValue) → AreSides t → IsDecl n d → slice_get r.reads k ≡ Some read → slice_get t.matrices read.matrix ≡ Some d → read.dims ≡ d.dims
         → (sizes : List ℕ) → InRange (leasts_of t.ranges) sizes → (x y : ℤ) → Applies t.matrices r sizes x y → IsWithin (area_of sizes x y read d) (exact_value d.w sizes) (exact_value d.h sizes) }
+{}
+
+/// A law: no number of a bound of a box passes 2^25 in absolute value.
+pub fn bounds_are_small()
+    ensures { (sizes inputs count transforms : ℕ) (matrices : List DeclValue) (r : ProgRule) → IsRule sizes inputs count transforms r → AllByRecursion (IsDecl sizes) matrices
+        → (leasts : List ℕ) (number : ℕ) (out : Read) → Contains r.outs out → AreSmallLimits (box leasts matrices number r out).limits }
 {}
 
 /// A law: a rule is accepted or refused for one reason, and never both.
