@@ -22,7 +22,7 @@ module _ {A : Type 0} (Holds : A → Type 0) where
   pub all_end : (xs : List A) (k : ℕ) → All Holds (take k xs) → length xs ≤ k → All Holds xs
   all_end xs k before end = subst (All Holds) (take_all k xs end) before
 
-  all_at : (xs : List A) (k : ℕ) (x : A) → All Holds xs → slice_get xs k ≡ Some x → Holds x
+  pub all_at : (xs : List A) (k : ℕ) (x : A) → All Holds xs → slice_get xs k ≡ Some x → Holds x
   all_at xs k x h at = subst Holds (get_or_from_slice_get xs k x x at) (h k x (slice_get_within xs k x at))
 
   all_before : (xs : List A) (n k : ℕ) (x : A) → All Holds (take n xs) → k < n → n ≤ length xs → slice_get xs k ≡ Some x → Holds x

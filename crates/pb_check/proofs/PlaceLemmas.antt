@@ -1,6 +1,9 @@
 -- Places play no part in whether a program is sound.
-use Rattle.std.proofs.Common.{◌≡◌, ℕ, zero, suc, List, [], ◌∷◌, length, map, Option, Some, None, slice_get, position, not, refl, sym, ap, subst, ◌∙◌, arith}
-use Rattle.std.specs.List.{All, flat_map}
+use Rattle.std.proofs.Common.{◌≡◌, Bool, true, false, ◌+◌, ◌-◌, ℕ, zero, suc, List, [], ◌∷◌, length, map, Option, Some, None, slice_get, position, not, refl, sym, ap, subst, ◌∙◌, arith}
+use Rattle.std.specs.Prelude.{◌==◌, filter, if◌then◌else◌}
+use Rattle.std.specs.List.{All, enumerate_from, flat_map, range_with_len}
+use Rattle.std.proofs.lemmas.List.{length-map}
+use Rattle.std.proofs.lemmas.List.Elements.{All-weaker}
 use Rattle.std.specs.Option.{option_map}
 use Rattle.std.proofs.lemmas.Option.{slice_get-map}
 use Rattle.pb_linear.specs.Sizes.{leasts_of}
@@ -10,14 +13,16 @@ use Rattle.pb_program.specs.Places.{unplaced_matrix, unplaced_prog, unplaced_pro
 use Rattle.pb_program.specs.Trees.{ProgRule, ProgTransform}
 use Rattle.pb_program.specs.declared.view.Read.{Read}
 use Rattle.pb_program.specs.declared.view.ReadView.TheVariants as view
+use Rattle.pb_grid.specs.Grids.{Matrix}
 use Rattle.pb_types.specs.Types.{broken}
 use Rattle.pb_types.proofs.UnplacedPlans.{same_broken}
-use Rattle.pb_region.specs.Boxes.{is_box}
+use Rattle.pb_region.specs.Boxes.{box, is_box}
 use Rattle.pb_region.specs.Dims.{HasNoNegative}
 use Rattle.pb_region.specs.Ends.{ends_by, ends_in, ends_of}
 use Rattle.pb_region.specs.Gaps.{gap}
 use Rattle.pb_region.specs.Overlaps.{both_overlap, overlap, overlap_at}
 use Rattle.pb_region.specs.Rules.{IsAccepted}
+use Rattle.pb_check.specs.Cuts.{AreCut, HasCut, IsMatrix, made_matrices, rule_boxes}
 use Rattle.pb_check.specs.Phases.{IsBounded, IsSound}
 
 none_long : {A : Type 0} (xs : List A) → length xs ≡ 0 → xs ≡ []
@@ -116,8 +121,69 @@ module _ (t : ProgTransform) where
     rules = all_from unplaced_prog_rule (IsAccepted t) (IsAccepted (unplaced_prog_transform t)) rule_from t.rules b.rules;
   }
 
+-- segments
+kept_step : (m : ℕ) (u : Read → Read) (o : Read) (l : List Read) (b : Bool) → map u (if b then o ∷ l else l) ≡ (if b then u o ∷ map u l else map u l)
+kept_step m u o l true = refl
+kept_step m u o l false = refl
+
+outs_kept : (m : ℕ) (outs : List Read) → filter (λ (o : Read). o.matrix == m) (map unplaced_read outs) ≡ map unplaced_read (filter (λ (o : Read). o.matrix == m) outs)
+outs_kept m [] = refl
+outs_kept m (o ∷ outs) = rw (outs_kept m outs) (sym (kept_step m unplaced_read o (filter (λ (p : Read). p.matrix == m) outs) (o.matrix == m)))
+
+map_same : {A B : Type 0} (u : A → A) (f g : A → B) → ((x : A) → f (u x) ≡ g x) → (xs : List A) → map f (map u xs) ≡ map g xs
+map_same u f g e [] = refl
+map_same u f g e (x ∷ xs) = rw (e x, map_same u f g e xs) refl
+
+module _ (t : ProgTransform) where
+  box_kept : (number : ℕ) (r : ProgRule) (o : Read) → box (leasts_of t.ranges) (map unplaced_matrix t.matrices) number (unplaced_prog_rule r) (unplaced_read o) ≡ box (leasts_of t.ranges) t.matrices number r o
+  box_kept number r o = rw (conditions_kept t.matrices r, ends_of_kept (leasts_of t.ranges) t.matrices o) refl
+
+  rule_boxes_kept : (m number : ℕ) (r : ProgRule) → rule_boxes (unplaced_prog_transform t) m (number, unplaced_prog_rule r) ≡ rule_boxes t m (number, r)
+  rule_boxes_kept m number r =
+      ap (map (box (leasts_of t.ranges) (map unplaced_matrix t.matrices) number (unplaced_prog_rule r))) (outs_kept m r.outs)
+      ∙ map_same unplaced_read (box (leasts_of t.ranges) (map unplaced_matrix t.matrices) number (unplaced_prog_rule r)) (box (leasts_of t.ranges) t.matrices number r) (box_kept number r) (filter (λ (o : Read). o.matrix == m) r.outs)
+
+  numbered_kept : (m n : ℕ) (rules : List ProgRule) → flat_map (rule_boxes (unplaced_prog_transform t) m) (enumerate_from n (map unplaced_prog_rule rules)) ≡ flat_map (rule_boxes t m) (enumerate_from n rules)
+  numbered_kept m n [] = refl
+  numbered_kept m n (r ∷ rules) = rw (rule_boxes_kept m n r, numbered_kept m (n + 1) rules) refl
+
+  matrix_to : (number : ℕ) (m : Matrix) → IsMatrix t number m → IsMatrix (unplaced_prog_transform t) number m
+  matrix_to number m h = record {
+    decl = unplaced_matrix h.decl;
+    there = slice_get-map unplaced_matrix t.matrices number ∙ ap (option_map unplaced_matrix) h.there;
+    leasts = h.leasts;
+    boxes = h.boxes ∙ sym (numbered_kept number 0 t.rules);
+    width = h.width;
+    height = h.height;
+  }
+
+  decl_from : (o : Option DeclValue) (d : DeclValue) → option_map unplaced_matrix o ≡ Some d → (e : DeclValue) × (o ≡ Some e) × (e.w ≡ d.w) × (e.h ≡ d.h)
+  decl_from None d h = let none : None ≡ Some d = h in absurd (cc)
+  decl_from (Some e) d h =
+      let some : Some (unplaced_matrix e) ≡ Some d = h in
+      let same : unplaced_matrix e ≡ d = cc in
+      (e, refl, ap (λ (x : DeclValue). x.w) same, ap (λ (x : DeclValue). x.h) same)
+
+  matrix_from : (number : ℕ) (m : Matrix) → IsMatrix (unplaced_prog_transform t) number m → IsMatrix t number m
+  matrix_from number m h =
+      let d = decl_from (slice_get t.matrices number) h.decl (sym (slice_get-map unplaced_matrix t.matrices number) ∙ h.there) in
+      record { decl = d.0; there = d.1; leasts = h.leasts; boxes = h.boxes ∙ numbered_kept number 0 t.rules; width = h.width ∙ sym d.2; height = h.height ∙ sym d.3 }
+
+  cut_to : AreCut t → AreCut (unplaced_prog_transform t)
+  cut_to c = record {
+    each = subst (λ n. All (HasCut (unplaced_prog_transform t)) (range_with_len t.inputs (n - t.inputs))) (sym (length-map t.matrices unplaced_matrix))
+        (All-weaker (HasCut t) (HasCut (unplaced_prog_transform t)) (λ k h. record { segments = h.segments; cut = record { matrix = h.cut.matrix; is = matrix_to k h.cut.matrix h.cut.is; grid = h.cut.grid } }) (made_matrices t) c.each);
+  }
+
+  cut_from : AreCut (unplaced_prog_transform t) → AreCut t
+  cut_from c = record {
+    each = All-weaker (HasCut (unplaced_prog_transform t)) (HasCut t) (λ k h. record { segments = h.segments; cut = record { matrix = h.cut.matrix; is = matrix_from k h.cut.matrix h.cut.is; grid = h.cut.grid } }) (made_matrices t)
+        (subst (λ n. All (HasCut (unplaced_prog_transform t)) (range_with_len t.inputs (n - t.inputs))) (length-map t.matrices unplaced_matrix) c.each);
+  }
+
 pub sound_again : (q p : List ProgTransform) → unplaced_prog q ≡ unplaced_prog p → IsSound p → IsSound q
 sound_again q p e sound = record {
   typed = none_long (broken q) (same_broken q p e ∙ ap length sound.typed);
   bounded = all_from unplaced_prog_transform IsBounded IsBounded transform_from q (subst (All IsBounded) (sym e) (all_to unplaced_prog_transform IsBounded IsBounded transform_to p sound.bounded));
+  cut = all_from unplaced_prog_transform AreCut AreCut cut_from q (subst (All AreCut) (sym e) (all_to unplaced_prog_transform AreCut AreCut cut_to p sound.cut));
 }

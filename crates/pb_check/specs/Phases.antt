@@ -1,4 +1,4 @@
--- The phases that judge a program after its names, in their order: types, then bounds.
+-- The phases that judge a program after its names, in their order: types, then bounds, then segments.
 use Rattle.std.specs.Prelude.{◌≡◌, ◌⊎◌, ℕ, List, []}
 use Rattle.std.specs.List.{All}
 use Rattle.pb_syntax.specs.declared.refusal.Refusal.{Refusal}
@@ -6,6 +6,7 @@ use Rattle.pb_program.specs.Trees.{ProgTransform}
 use Rattle.pb_types.specs.Types.{broken, IsRefused as HasBadTypes}
 use Rattle.pb_region.specs.Dims.{AreSides, IsRefused as HasBadSide}
 use Rattle.pb_region.specs.Rules.{IsAccepted, IsRefused as HasBadBounds}
+use Rattle.pb_check.specs.Cuts.{AreCut, FailsCut}
 use Rattle.pb_check.specs.Firsts.{IsFirst}
 
 -- no side of a transform is negative, and each of its rules has boxes
@@ -25,11 +26,19 @@ FailsBounds number t e = HasBadSide number t e ⊎ (AreSides t × FailsRule numb
 abbrev pub IsUnbounded : List ProgTransform → Refusal → Type 0
 IsUnbounded p e = IsFirst IsBounded (λ place t. FailsBounds place t e) p
 
+-- a program is refused for the first transform with a matrix that can't be cut
+abbrev pub IsUncuttable : List ProgTransform → Refusal → Type 0
+IsUncuttable p e = IsFirst AreCut (λ place t. FailsCut t place e) p
+
 -- no phase finds a fault in the program
 pub record IsSound (p : List ProgTransform) : Type 0 where
   pub typed : broken p ≡ []
   pub bounded : All IsBounded p
+  pub cut : All AreCut p
 
 -- the first phase that finds a fault refuses
 abbrev pub IsRefused : List ProgTransform → Refusal → Type 0
-IsRefused p e = HasBadTypes p e ⊎ ((broken p ≡ []) × IsUnbounded p e)
+IsRefused p e =
+    HasBadTypes p e
+    ⊎ (((broken p ≡ []) × IsUnbounded p e)
+    ⊎ ((broken p ≡ []) × All IsBounded p × IsUncuttable p e))

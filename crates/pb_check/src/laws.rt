@@ -1,12 +1,17 @@
-ghost use Rattle.std.specs.Prelude.{◌≡◌, ◌⊎◌, List};
+ghost use Rattle.std.specs.Prelude.{◌≡◌, ◌⊎◌, ℕ, pos, IsTrue, List, Some, filter, length, slice_get};
+ghost use Rattle.std.specs.List.{All, Contains};
+ghost use Rattle.pb_grid.specs.Places.{is_at};
+ghost use Rattle.pb_grid.specs.Segments.{SegmentValue};
+ghost use Rattle.pb_model.specs.Cells.{Cell, IsCell};
+ghost use Rattle.pb_model.specs.Lawful.{lawful};
 ghost use Rattle.pb_syntax.specs.declared.refusal.Refusal.{Refusal};
 ghost use Rattle.pb_program.specs.Places.{unplaced_prog};
 ghost use Rattle.pb_program.specs.Trees.{ProgTransform};
 ghost use Rattle.pb_program.specs.WellFormed.{IsWellFormed};
+ghost use Rattle.pb_check.specs.Cuts.{IsCut};
 ghost use Rattle.pb_check.specs.Phases.{IsSound, IsRefused};
 
 /// A law: each well-formed program is sound or refused for one reason, and never both.
-
 pub fn a_program_is_sound_or_refused()
     ensures some { (p : List ProgTransform) → IsWellFormed p → IsSound p ⊎ ((e : Refusal) × IsRefused p e) }
     ensures one_refusal { (p : List ProgTransform) (e f : Refusal) → IsRefused p e → IsRefused p f → e ≡ f }
@@ -16,4 +21,13 @@ pub fn a_program_is_sound_or_refused()
 /// A law: of programs that differ in places alone, all are sound or none is.
 pub fn soundness_doesnt_depend_on_places()
     ensures { (q p : List ProgTransform) → unplaced_prog q ≡ unplaced_prog p → IsSound p → IsSound q }
+{}
+
+/// A law: at all sizes in range each cell of a matrix lies in exactly one of its segments, and the rules that may make the
+/// cell are among the segment's.
+pub fn the_segment_of_a_cell_has_its_lawful_rules()
+    ensures one { (p : List ProgTransform) (number : ℕ) (t : ProgTransform) (c : Cell) (sizes : List ℕ) → IsWellFormed p → IsSound p → slice_get p number ≡ Some t → IsCell t sizes c
+        → (ss : List SegmentValue) → IsCut t c.matrix ss → length (filter (is_at sizes (pos c.x) (pos c.y)) ss) ≡ 1 }
+    ensures lawful { (p : List ProgTransform) (number : ℕ) (t : ProgTransform) (c : Cell) (sizes : List ℕ) → IsWellFormed p → IsSound p → slice_get p number ≡ Some t → IsCell t sizes c
+        → (ss : List SegmentValue) → IsCut t c.matrix ss → All (λ s. IsTrue (is_at sizes (pos c.x) (pos c.y) s) → (r : ℕ) → Contains (lawful t sizes c) r → Contains s.rules r) ss }
 {}

@@ -5,8 +5,10 @@
 #![tactic(auto)]
 
 mod bounds;
+mod cuts;
 mod laws;
 mod phases;
 
+pub use cuts::Analysis;
 pub use laws::{a_program_is_sound_or_refused, soundness_doesnt_depend_on_places};
 pub use phases::judge;

@@ -51,14 +51,14 @@ or_true : (a b : Bool) → b ≡ true → (a || b) ≡ true
 or_true true b h = refl
 or_true false b h = h
 
-any_here : {A : Type 0} (p : A → Bool) (xs : List A) → list_any p xs ≡ true → (x : A) × Contains xs x × (p x ≡ true)
+pub any_here : {A : Type 0} (p : A → Bool) (xs : List A) → list_any p xs ≡ true → (x : A) × Contains xs x × (p x ≡ true)
 any_here p [] h = absurd (let e : false ≡ true = h in cc)
 any_here p (x ∷ xs) h = elim (or_cases (p x) (list_any p xs) h) [
   | inl here ↦ (x, (0, omega arith, refl), here)
   | inr later ↦ let rest = any_here p xs later.1 in (rest.0, (suc rest.1.0, omega (arith, rest.1.1), rest.1.2), rest.2)
 ]
 
-any_from : {A : Type 0} (p : A → Bool) (xs : List A) (x : A) (k : ℕ) → k < length xs → get_or xs k x ≡ x → p x ≡ true → list_any p xs ≡ true
+pub any_from : {A : Type 0} (p : A → Bool) (xs : List A) (x : A) (k : ℕ) → k < length xs → get_or xs k x ≡ x → p x ≡ true → list_any p xs ≡ true
 any_from p [] x k below is h = absurd (omega arith)
 any_from p (y ∷ ys) x zero below is h = ap (λ b. b || list_any p ys) (ap p is ∙ h)
 any_from p (y ∷ ys) x (suc k) below is h = or_true (p y) (list_any p ys) (any_from p ys x k (omega arith) is h)

@@ -1,17 +1,27 @@
 -- The cells of a transform's matrices, and those that a rule reads.
-use Rattle.std.specs.Prelude.{◌≡◌, ℕ, ℤ, pos, negsuc, int_le, List, [], filter, map, Some, slice_get}
+use Rattle.std.specs.Prelude.{◌≡◌, ℕ, ℤ, pos, negsuc, ◌<ℤ◌, int_le, List, [], filter, map, Some, slice_get}
 use Rattle.std.specs.List.{Contains, flat_map, range_with_len}
 use Rattle.std.specs.Option.{option_map_or}
+use Rattle.pb_linear.specs.Numbers.{exact_value}
+use Rattle.pb_linear.specs.Sizes.{InRange, leasts_of}
 use Rattle.pb_program.specs.declared.view.Read.{Read}
 use Rattle.pb_program.specs.Areas.{Area, IsIn, Span, area_of}
 use Rattle.pb_program.specs.Forms.{DeclValue}
-use Rattle.pb_program.specs.Trees.{ProgRule}
+use Rattle.pb_program.specs.Trees.{ProgRule, ProgTransform}
 
 -- the number of a matrix, and a place in it
 pub record Cell : Type 0 where
   pub matrix : ℕ
   pub x : ℕ
   pub y : ℕ
+
+-- a cell of a transform's matrices, at sizes in range
+pub record IsCell (t : ProgTransform) (sizes : List ℕ) (c : Cell) : Type 0 where
+  pub in_range : InRange (leasts_of t.ranges) sizes
+  pub decl : DeclValue
+  pub there : slice_get t.matrices c.matrix ≡ Some decl
+  pub before_x : pos c.x <ℤ exact_value decl.w sizes
+  pub before_y : pos c.y <ℤ exact_value decl.h sizes
 
 -- 0 in the place of a negative number
 abbrev pub natural : ℤ → ℕ

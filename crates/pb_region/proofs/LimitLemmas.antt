@@ -79,7 +79,7 @@ difference_row (x ∷ xs) (y ∷ ys) h k =
     rw (difference_bound x y left.0 right.0, difference_row xs ys left.1 right.1) refl
 
 -- ---- forms: those of a program, and those of conditions with their terms collected
-record Small (n : Numbers) : Type 0 where
+pub record Small (n : Numbers) : Type 0 where
   constant : is_small n.constant ≡ true
   whole : list_all is_small n.whole ≡ true
   half : list_all is_small n.half ≡ true
@@ -93,14 +93,14 @@ record Collected (n : Numbers) : Type 0 where
   third : list_all is_bound_number n.third ≡ true
   quarter : list_all is_bound_number n.quarter ≡ true
 
-small_form : (sizes : ℕ) (n : Numbers) → IsForm sizes n → Small n
+pub small_form : (sizes : ℕ) (n : Numbers) → IsForm sizes n → Small n
 small_form sizes n h = record { constant = h.constant; whole = h.whole.0; half = h.half.0; third = h.third.0; quarter = h.quarter.0 }
 
 small_nothing : Small nothing.rest
 small_nothing = record { constant = refl; whole = refl; half = refl; third = refl; quarter = refl }
 
 -- a form of a program, and one more
-bound_form : (n : Numbers) → Small n → IsSmallBound n
+pub bound_form : (n : Numbers) → Small n → IsSmallBound n
 bound_form n h = record {
   constant = small_bound n.constant h.constant;
   whole = small_row n.whole h.whole;
