@@ -4,3 +4,6 @@ pub mod EntryLemmas
 pub mod SiteLemmas
 pub mod LineLemmas
 pub mod ValidLemmas
+pub mod AgainParts
+pub mod AgainLines
+pub mod AgainLemmas

@@ -14,7 +14,7 @@ rest_parts p [] = []
 rest_parts p (_ ∷ more) = slice_split p more
 
 module _ (p : ℕ → Bool) where
-  first_part : (xs : List ℕ) → slice_split p xs ≡ take (position_or_len p xs) xs ∷ rest_parts p (drop (position_or_len p xs) xs)
+  pub first_part : (xs : List ℕ) → slice_split p xs ≡ take (position_or_len p xs) xs ∷ rest_parts p (drop (position_or_len p xs) xs)
   first_part [] = refl
   first_part (x ∷ xs) = step (p x) refl (first_part xs)
     where

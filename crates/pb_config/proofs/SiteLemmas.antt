@@ -9,11 +9,15 @@ use Rattle.pb_program.specs.WellFormed.{IsTransform}
 use Rattle.pb_config.specs.Choices.{Names}
 use Rattle.pb_config.specs.Reading.{transform_named, matrix_of, site_of}
 
+-- what holds of each element holds of the one at a place
+pub all_at : {A : Type 0} (P : A → Type 0) (xs : List A) (k : ℕ) (x : A) → AllByRecursion P xs → slice_get xs k ≡ Some x → P x
+all_at P [] k x all there = absurd (cc)
+all_at P (y ∷ xs) zero x all there = let e : y ≡ x = cc in subst P e all.0
+all_at P (y ∷ xs) (suc k) x all there = all_at P xs k x all.1 there
+
 pub few_matrices : (n : ℕ) (ts : List ProgTransform) (k : ℕ) (t : ProgTransform) → AllByRecursion (IsTransform n) ts → slice_get ts k ≡ Some t
     → length t.matrices ≤ MOST_MATRICES
-few_matrices n [] k t all there = absurd (cc)
-few_matrices n (u ∷ ts) zero t all there = let e : u ≡ t = cc in subst (λ x. length x.matrices ≤ MOST_MATRICES) e all.0.few_matrices
-few_matrices n (u ∷ ts) (suc k) t all there = few_matrices n ts k t all.1 there
+few_matrices n ts k t all there = (all_at (IsTransform n) ts k t all there).few_matrices
 
 -- the transform without pointers
 pub bare_at : (ts : List TransformValue) (k : ℕ) (t : TransformValue) → k < length ts → t ≡ get_or ts k t → slice_get (map bare_transform ts) k ≡ Some (bare_transform t)

@@ -27,7 +27,7 @@ if_some : {A : Type 0} (b : Bool) (x y : A) → (if b then Some x else None) ≡
 if_some true x y e = (refl, cc)
 if_some false x y e = absurd (cc)
 
-both : (a b : Bool) → (a && b) ≡ true → (a ≡ true) × (b ≡ true)
+pub both : (a b : Bool) → (a && b) ≡ true → (a ≡ true) × (b ≡ true)
 both true b e = (refl, e)
 both false b e = absurd (cc)
 
@@ -196,7 +196,7 @@ all_push : {A : Type 0} (P : A → Type 0) (xs : List A) (x : A) → AllByRecurs
 all_push P [] x all here = (here, tt)
 all_push P (y ∷ ys) x all here = (all.0, all_push P ys x all.1 here)
 
-none_push : {A : Type 0} (test : A → Bool) (xs : List A) (x : A) → list_any test xs ≡ false → test x ≡ false → list_any test (xs ++ x ∷ []) ≡ false
+pub none_push : {A : Type 0} (test : A → Bool) (xs : List A) (x : A) → list_any test xs ≡ false → test x ≡ false → list_any test (xs ++ x ∷ []) ≡ false
 none_push test [] x none other = rw other refl
 none_push test (y ∷ ys) x none other = by (test y) none (none_push test ys x)
   where
@@ -205,7 +205,7 @@ none_push test (y ∷ ys) x none other = by (test y) none (none_push test ys x)
     by true none ih = absurd (cc)
     by false none ih = ih none other
 
-neither : (a b : Bool) → (a || b) ≡ false → (a ≡ false) × (b ≡ false)
+pub neither : (a b : Bool) → (a || b) ≡ false → (a ≡ false) × (b ≡ false)
 neither true b e = absurd (cc)
 neither false b e = (refl, e)
 

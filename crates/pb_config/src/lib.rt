@@ -1,12 +1,14 @@
 //! Configurations: reading their text, with the line of its first fault, writing it, and what one chooses.
 //!
 //! In: the bytes of a file, or a configuration, and the program that it is for. Out: the configuration or the first
-//! fault; its text; the rule that is chosen. The theorem: `read_config` gives just what the text says.
+//! fault; its text; the rule that is chosen. The theorem: `read_config` gives just what the text says, and what is printed
+//! of a valid configuration is read as it, by the law `printed_is_read`.
 #![tactic(auto)]
 
 mod choice;
 mod chosen;
 mod entries;
+mod laws;
 mod lines;
 mod parts;
 mod print;
@@ -15,6 +17,7 @@ mod refusal;
 mod site;
 
 pub use chosen::choose;
+pub use laws::printed_is_read;
 pub use print::print_config;
 pub use read::read_config;
 pub use refusal::ConfigRefusal;

@@ -1,0 +1,6 @@
+use Rattle.std.proofs.Common.{Contains}
+use Rattle.pb_base.proofs.SystemLemmas as lemma
+use Rattle.pb_base.proofs.systems.made_right.Goals as goal
+
+pub returns : goal.returns
+returns g c = λ s cells. lemma.made_right s (Contains cells)
