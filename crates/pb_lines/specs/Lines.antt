@@ -1,14 +1,18 @@
 -- The line on `err` for a program that is refused.
-use Rattle.std.specs.Prelude.{ℕ, zero, suc, ◌+◌, List, [], ◌∷◌, ◌++◌, Option, Some, None, codes, decimal, slice_get}
+use Rattle.std.specs.Prelude.{ℕ, zero, suc, ◌≤◌, ◌==◌, if◌then◌else◌, List, length, [], ◌∷◌, ◌++◌, Option, Some, None, codes, decimal, slice_get}
 use Rattle.pb_values.specs.Name.{NameValue}
+use Rattle.std.specs.List.{All}
+use Rattle.pb_linear.specs.declared.form.Form.{Form}
 use Rattle.pb_linear.specs.declared.sizes.Sizes.{Sizes}
+use Rattle.pb_linear.specs.declared.vform.SymBox.{SymBox}
 use Rattle.pb_linear.specs.Sizes.{sizes_of}
+use Rattle.pb_prog.specs.FormText.{form_text}
 use Rattle.pb_program.specs.Forms.{DeclValue}
 use Rattle.pb_program.specs.Trees.{ProgTransform}
 use Rattle.pb_syntax.specs.declared.refusal.Item.{Item}
 use Rattle.pb_syntax.specs.declared.refusal.Item.TheVariants.{Transforms, Rules, Matrices, Sizes as ItemSizes, Outputs, Reads, Conditions, Minimums, Targets, Arguments, Terms, Number, Statements, Nesting}
 use Rattle.pb_syntax.specs.declared.refusal.Refusal.{Refusal}
-use Rattle.pb_syntax.specs.declared.refusal.Refusal.TheVariants.{TooLong, BadToken, BadSyntax, OverLimit, DuplicateName, UnknownName, SizeNotBound, BadOutput, BadType, NegativeDim, OverlapOutputs, NotABox}
+use Rattle.pb_syntax.specs.declared.refusal.Refusal.TheVariants.{TooLong, BadToken, BadSyntax, OverLimit, DuplicateName, UnknownName, SizeNotBound, BadOutput, BadType, NegativeDim, OverlapOutputs, NotABox, Crossing, Uncovered, TooManySegments}
 
 -- the word for what is too many
 abbrev pub item_word : Item → List ℕ
@@ -85,6 +89,49 @@ outputs_text first second = (codes " outputs " ++ decimal first) ++ ((codes " an
 abbrev pub condition_text : ℕ → List ℕ
 condition_text condition = (codes " condition " ++ decimal condition) ++ 10 ∷ []
 
+-- a form over the sizes of a transform
+abbrev pub form_in : Option ProgTransform → Form → List ℕ
+form_in None f = []
+form_in (Some t) f = form_text f t.sizes
+
+-- `1 over n-1 at n=1`: a form, another, and the sizes at which the first is above it by the most
+abbrev pub over_text : Option ProgTransform → Form → Form → Sizes → List ℕ
+over_text t first second sizes = form_in t first ++ (codes " over " ++ (form_in t second ++ (codes " at " ++ sizes_in t (sizes_of sizes))))
+
+-- and the same the other way
+abbrev pub both_text : Option ProgTransform → Form → Form → Sizes → Sizes → List ℕ
+both_text t first second over under = over_text t first second over ++ (codes "; " ++ (over_text t second first under ++ 10 ∷ []))
+
+-- `T.B x: 1 over n-1 at n=1; n-1 over 1 at n=1048576`
+abbrev pub crossing_text : List ProgTransform → ℕ → ℕ → ℕ → Form → Form → Sizes → Sizes → List ℕ
+crossing_text ts t matrix axis first second over under =
+    transform_text ts t ++ (matrix_text ts t matrix ++ (codes " " ++ (axis_text axis ++ (codes ": " ++ both_text (slice_get ts t) first second over under))))
+
+-- `[0,1)`
+abbrev pub interval_text : List NameValue → Form → Form → List ℕ
+interval_text names low high = codes "[" ++ (form_text low names ++ (codes "," ++ (form_text high names ++ codes ")")))
+
+-- `[0,1)`, or with two dimensions `[0,w/2)x[0,h)`
+abbrev pub area_by : ℕ → List NameValue → SymBox → List ℕ
+area_by dims names area = interval_text names area.x0 area.x1 ++ (if dims == 1 then [] else codes "x" ++ interval_text names area.y0 area.y1)
+
+-- an area of a matrix, by its number
+abbrev pub area_on : List NameValue → Option DeclValue → SymBox → List ℕ
+area_on names None area = []
+area_on names (Some d) area = area_by d.dims names area
+
+abbrev pub area_in : Option ProgTransform → ℕ → SymBox → List ℕ
+area_in None matrix area = []
+area_in (Some t) matrix area = area_on t.sizes (slice_get t.matrices matrix) area
+
+-- `T.B [0,1)`
+abbrev pub uncovered_text : List ProgTransform → ℕ → ℕ → SymBox → List ℕ
+uncovered_text ts t matrix area = transform_text ts t ++ (matrix_text ts t matrix ++ (codes " " ++ (area_in (slice_get ts t) matrix area ++ 10 ∷ [])))
+
+-- `T.B`
+abbrev pub crowded_text : List ProgTransform → ℕ → ℕ → List ℕ
+crowded_text ts t matrix = transform_text ts t ++ (matrix_text ts t matrix ++ 10 ∷ [])
+
 -- the refusals of the phases that are built
 abbrev pub HasLine : Refusal → Type 0
 HasLine TooLong = Unit {0}
@@ -99,7 +146,14 @@ HasLine (BadType at) = Unit {0}
 HasLine (NegativeDim t matrix axis sizes) = Unit {0}
 HasLine (OverlapOutputs t rule first second) = Unit {0}
 HasLine (NotABox t rule condition) = Unit {0}
+HasLine (Crossing t matrix axis first second over under) = Unit {0}
+HasLine (Uncovered t matrix area) = Unit {0}
+HasLine (TooManySegments t matrix) = Unit {0}
 HasLine other = ⊥
+
+-- no transform has more than 8 size variables
+abbrev pub HaveFewSizes : List ProgTransform → Type 0
+HaveFewSizes ts = All (λ t. length t.sizes ≤ 8) ts
 
 -- the code and the name
 abbrev pub code_text : Refusal → List ℕ
@@ -115,6 +169,9 @@ code_text (BadOutput at) = codes "P9 BadOutput: "
 code_text (OverlapOutputs t rule first second) = codes "P10 OverlapOutputs: "
 code_text (BadType at) = codes "P11 BadType: "
 code_text (NotABox t rule condition) = codes "P12 NotABox: "
+code_text (Crossing t matrix axis first second over under) = codes "P13 Crossing: "
+code_text (Uncovered t matrix area) = codes "P14 Uncovered: "
+code_text (TooManySegments t matrix) = codes "P15 TooManySegments: "
 code_text other = []
 
 -- where the fault is, and the line's end
@@ -131,6 +188,9 @@ cause_text ts (BadType at) = at_byte at
 cause_text ts (NegativeDim t matrix axis sizes) = negative_text ts t matrix axis sizes
 cause_text ts (OverlapOutputs t rule first second) = rule_text ts t rule ++ outputs_text first second
 cause_text ts (NotABox t rule condition) = rule_text ts t rule ++ condition_text condition
+cause_text ts (Crossing t matrix axis first second over under) = crossing_text ts t matrix axis first second over under
+cause_text ts (Uncovered t matrix area) = uncovered_text ts t matrix area
+cause_text ts (TooManySegments t matrix) = crowded_text ts t matrix
 cause_text ts other = []
 
 -- the line of a refusal; the line of a later phase comes with the phase, and out of memory has none

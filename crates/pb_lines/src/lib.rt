@@ -6,6 +6,7 @@
 
 mod line;
 mod names;
+mod segments;
 mod text;
 
 pub use line::refusal_line;

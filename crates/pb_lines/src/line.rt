@@ -3,6 +3,7 @@ ghost use Rattle.pb_program.specs.Trees.{bare_transform};
 ghost use Rattle.pb_lines.specs.Lines as lines;
 
 use crate::names::{write_axis, write_matrix, write_named, write_sizes_of, write_transform};
+use crate::segments::{write_crossing, write_crowded, write_uncovered};
 use crate::text::{write_numbered, write_place};
 use pb_linear::Sizes;
 use pb_program::Transform;
@@ -83,11 +84,13 @@ fn write_condition(text: &mut Vec<u8>, condition: u32) -> Result<(), AllocError>
 
 /// What follows a refusal's code and name.
 fn write_cause(
+    alloc: Global,
     text: &mut Vec<u8>,
     program: &[Transform],
     refusal: &Refusal,
 ) -> Result<(), AllocError>
-    requires { lines.HasLine refusal.now }
+    requires line { lines.HasLine refusal.now }
+    requires few { lines.HaveFewSizes (map bare_transform program.now) }
     ensures { OnOk result (text.new.items ≡ text.old.items ++ lines.cause_text (map bare_transform program.now) refusal.now) }
 {
     match refusal {
@@ -123,6 +126,25 @@ fn write_cause(
             write_rule(text, program, *transform, *rule)?;
             write_condition(text, *condition)
         }
+        Refusal::Crossing {
+            transform,
+            matrix,
+            axis,
+            first,
+            second,
+            over,
+            under,
+        } => write_crossing(
+            alloc, text, program, *transform, *matrix, *axis, first, second, over, under,
+        ),
+        Refusal::Uncovered {
+            transform,
+            matrix,
+            area,
+        } => write_uncovered(alloc, text, program, *transform, *matrix, area),
+        Refusal::TooManySegments { transform, matrix } => {
+            write_crowded(text, program, *transform, *matrix)
+        }
         _ => unreachable!(),
     }
 }
@@ -145,21 +167,25 @@ fn code(refusal: &Refusal) -> &'static [u8]
         Refusal::OverlapOutputs { .. } => b"P10 OverlapOutputs: ",
         Refusal::BadType { .. } => b"P11 BadType: ",
         Refusal::NotABox { .. } => b"P12 NotABox: ",
+        Refusal::Crossing { .. } => b"P13 Crossing: ",
+        Refusal::Uncovered { .. } => b"P14 Uncovered: ",
+        Refusal::TooManySegments { .. } => b"P15 TooManySegments: ",
         _ => unreachable!(),
     }
 }
 
 /// The line for `err` of a refusal of a program with these transforms, none where the refusal comes before their names are
-/// resolved. Not for the refusals of the phases that aren't built, and not for memory that ran out.
+/// resolved. No transform has more than 8 size variables. Not for the refusals of the phases that aren't built, and not for memory that ran out.
 pub fn refusal_line(
     alloc: Global,
     program: &[Transform],
     refusal: &Refusal,
 ) -> Result<Vec<u8>, AllocError>
-    requires { lines.HasLine refusal.now }
+    requires line { lines.HasLine refusal.now }
+    requires few { lines.HaveFewSizes (map bare_transform program.now) }
     ensures { IfOk result (λ line. line.items ≡ lines.refusal_line (map bare_transform program.now) refusal.now) }
 {
     let mut text = code(refusal).to_vec(alloc)?;
-    write_cause(&mut text, program, refusal)?;
+    write_cause(alloc, &mut text, program, refusal)?;
     Ok(text)
 }
