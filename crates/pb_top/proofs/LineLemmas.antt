@@ -1,5 +1,7 @@
 -- Each refusal of a phase has a line.
-use Rattle.std.proofs.Common.{◌≡◌, ◌⊎◌, inl, inr, ℕ, List, [], ◌∷◌, refl, sym, subst, ◌∙◌}
+use Rattle.std.proofs.Common.{◌≡◌, ◌⊎◌, inl, inr, ℕ, ◌≤◌, List, [], ◌∷◌, length, refl, sym, subst, ◌∙◌}
+use Rattle.std.specs.List.{AllByRecursion}
+use Rattle.std.proofs.lemmas.List.Elements.{All-from_recursion}
 use Rattle.pb_syntax.specs.declared.refusal.Refusal.{Refusal}
 use Rattle.pb_syntax.specs.declared.refusal.Refusal.TheVariants.{TooLong, BadToken, BadSyntax, OverLimit, BadType, NegativeDim, NotABox, OverlapOutputs, Memory}
 use Rattle.pb_syntax.specs.Trees.{TransformTree}
@@ -10,12 +12,17 @@ use Rattle.pb_front.specs.Reading.{IsRead, IsRefused}
 use Rattle.pb_names.specs.declared.fault.Fault.{Fault}
 use Rattle.pb_names.specs.declared.fault.Fault.TheVariants as fault
 use Rattle.pb_names.specs.Transforms.{faults_of, refusal_of, IsRefused as HasBadNames, IsRefusedFor}
+use Rattle.pb_grid.specs.declared.refusal.GridRefusal.{GridRefusal}
+use Rattle.pb_grid.specs.declared.refusal.GridRefusal.TheVariants as grid
+use Rattle.pb_grid.specs.Grids.{IsRefused as IsMatrixRefused, Matrix}
 use Rattle.pb_program.specs.Trees.{ProgRule, ProgTransform}
+use Rattle.pb_program.specs.WellFormed.{IsTransform, IsWellFormed}
 use Rattle.pb_types.specs.Types.{IsRefused as HasBadTypes}
 use Rattle.pb_region.specs.Dims.{IsRefused as HasBadSide}
 use Rattle.pb_region.specs.Rules.{IsRefused as HasBadBounds}
+use Rattle.pb_check.specs.Cuts.{to_refusal}
 use Rattle.pb_check.specs.Phases.{FailsBounds, IsRefused as IsUnsound}
-use Rattle.pb_lines.specs.Lines.{HasLine}
+use Rattle.pb_lines.specs.Lines.{HasLine, HaveFewSizes}
 
 text_refusal : (text : List ℕ) (e : Refusal) → IsRefused text e → HasLine e
 text_refusal text TooLong causes = tt
@@ -60,9 +67,26 @@ bound_refusal : (number : ℕ) (t : ProgTransform) (e : Refusal) → FailsBounds
 bound_refusal number t e (inl side) = side_refusal number t e side
 bound_refusal number t e (inr (sides, rule)) = rule_refusal number rule.place t rule.item e rule.fails
 
+cut_refusal : (t matrix : ℕ) (why : GridRefusal) (m : Matrix) → IsMatrixRefused m why → HasLine (to_refusal t matrix why)
+cut_refusal t matrix (grid.Crossing axis first second over under) m told = tt
+cut_refusal t matrix grid.TooManySegments m told = tt
+cut_refusal t matrix (grid.Uncovered area) m told = tt
+cut_refusal t matrix grid.Memory m told = absurd told
+
 phase_refusal : (p : List ProgTransform) (e : Refusal) → IsUnsound p e → HasLine e
 phase_refusal p e (inl causes) = type_refusal p e causes
-phase_refusal p e (inr (right, bad)) = bound_refusal bad.place bad.item e bad.fails
+phase_refusal p e (inr (inl (right, bad))) = bound_refusal bad.place bad.item e bad.fails
+phase_refusal p e (inr (inr (right, bounded, bad))) =
+    let uncut = bad.fails.fails in
+    subst HasLine (sym uncut.told) (cut_refusal bad.place bad.fails.item uncut.why uncut.of uncut.refused)
+
+each : (p : List ProgTransform) (n : ℕ) → AllByRecursion (IsTransform n) p → AllByRecursion (λ t. length t.sizes ≤ 8) p
+each [] n h = tt
+each (t ∷ p) n h = (h.0.few_sizes, each p n h.1)
+
+-- a well-formed program has few sizes
+pub few_sizes : (p : List ProgTransform) → IsWellFormed p → HaveFewSizes p
+few_sizes p well = All-from_recursion (λ t. length t.sizes ≤ 8) p (each p (length p) well.transforms)
 
 pub phase_line : (p : List ProgTransform) (e : Refusal) → (e ≡ Memory) ⊎ IsUnsound p e → (e ≡ Memory → ⊥) → HasLine e
 phase_line p e (inl is) other = absurd (other is)

@@ -49,13 +49,13 @@ fn resolve_names(alloc: Global, tree: &Text) -> Result<Prog, Stop>
 }
 
 // Nothing, for a program that every further phase accepts.
-#[tactic(auto, using(crate::proofs::LineLemmas::phase_line))]
+#[tactic(auto, using(crate::proofs::LineLemmas::phase_line, crate::proofs::LineLemmas::few_sizes))]
 fn accept(alloc: Global, program: &Prog) -> Result<(), Stop>
     requires { IsWellFormed (bare_prog program.now) }
     ensures { Gives (λ accepted. accepted) (Accepts (bare_prog program.now)) result }
 {
     match judge(alloc, program) {
-        Ok(()) => Ok(()),
+        Ok(_) => Ok(()),
         Err(Refusal::Memory) => Err(Stop::Memory),
         Err(refusal) => {
             let line = refusal_line(alloc, &program.transforms, &refusal)?;
