@@ -5,3 +5,5 @@ pub mod SegmentLemmas
 pub mod PhaseLemmas
 pub mod PlaceLemmas
 pub mod LawfulLemmas
+pub mod AcceptLemmas
+pub mod FindLemmas

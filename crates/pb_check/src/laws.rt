@@ -8,6 +8,7 @@ ghost use Rattle.pb_syntax.specs.declared.refusal.Refusal.{Refusal};
 ghost use Rattle.pb_program.specs.Places.{unplaced_prog};
 ghost use Rattle.pb_program.specs.Trees.{ProgTransform};
 ghost use Rattle.pb_program.specs.WellFormed.{IsWellFormed};
+ghost use Rattle.pb_check.specs.Accepting.{IsTextAccepted, IsTextRefused};
 ghost use Rattle.pb_check.specs.Cuts.{IsCut};
 ghost use Rattle.pb_check.specs.Phases.{IsSound, IsRefused};
 
@@ -30,4 +31,12 @@ pub fn the_segment_of_a_cell_has_its_lawful_rules()
         → (ss : List SegmentValue) → IsCut t c.matrix ss → length (filter (is_at sizes (pos c.x) (pos c.y)) ss) ≡ 1 }
     ensures lawful { (p : List ProgTransform) (number : ℕ) (t : ProgTransform) (c : Cell) (sizes : List ℕ) → IsWellFormed p → IsSound p → slice_get p number ≡ Some t → IsCell t sizes c
         → (ss : List SegmentValue) → IsCut t c.matrix ss → All (λ s. IsTrue (is_at sizes (pos c.x) (pos c.y) s) → (r : ℕ) → Contains (lawful t sizes c) r → Contains s.rules r) ss }
+{}
+
+/// A law: a text is accepted as one program or refused for one reason, and never both.
+pub fn a_text_has_one_answer()
+    ensures some { (text : List ℕ) → ((p : List ProgTransform) × IsTextAccepted text p) ⊎ ((e : Refusal) × IsTextRefused text e) }
+    ensures one_program { (text : List ℕ) (p q : List ProgTransform) → IsTextAccepted text p → IsTextAccepted text q → p ≡ q }
+    ensures one_refusal { (text : List ℕ) (e f : Refusal) → IsTextRefused text e → IsTextRefused text f → e ≡ f }
+    ensures not_both { (text : List ℕ) (p : List ProgTransform) (e : Refusal) → IsTextAccepted text p → IsTextRefused text e → ⊥ }
 {}

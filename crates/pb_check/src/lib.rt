@@ -1,7 +1,9 @@
-//! The phases that judge a program after its names, one after the other.
+//! The phases that judge a program, one after the other, and what they find of it.
 //!
-//! In: a program whose names are resolved. Out: nothing where every phase accepts it, else why the first that finds a fault
-//! refuses it. The theorem: a program is accepted or refused for one reason, and places play no part in which of the two.
+//! In: the text of a program, or a program whose names are resolved. Out: the program with the segments of each transform,
+//! where every phase accepts it; else why the first that finds a fault refuses it. The theorem: a program is accepted or
+//! refused for one reason, places play no part in which of the two, and the rules that may make a cell are among those of
+//! its one segment.
 #![tactic(auto)]
 
 mod accepted;
@@ -12,5 +14,8 @@ mod phases;
 
 pub use accepted::{Accepted, accept};
 pub use cuts::Analysis;
-pub use laws::{a_program_is_sound_or_refused, soundness_doesnt_depend_on_places};
+pub use laws::{
+    a_program_is_sound_or_refused, a_text_has_one_answer, soundness_doesnt_depend_on_places,
+    the_segment_of_a_cell_has_its_lawful_rules,
+};
 pub use phases::judge;
