@@ -6,7 +6,7 @@ use std::test::Fail;
 
 #[test]
 fn examples_with_faulty_segments_are_refused(rt: HostRuntime) -> Result<(), Fail> {
-    for (example, line) in REFUSED {
+    for (example, line) in &REFUSED {
         let (status, out, err) = checked(&rt, rt.alloc(), example.as_bytes())?;
         assert_eq!(rt; (status, out.len()), (3, 0), "{example}");
         assert_eq!(rt; err.as_slice(), line.as_bytes(), "{example}");
@@ -44,7 +44,7 @@ fn uncovered_rows() -> [Row; 6] {
             "",
             "P14 Uncovered: T.B [0,w)x[h/3,h)\n",
         ),
-        // A guarded rule covers nothing, also where no other rule is there.
+        // A guarded rule covers nothing.
         check(
             &[(
                 "p",
@@ -107,11 +107,11 @@ fn crossing_rows() -> [Row; 4] {
             "",
             "P13 Crossing: T.B x: 1 over w-1 at w=1,h=1; w-1 over 1 at w=1048576,h=1\n",
         ),
-        // Matrices and transforms that come later aren't covered.
+        // The next matrix and the next transform have a segment that no rule covers.
         check(
             &[(
                 "p",
-                "transform T from A[n] through M[n] to B[n] { to (M.cell(i) m) from () where i >= 2 { m = 1; } } transform U from A[n] to B[n] { to (B.cell(i) b) from () where i >= 1 { b = 1; } }",
+                "transform T from A[n] through M[n] to B[n] { to (M.cell(i) m) from () where i >= 2 { m = 1; } to (B.cell(i) b) from () where i >= 1 { b = 1; } } transform U from A[n] to B[n] { to (B.cell(i) b) from () where i >= 1 { b = 1; } }",
             )],
             3,
             "",
@@ -210,8 +210,9 @@ fn crowded_rows() -> [Row; 2] {
 #[test]
 fn each_limit_of_segments_holds_at_its_edge(rt: HostRuntime) -> Result<(), Fail> {
     for text in &FULL {
-        let (status, _, err) = checked(&rt, rt.alloc(), text.as_bytes())?;
+        let (status, out, err) = checked(&rt, rt.alloc(), text.as_bytes())?;
         assert_eq!(rt; (status, err.len()), (0, 0), "{text}");
+        assert!(rt; !out.is_empty(), "{text}");
     }
     for row in crowded_rows() {
         holds(&rt, rt.alloc(), &row)?;
