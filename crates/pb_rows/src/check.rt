@@ -12,7 +12,8 @@ use std::thread::Threads;
 
 type Files = &'static [(&'static str, &'static str)];
 
-fn check(files: Files, status: u8, out: &'static str, err: &'static str) -> Row {
+/// A row of `check p`.
+pub fn check(files: Files, status: u8, out: &'static str, err: &'static str) -> Row {
     Row {
         words: "check p",
         files,
@@ -231,8 +232,8 @@ fn shelf_with(alloc: Global, text: &[u8]) -> Result<MemShelf, AllocError> {
     Ok(MemShelf::new(entries, Vec::new(alloc)))
 }
 
-// The status of `check p` over this text, and what is put on `out` and `err`.
-fn checked<R: Threads + Wait + Sync + Abort>(
+/// The status of `check p` over this text, and what is put on `out` and `err`.
+pub fn checked<R: Threads + Wait + Sync + Abort>(
     rt: &R,
     alloc: Global,
     text: &[u8],

@@ -1,7 +1,17 @@
 //! The programs of the folder examples.
 
-pub const EXAMPLES: [&str; 14] = [
-    ROLL, DOUBLE, MUL, BLUR1, BLUR2, PAIR, TWOWAY, DIV, BIG, GUARD1, GUARD2, PREFIX, REV, BAD,
+/// Those that are accepted.
+pub const EXAMPLES: [&str; 12] = [
+    ROLL, DOUBLE, MUL, BLUR2, PAIR, TWOWAY, DIV, BIG, GUARD2, PREFIX, REV, BAD,
+];
+
+/// Those that are refused, with the lines that say why.
+pub const REFUSED: [(&str, &str); 2] = [
+    (
+        BLUR1,
+        "P13 Crossing: Blur3.B x: 1 over n-1 at n=1; n-1 over 1 at n=1048576\n",
+    ),
+    (GUARD1, "P14 Uncovered: Guard.B [0,n)\n"),
 ];
 
 pub const ROLL: &str = "transform RollingSum from A[n] to B[n] {

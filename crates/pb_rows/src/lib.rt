@@ -15,4 +15,6 @@ mod first_path;
 #[cfg(test)]
 mod run;
 #[cfg(test)]
+mod segments;
+#[cfg(test)]
 mod words;

@@ -68,6 +68,25 @@ const ROWS: [(&str, &str); 24] = [
     ),
 ];
 
+// Each cell of `B` is a sum of cells of `A`, or made from the cell before it.
+const ROLL: &str =
+    "transform RollingSum from A[n] to B[n] { to (B.cell(i) b) from (A.region(0, i + 1) a) { b = sum(a); } \
+to (B.cell(i) b) from (A.cell(i) a, B.cell(i - 1) l) { b = a + l; } }";
+
+const ROLL_ROWS: [(&str, &str); 5] = [
+    ("choose RollingSum.B {0,1} = 2", "not in set 1"),
+    (
+        "choose RollingSum.B {0,1} = 0 until 8 then 1 until 8 then 0",
+        "not rising 1",
+    ),
+    (
+        "choose RollingSum.B {0,1} = 0 until 2 then 1\nchoose RollingSum.B {0,1} = 0 until 2 then 1",
+        "twice 2",
+    ),
+    ("choose RollingSum.A {0} = 0", "unknown place 1"),
+    ("choose", "bad line 1"),
+];
+
 fn read(alloc: Global, p: &Prog, text: &str) -> Result<Vec<u8>, ConfigRefusal>
     requires { IsWellFormed (bare_prog p.now) }
 {
@@ -102,10 +121,10 @@ fn said(alloc: Global, p: &Prog, text: &str) -> Result<Vec<u8>, AllocError>
     Ok(line.into_bytes())
 }
 
-fn program(alloc: Global) -> Result<Prog, Refusal>
+fn program(alloc: Global, text: &str) -> Result<Prog, Refusal>
     ensures { IfOk result (λ p. IsWellFormed (bare_prog p)) }
 {
-    let tree = read_text(alloc, PROGRAM.as_bytes())?;
+    let tree = read_text(alloc, text.as_bytes())?;
     a_tree_that_is_read_is_within_limits();
     resolve(alloc, &tree)
 }
@@ -113,11 +132,28 @@ fn program(alloc: Global) -> Result<Prog, Refusal>
 #[test]
 fn configurations_are_read_and_chosen_from(rt: HostRuntime) -> Result<(), Fail> {
     let alloc = rt.alloc();
-    let Ok(program) = program(alloc) else {
+    let Ok(program) = program(alloc, PROGRAM) else {
         assert!(rt; false, "the program is refused");
         return Ok(());
     };
     for (text, expected) in &ROWS {
+        let found = said(alloc, &program, text)?;
+        assert!(rt;
+            found.as_slice() == expected.as_bytes(),
+            "{text}: {found:?}"
+        );
+    }
+    Ok(())
+}
+
+#[test]
+fn faulty_configurations_of_the_rolling_sum_are_named(rt: HostRuntime) -> Result<(), Fail> {
+    let alloc = rt.alloc();
+    let Ok(program) = program(alloc, ROLL) else {
+        assert!(rt; false, "the program is refused");
+        return Ok(());
+    };
+    for (text, expected) in &ROLL_ROWS {
         let found = said(alloc, &program, text)?;
         assert!(rt;
             found.as_slice() == expected.as_bytes(),

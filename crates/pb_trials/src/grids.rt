@@ -124,7 +124,8 @@ fn segments(
     grid(alloc, &boxes, &form((1, 0)), &form((0, 1)), &from(least))
 }
 
-fn add_form(alloc: Global, text: &mut Vec<u8>, form: &Form) -> Result<(), AllocError> {
+/// Adds a form over the first size, and a blank.
+pub fn add_form(alloc: Global, text: &mut Vec<u8>, form: &Form) -> Result<(), AllocError> {
     let (whole, constant) = (form.whole[0], form.constant);
     let shown = if constant < 0 {
         format!(in alloc; "{whole}n{constant} ")?

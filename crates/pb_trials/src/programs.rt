@@ -19,7 +19,8 @@ use small::{SAID, WHOLE};
 use std::alloc::{AllocError, Global};
 use std::test::Fail;
 
-fn word(item: Item) -> &'static str {
+/// What an item is called.
+pub fn word(item: Item) -> &'static str {
     match item {
         Item::Transforms => "transforms",
         Item::Rules => "rules",
