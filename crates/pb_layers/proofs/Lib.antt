@@ -1,3 +1,5 @@
 pub mod ListLemmas
 pub mod ReachedLemmas
 pub mod LinkLemmas
+pub mod TakenLemmas
+pub mod NamedLemmas
