@@ -251,3 +251,16 @@ least-more nodes i least next below is member before = (either, λ v c. ⊎_elim
         (λ (l : least < get_or nodes i 0). let e : least ≡ next = omega arith in subst P e member)
         (λ (l : get_or nodes i 0 ≤ least). let e : get_or nodes i 0 ≡ next = omega arith in subst P e (Contains-get_or nodes i 0 below))
         (cases_lt least (get_or nodes i 0))
+
+-- ---- the steps as the code has them
+pub members-inside : (Leads : ℕ → ℕ → Type 0) (left rest : List Bool) (members nodes : List ℕ) (n : ℕ) → IsTaken Leads left rest members → nodes ≡ members → n ≡ length left → (k d : ℕ) → k < length nodes → get_or nodes k d < n
+members-inside Leads left rest members nodes n t e same k d below =
+    let P : List ℕ → Type 0 = λ l. Contains l (get_or nodes k d) in
+    let inside = marked-inside left (get_or nodes k d) (t.taken (get_or nodes k d) (subst P e (Contains-get_or nodes k d below))) in
+    omega arith
+
+pub named-as : (targets held : List (List ℕ)) (nodes members least new_least depth new_depth : List ℕ) → targets ≡ held → nodes ≡ members → IsNamed targets nodes least new_least depth new_depth → IsNamed held members least new_least depth new_depth
+named-as targets held nodes members least new_least depth new_depth e f n =
+    let P : List (List ℕ) → Type 0 = λ l. IsNamed l members least new_least depth new_depth in
+    let Q : List ℕ → Type 0 = λ l. IsNamed targets l least new_least depth new_depth in
+    subst P e (subst Q f n)

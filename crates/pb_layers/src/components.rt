@@ -126,7 +126,7 @@ fn settle(
     ensures fewer { OnOk result ((v : ℕ) → IsMarked components.new.left.items v → IsMarked components.old.left.items v) }
     ensures found { OnOk result (marked components.new.left.items node ≡ false) }
 {
-    while components.left[node as usize] {
+    'left: while components.left[node as usize] {
         let members = take_component(
             alloc,
             graph,
