@@ -8,6 +8,10 @@ use Rattle.pb_layers.specs.Graphs.{IsMarked}
 abbrev pub ServesRoot : List Edge → List ℕ → ℕ → ℕ → Type 0
 ServesRoot edges least root list = (e : Edge) → Contains edges e → slice_index least e.reader ≡ root → slice_index least e.source ≡ root → slice_index_or e.serves list false ≡ true
 
+-- an edge is inside a component and this list doesn't serve it
+abbrev pub Spoils : List ℕ → ℕ → Edge → Type 0
+Spoils least list e = (slice_index least e.reader ≡ slice_index least e.source) × (slice_index_or e.serves list false ≡ false)
+
 -- the components that a list serves are marked by their least members
 pub record AreServed (edges : List Edge) (least : List ℕ) (list : ℕ) (served : List Bool) : Type 0 where
   pub room : length served ≡ length least

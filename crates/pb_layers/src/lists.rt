@@ -1,11 +1,20 @@
-ghost use Rattle.std.specs.Prelude.{◌≡◌, ◌<◌, ◌≤◌, ◌+◌, ◌^◌, ℕ, IfOk, MatchOption, None, length, slice_index, slice_index_or};
+ghost use Rattle.std.specs.Prelude.{◌≡◌, ◌<◌, ◌≤◌, ◌+◌, ◌^◌, ◌↔◌, ℕ, IsTrue, IfOk, MatchOption, None, length, slice_index, slice_index_or};
 ghost use Rattle.std.specs.List.{All, Contains};
 ghost use Rattle.pb_layers.specs.Layers.{EdgeInside};
 ghost use Rattle.pb_layers.specs.Graphs.{marked};
-ghost use Rattle.pb_layers.specs.Lists.{AllHaveLists, AreFirstLists, AreMembers, AreServed, IsFirstWithout, chosen};
+ghost use Rattle.pb_layers.specs.Lists.{AllHaveLists, AreFirstLists, AreMembers, AreServed, IsFirstWithout, Spoils, chosen};
 
 use crate::link::{Edge, LISTS};
 use std::alloc::{AllocError, Global};
+
+/// Whether an edge is inside a component and this list doesn't serve it.
+fn spoils(edge: &Edge, least: &[u32], list: usize) -> bool
+    requires edge { EdgeInside (length least.now) edge.now }
+    requires list { list < LISTS }
+    ensures { IsTrue result ↔ Spoils least.now list edge.now }
+{
+    least[edge.reader as usize] == least[edge.source as usize] && !edge.serves[list]
+}
 
 /// Marks the components that a list serves, by their least members.
 fn served(
@@ -21,9 +30,8 @@ fn served(
 {
     let mut served = vec![in alloc; true; least.len()]?;
     for edge in edges {
-        let root = least[edge.reader as usize];
-        if root == least[edge.source as usize] && !edge.serves[list] {
-            served[root as usize] = false;
+        if spoils(edge, least, list) {
+            served[least[edge.reader as usize] as usize] = false;
         }
     }
     Ok(served)
