@@ -3,11 +3,12 @@ use Rattle.std.proofs.Common.{◌≡◌, ◌≢◌, ◌⊎◌, ◌↔◌, ◌∙
 use Rattle.std.proofs.Math.ListN.{set, length-set}
 use Rattle.std.specs.List.{All, Contains}
 use Rattle.std.proofs.lemmas.Bool.{cases_Bool, cases_eq, cases_lt, false≢true}
-use Rattle.std.proofs.lemmas.List.{take_all}
+use Rattle.std.proofs.lemmas.List.{get_or_append_left, get_or_push, length_push, take_all}
+use Rattle.std.proofs.lemmas.List.Elements.{Contains-append_left, Contains-get_or, Contains-push, Contains-push_cases}
 use Rattle.pb_layers.specs.declared.link.Edge.{Edge}
 use Rattle.pb_layers.specs.Graphs.{IsMarked, marked}
 use Rattle.pb_layers.specs.Layers.{EdgeInside}
-use Rattle.pb_layers.specs.Lists.{AreFirstLists, AreServed, IsFirstList, ServesRoot, Spoils, chosen}
+use Rattle.pb_layers.specs.Lists.{AreFirstLists, AreMembers, AreServed, IsFirstList, ServesRoot, Spoils, chosen}
 use Rattle.pb_layers.proofs.ListLemmas.{contains-more_cases, contains-more_new, contains-more_old, mark-set_other, mark-set_same}
 
 module _ (edges : List Edge) (least : List ℕ) (list i : ℕ) (d : Edge) (below : i < length edges) where
@@ -82,3 +83,31 @@ lists-more edges least bound old new served other f s same room is = record {
 
 pub served-all : (edges : List Edge) (least : List ℕ) (list n : ℕ) (served : List Bool) → length edges ≤ n → AreServed (take n edges) least list served → AreServed edges least list served
 served-all edges least list n served over a = let P : List Edge → Type 0 = λ l. AreServed l least list served in subst P (take_all n edges over) a
+
+-- ---- the members of a component
+pub members-push : (least : List ℕ) (root node : ℕ) (old new : List ℕ) → slice_index least node ≡ root → new ≡ old ++ node ∷ [] → AreMembers least root node old → AreMembers least root (node + 1) new
+members-push least root node old new at is m =
+    let P : List ℕ → Type 0 = λ l. AreMembers least root (node + 1) l in
+    subst P (sym is) (record {
+      each = λ v.
+        (λ c. ⊎_elim (λ k. let h = (m.each v).0 k in (omega arith, h.1)) (λ (e : node ≡ v). (omega arith, ap (slice_index least) (sym e) ∙ at)) (Contains-push_cases old node v c),
+         λ h. ⊎_elim (λ (e : v ≡ node). let Q : ℕ → Type 0 = λ w. Contains (old ++ node ∷ []) w in subst Q (sym e) (Contains-push old node)) (λ (ne : v ≢ node). Contains-append_left old (node ∷ []) v ((m.each v).1 (omega (arith, h.0), h.1))) (cases_eq v node));
+      rises = λ i j before low. ⊎_elim
+        (λ (short : j < length old). let r = m.rises i j before short in omega (arith, get_or_append_left old (node ∷ []) 0 i (omega arith), get_or_append_left old (node ∷ []) 0 j short))
+        (λ (last : length old ≤ j).
+          let size = length_push old node in
+          let here : i < length old = omega arith in
+          let lower = (m.each (get_or old i 0)).0 (Contains-get_or old i 0 here) in
+          omega (arith, lower.0, get_or_append_left old (node ∷ []) 0 i here, get_or_push old node 0 j (omega arith)))
+        (cases_lt j (length old));
+    })
+
+pub members-pass : (least : List ℕ) (root node : ℕ) (old same : List ℕ) → slice_index least node ≢ root → same ≡ old → AreMembers least root node old → AreMembers least root (node + 1) same
+members-pass least root node old same ne is m =
+    let P : List ℕ → Type 0 = λ l. AreMembers least root (node + 1) l in
+    subst P (sym is) (record {
+      each = λ v.
+        (λ c. let h = (m.each v).0 c in (omega (arith, h.0), h.1),
+         λ h. ⊎_elim (λ (e : v ≡ node). absurd (ne (ap (slice_index least) (sym e) ∙ h.1))) (λ (other : v ≢ node). (m.each v).1 (omega (arith, h.0), h.1)) (cases_eq v node));
+      rises = m.rises;
+    })
