@@ -5,3 +5,5 @@ pub mod TakenLemmas
 pub mod NamedLemmas
 pub mod ServedLemmas
 pub mod KeyLemmas
+pub mod NumberLemmas
+pub mod AnswerLemmas
