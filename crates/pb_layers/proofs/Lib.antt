@@ -7,3 +7,4 @@ pub mod ServedLemmas
 pub mod KeyLemmas
 pub mod NumberLemmas
 pub mod AnswerLemmas
+pub mod LawLemmas
