@@ -1,6 +1,5 @@
 -- What links lead to.
 
-
 -- from one node to another by any number of links
 pub data Reach (N : Type 0) (Leads : N → N → Type 0) : N → N → Type 0 where
   here : {u : N} → Reach N Leads u u

@@ -1,7 +1,7 @@
 -- What is found of components gives the answers.
-use Rattle.std.proofs.Common.{◌≡◌, ◌≢◌, ◌⊎◌, ◌↔◌, ◌∙◌, refl, sym, ap, subst, inl, inr, ⊎_elim, ℕ, ◌+◌, ◌<◌, ◌≤◌, Bool, true, false, Option, Some, None, IsSome, Result, Ok, Err, IfOk, List, [], ◌∷◌, length, get_or, slice_index, slice_index_or, arith}
+use Rattle.std.proofs.Common.{◌≡◌, ◌↔◌, ◌∙◌, sym, ap, subst, inl, inr, ⊎_elim, ℕ, ◌<◌, ◌≤◌, Option, Some, None, IsSome, Result, Ok, Err, IfOk, List, length, get_or, slice_index, slice_index_or, arith}
 use Rattle.std.specs.List.{All, Contains}
-use Rattle.std.proofs.lemmas.Bool.{cases_eq, cases_lt, cases_order, false≢true}
+use Rattle.std.proofs.lemmas.Bool.{cases_lt, false≢true}
 use Rattle.std.proofs.lemmas.List.{get_or_default}
 use Rattle.std.proofs.lemmas.List.Elements.{All-contains}
 use Rattle.pb_base.specs.Reach.{Reach, Together}
@@ -9,11 +9,11 @@ use Rattle.pb_base.proofs.ReachLemmas.{reach-keeps, reach-map, together-refl, to
 use Rattle.pb_layers.specs.declared.link.Edge.{Edge}
 use Rattle.pb_layers.specs.declared.link.Link.{Link}
 use Rattle.pb_layers.specs.Components.{AreFound, IsTurned}
-use Rattle.pb_layers.specs.Graphs.{IsLinked, Out}
-use Rattle.pb_layers.specs.Layers.{EdgeInside, IsFirstUnserved, IsRefused, IsUnserved, IsUsedOrder, LayersValue, LinksInside, graph_of, inner_at, list_at}
-use Rattle.pb_layers.specs.Lists.{AllHaveLists, AreFirstLists, AreMembers, HasList, IsFirstList, IsFirstWithout, ServesRoot}
+use Rattle.pb_layers.specs.Graphs.{IsLinked}
+use Rattle.pb_layers.specs.Layers.{EdgeInside, IsRefused, IsUsedOrder, LayersValue, LinksInside, graph_of, list_at}
+use Rattle.pb_layers.specs.Lists.{AreFirstLists, AreMembers, IsFirstList, IsFirstWithout, ServesRoot}
 use Rattle.pb_layers.specs.Numbers.{AreNumbered}
-use Rattle.pb_layers.specs.Orders.{Graph, IsDepth, IsInner, IsLeastMember, IsOrder, Leads, OrderExists, ServesAll}
+use Rattle.pb_layers.specs.Orders.{Graph, IsInner, IsLeastMember, IsOrder, Leads, OrderExists, ServesAll}
 
 -- ---- components of one kind of links are components of another
 pub turned-from : (L : ℕ → ℕ → Type 0) (nodes : ℕ) (down up : List (List ℕ)) → IsLinked L nodes down up → IsTurned nodes down up
@@ -39,6 +39,7 @@ found-like L M nodes least depth same f = record {
   where
     there : (u v : ℕ) → Together L u v → Together M u v
     there u v t = (reach-map L M (λ x y l. (same x y).0 l) u v t.0, reach-map L M (λ x y l. (same x y).0 l) v u t.1)
+
     back : (u v : ℕ) → Together M u v → Together L u v
     back u v t = (reach-map M L (λ x y l. (same x y).1 l) u v t.0, reach-map M L (λ x y l. (same x y).1 l) v u t.1)
 
@@ -69,9 +70,9 @@ module _ (g : Graph ℕ Edge ℕ) (layer : ℕ → ℕ) (list_of : ℕ → ℕ) 
   link-falls u v l = ⊎_elim
       (λ j. let e = o.shared u v j in omega arith)
       (λ e.
-        let at_reader = ap layer e.2 in
-        let at_source = ap layer e.3 in
-        ⊎_elim (λ lower. omega arith) (λ stays. omega (arith, stays.0)) (o.lower e.0 e.1))
+      let at_reader = ap layer e.2 in
+      let at_source = ap layer e.3 in
+      ⊎_elim (λ lower. omega arith) (λ stays. omega (arith, stays.0)) (o.lower e.0 e.1))
       l
 
   reach-falls : (u v : ℕ) → Reach ℕ (Leads g) u v → layer v ≤ layer u
@@ -153,17 +154,19 @@ module _ (joined : List Link) (edges : List Edge) (nodes : ℕ) (joined_in : All
         leasts = f.leasts;
         depths = f.depths;
         room = n.room;
-        rising = λ u v u_in v_in.
-          (λ h. ⊎_elim (λ d. inl (omega (arith, deep u u_in, deep v v_in))) (λ d. inr (deep u u_in ∙ d.0 ∙ sym (deep v v_in), d.1)) ((n.rising u v u_in v_in).0 h),
-           λ h. (n.rising u v u_in v_in).1 (⊎_elim (λ d. inl (omega (arith, deep u u_in, deep v v_in))) (λ d. inr (sym (deep u u_in) ∙ d.0 ∙ deep v v_in, d.1)) h));
+        rising = λ u v u_in v_in. (
+          λ h. ⊎_elim (λ d. inl (omega (arith, deep u u_in, deep v v_in))) (λ d. inr (deep u u_in ∙ d.0 ∙ sym (deep v v_in), d.1)) ((n.rising u v u_in v_in).0 h),
+          λ h. (n.rising u v u_in v_in).1 (⊎_elim (λ d. inl (omega (arith, deep u u_in, deep v v_in))) (λ d. inr (sym (deep u u_in) ∙ d.0 ∙ deep v v_in, d.1)) h),
+        );
         numbered = n.numbered;
         no_gap = n.no_gap;
         low = λ place below. let u = n.no_gap place below in let P : ℕ → Type 0 = λ k. list_at a.layers k < 12 in subst P u.2 (list-is u.0 u.1).0;
         serves = λ u below. let l = list-is u below in serves-all u (list_at a.layers (slice_index a.layer u)) below l.0 l.1;
         first = λ u k below less s. (list-is u below).2 k less (serves-root u k below s);
-        inner = λ u below.
-          (λ on. let e = (n.inner u below).0 on in (e.0, inner-from u below e.0 e.1 e.2 e.3),
-           λ e. let h = inner-least u below e.0 e.1 in (n.inner u below).1 (e.0, e.1.is_edge, h.0, h.1));
+        inner = λ u below. (
+          λ on. let e = (n.inner u below).0 on in (e.0, inner-from u below e.0 e.1 e.2 e.3),
+          λ e. let h = inner-least u below e.0 e.1 in (n.inner u below).1 (e.0, e.1.is_edge, h.0, h.1),
+        );
       }
 
     -- the first component without a list
@@ -206,9 +209,10 @@ module _ (joined : List Link) (edges : List Edge) (nodes : ℕ) (joined_in : All
             unserved = unserved;
             first = served-before;
           };
-          each = λ v.
-            (λ c. let h = (m.each v).0 c in same-together root v root-in (omega (arith, h.0, f.room_least)) (w.is_least ∙ sym h.1),
-             λ t. let v_in = reach-inside root v t.0 root-in in (m.each v).1 (omega (arith, f.room_least), sym (same-least root v root-in v_in t) ∙ w.is_least));
+          each = λ v. (
+            λ c. let h = (m.each v).0 c in same-together root v root-in (omega (arith, h.0, f.room_least)) (w.is_least ∙ sym h.1),
+            λ t. let v_in = reach-inside root v t.0 root-in in (m.each v).1 (omega (arith, f.room_least), sym (same-least root v root-in v_in t) ∙ w.is_least),
+          );
           rises = m.rises;
         };
       }

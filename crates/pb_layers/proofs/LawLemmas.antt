@@ -1,15 +1,14 @@
 -- Laws of the answers.
-use Rattle.std.proofs.Common.{◌≡◌, ◌≢◌, ◌⊎◌, ◌↔◌, ◌∙◌, refl, sym, ap, subst, inl, inr, ⊎_elim, ℕ, zero, suc, ◌+◌, ◌<◌, ◌≤◌, Bool, true, false, List, [], ◌∷◌, length, get_or, slice_index, slice_index_or, arith}
+use Rattle.std.proofs.Common.{◌≡◌, ◌⊎◌, ◌∙◌, refl, sym, ap, subst, inl, inr, ⊎_elim, ℕ, zero, suc, ◌+◌, ◌<◌, ◌≤◌, Bool, true, false, List, [], ◌∷◌, length, slice_index, slice_index_or, arith}
 use Rattle.std.specs.List.{All, Contains}
-use Rattle.std.proofs.lemmas.Bool.{cases_Bool, cases_eq, cases_lt, cases_order, false≢true}
+use Rattle.std.proofs.lemmas.Bool.{cases_lt, cases_order}
 use Rattle.std.proofs.lemmas.List.{ext_get_or, get_or_default}
-use Rattle.pb_base.specs.Reach.{Reach, Together}
+use Rattle.pb_base.specs.Reach.{Together}
 use Rattle.pb_base.proofs.ReachLemmas.{reach-link, together-refl}
-use Rattle.pb_layers.specs.declared.layers.Layer.{Layer}
 use Rattle.pb_layers.specs.declared.link.Edge.{Edge}
 use Rattle.pb_layers.specs.declared.link.Link.{Link}
-use Rattle.pb_layers.specs.Layers.{EdgeInside, IsFirstUnserved, IsRefused, IsUnserved, IsUsedOrder, LayersValue, LinksInside, graph_of, inner_at, list_at, no_layer}
-use Rattle.pb_layers.specs.Orders.{Graph, IsDepth, IsInner, IsLeastMember, IsOrder, Leads, OrderExists, ServesAll}
+use Rattle.pb_layers.specs.Layers.{EdgeInside, IsRefused, IsUsedOrder, LayersValue, LinksInside, graph_of, inner_at, list_at, no_layer}
+use Rattle.pb_layers.specs.Orders.{Graph, IsDepth, Leads, OrderExists}
 use Rattle.pb_layers.proofs.AnswerLemmas.{least-unique, links-inside}
 
 -- ---- rising lists with the same elements are the same
@@ -25,7 +24,6 @@ contains-cons x v xs c = let below = c.1 in (suc c.0, omega arith, c.2)
 
 contains-first : (x : ℕ) (xs : List ℕ) → Contains (x ∷ xs) x
 contains-first x xs = (0, omega arith, refl)
-
 
 rises-tail : (x : ℕ) (xs : List ℕ) → ((i j : ℕ) → i < j → j < length (x ∷ xs) → slice_index (x ∷ xs) i < slice_index (x ∷ xs) j) → (i j : ℕ) → i < j → j < length xs → slice_index xs i < slice_index xs j
 rises-tail x xs r i j before below = r (suc i) (suc j) (omega arith) (omega arith)
@@ -48,8 +46,8 @@ rising-same (x ∷ xs) (y ∷ ys) p q there back =
     let high = rises-first y x ys q (there x (contains-first x xs)) in
     let head : x ≡ y = omega arith in
     let tail = rising-same xs ys (rises-tail x xs p) (rises-tail y ys q)
-      (λ v c. let up = rises-above x v xs p c in ⊎_elim (λ e. absurd (omega arith)) (λ k. k) (contains-cons_cases y v ys (there v (contains-cons x v xs c))))
-      (λ v c. let up = rises-above y v ys q c in ⊎_elim (λ e. absurd (omega arith)) (λ k. k) (contains-cons_cases x v xs (back v (contains-cons y v ys c)))) in
+    (λ v c. let up = rises-above x v xs p c in ⊎_elim (λ e. absurd (omega arith)) (λ k. k) (contains-cons_cases y v ys (there v (contains-cons x v xs c))))
+    (λ v c. let up = rises-above y v ys q c in ⊎_elim (λ e. absurd (omega arith)) (λ k. k) (contains-cons_cases x v xs (back v (contains-cons y v ys c)))) in
     ap (λ w. w ∷ xs) head ∙ ap (λ l. y ∷ l) tail
 
 -- ---- depths are alone
@@ -59,9 +57,9 @@ module _ (Leads : ℕ → ℕ → Type 0) (nodes : ℕ) (inside : (u v : ℕ) �
   depth-most d e p q (suc bound) u below low = ⊎_elim
       (λ z. omega arith)
       (λ r. ⊎_elim
-        (λ t. let same = (p u below).same r.1 t in absurd (omega (arith, r.4)))
-        (λ lower. let rest = depth-most d e p q bound r.1 (inside r.0 r.1 r.3).1 (omega (arith, r.4)) in omega (arith, r.4))
-        ((q u below).falls r.0 r.1 r.2 r.3))
+      (λ t. let same = (p u below).same r.1 t in absurd (omega (arith, r.4)))
+      (λ lower. let rest = depth-most d e p q bound r.1 (inside r.0 r.1 r.3).1 (omega (arith, r.4)) in omega (arith, r.4))
+      ((q u below).falls r.0 r.1 r.2 r.3))
       (p u below).reached
 
   pub depth-unique : (d e : ℕ → ℕ) → ((u : ℕ) → u < nodes → IsDepth ℕ Leads d u) → ((u : ℕ) → u < nodes → IsDepth ℕ Leads e u) → (u : ℕ) → u < nodes → d u ≡ e u
@@ -85,9 +83,9 @@ module _ (joined : List Link) (edges : List Edge) (nodes : ℕ) (joined_in : All
         let deep = (r.depths u u_in).same v t in
         ⊎_elim (λ e. e)
         (λ o. ⊎_elim
-          (λ (l : slice_index a.layer u < slice_index a.layer v). absurd (⊎_elim (λ d. omega arith) (λ d. omega (arith, d.1)) ((r.rising u v u_in v_in).0 l)))
-          (λ (l : slice_index a.layer v < slice_index a.layer u). absurd (⊎_elim (λ d. omega arith) (λ d. omega (arith, d.1)) ((r.rising v u v_in u_in).0 l)))
-          o)
+        (λ (l : slice_index a.layer u < slice_index a.layer v). absurd (⊎_elim (λ d. omega arith) (λ d. omega (arith, d.1)) ((r.rising u v u_in v_in).0 l)))
+        (λ (l : slice_index a.layer v < slice_index a.layer u). absurd (⊎_elim (λ d. omega arith) (λ d. omega (arith, d.1)) ((r.rising v u v_in u_in).0 l)))
+        o)
         (cases_order (slice_index a.layer u) (slice_index a.layer v))
 
     pub order-from : OrderExists g
@@ -98,6 +96,7 @@ module _ (joined : List Link) (edges : List Edge) (nodes : ℕ) (joined_in : All
             let back : g.Joined v u = ⊎_elim (λ c. inr c) (λ c. inl c) j in
             let in_both = inside u v (inl j) in
             together-layer u v in_both.0 in_both.1 (reach-link (Leads g) u v (inl j), reach-link (Leads g) v u (inl back))
+
         lower : (e : Edge) → Contains edges e → (slice_index a.layer e.source < slice_index a.layer e.reader) ⊎ ((slice_index a.layer e.source ≡ slice_index a.layer e.reader) × g.Serves (list_at a.layers (slice_index a.layer e.reader)) e)
         lower e c =
             let link : Leads g e.reader e.source = inr (e, c, refl, refl) in
@@ -115,10 +114,11 @@ module _ (joined : List Link) (edges : List Edge) (nodes : ℕ) (joined_in : All
       carried : (w : ℕ) → w < nodes → slice_index a.layer w < slice_index a.layer u → slice_index b.layer w < slice_index b.layer u
       carried w w_in l = (q.rising w u w_in below).1
           (let deep_w = depth-unique (Leads g) nodes inside p.depth q.depth p.depths q.depths w w_in in
-           let deep_u = depth-unique (Leads g) nodes inside p.depth q.depth p.depths q.depths u below in
-           let root_w = least-unique (Leads g) w w (p.least w) (q.least w) (together-refl (Leads g) w) (p.leasts w w_in) (q.leasts w w_in) in
-           let root_u = least-unique (Leads g) u u (p.least u) (q.least u) (together-refl (Leads g) u) (p.leasts u below) (q.leasts u below) in
-           ⊎_elim (λ d. inl (omega arith)) (λ d. inr (sym deep_w ∙ d.0 ∙ deep_u, omega (arith, d.1))) ((p.rising w u w_in below).0 l))
+          let deep_u = depth-unique (Leads g) nodes inside p.depth q.depth p.depths q.depths u below in
+          let root_w = least-unique (Leads g) w w (p.least w) (q.least w) (together-refl (Leads g) w) (p.leasts w w_in) (q.leasts w w_in) in
+          let root_u = least-unique (Leads g) u u (p.least u) (q.least u) (together-refl (Leads g) u) (p.leasts u below) (q.leasts u below) in
+          ⊎_elim (λ d. inl (omega arith)) (λ d. inr (sym deep_w ∙ d.0 ∙ deep_u, omega (arith, d.1))) ((p.rising w u w_in below).0 l))
+
       by_place : (k : ℕ) → slice_index a.layer u ≡ k → ((w : ℕ) → w < nodes → slice_index a.layer w < slice_index a.layer u → slice_index a.layer w ≤ slice_index b.layer w) → slice_index a.layer u ≤ slice_index b.layer u
       by_place zero e before = omega arith
       by_place (suc k) e before =
@@ -143,9 +143,9 @@ module _ (joined : List Link) (edges : List Edge) (nodes : ℕ) (joined_in : All
   list-same : (a b : LayersValue) → IsUsedOrder g nodes a → IsUsedOrder g nodes b → (u : ℕ) → u < nodes → list_at a.layers (slice_index a.layer u) ≡ list_at b.layers (slice_index b.layer u)
   list-same a b p q u below = ⊎_elim (λ e. e)
       (λ o. absurd (⊎_elim
-        (λ (l : list_at a.layers (slice_index a.layer u) < list_at b.layers (slice_index b.layer u)). q.first u (list_at a.layers (slice_index a.layer u)) below l (p.serves u below))
-        (λ (l : list_at b.layers (slice_index b.layer u) < list_at a.layers (slice_index a.layer u)). p.first u (list_at b.layers (slice_index b.layer u)) below l (q.serves u below))
-        o))
+      (λ (l : list_at a.layers (slice_index a.layer u) < list_at b.layers (slice_index b.layer u)). q.first u (list_at a.layers (slice_index a.layer u)) below l (p.serves u below))
+      (λ (l : list_at b.layers (slice_index b.layer u) < list_at a.layers (slice_index a.layer u)). p.first u (list_at b.layers (slice_index b.layer u)) below l (q.serves u below))
+      o))
       (cases_order (list_at a.layers (slice_index a.layer u)) (list_at b.layers (slice_index b.layer u)))
 
   bool-same : (x y : Bool) → (x ≡ true → y ≡ true) → (y ≡ true → x ≡ true) → x ≡ y
@@ -160,8 +160,8 @@ module _ (joined : List Link) (edges : List Edge) (nodes : ℕ) (joined_in : All
   one-order a b p q =
       let layer : a.layer ≡ b.layer = ext_get_or 0 a.layer b.layer (p.room ∙ sym q.room) (λ u below. layer-same a b p q u (omega (arith, p.room))) in
       let layers : a.layers ≡ b.layers = ext_get_or no_layer a.layers b.layers
-        (let x = count-most a b p q in let y = count-most b a q p in omega arith)
-        (λ place below. at place (p.no_gap place below)) in
+      (let x = count-most a b p q in let y = count-most b a q p in omega arith)
+      (λ place below. at place (p.no_gap place below)) in
       ap (λ l. record { layer = l; layers = a.layers }) layer ∙ ap (λ l. record { layer = b.layer; layers = l }) layers
     where
       at : (place : ℕ) → (u : ℕ) × (u < nodes) × (slice_index a.layer u ≡ place) → slice_index_or a.layers place no_layer ≡ slice_index_or b.layers place no_layer
@@ -180,7 +180,7 @@ one-refusal joined edges nodes members others p q =
     same : p.component.root ≡ q.component.root
     same = ⊎_elim (λ e. e)
         (λ o. absurd (⊎_elim
-          (λ (l : p.component.root < q.component.root). let s = q.component.is.first p.component.root l p.component.is.is_least in p.component.is.unserved s.0 s.1)
-          (λ (l : q.component.root < p.component.root). let s = p.component.is.first q.component.root l q.component.is.is_least in q.component.is.unserved s.0 s.1)
-          o))
+        (λ (l : p.component.root < q.component.root). let s = q.component.is.first p.component.root l p.component.is.is_least in p.component.is.unserved s.0 s.1)
+        (λ (l : q.component.root < p.component.root). let s = p.component.is.first q.component.root l q.component.is.is_least in q.component.is.unserved s.0 s.1)
+        o))
         (cases_order p.component.root q.component.root)

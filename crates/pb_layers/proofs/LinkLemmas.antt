@@ -1,5 +1,5 @@
 -- Links as they are held.
-use Rattle.std.proofs.Common.{◌≡◌, ◌≢◌, ◌⊎◌, ◌↔◌, ◌∙◌, refl, sym, ap, subst, inl, inr, ⊎_elim, Result, Ok, Err, ℕ, ◌+◌, ◌<◌, ◌≤◌, Bool, true, false, List, [], ◌∷◌, ◌++◌, length, take, get_or, replicate, arith}
+use Rattle.std.proofs.Common.{◌≡◌, ◌≢◌, ◌⊎◌, ◌↔◌, ◌∙◌, sym, ap, subst, inl, inr, ⊎_elim, Result, Ok, Err, ℕ, ◌+◌, ◌<◌, ◌≤◌, List, [], ◌∷◌, ◌++◌, length, take, get_or, replicate, arith}
 use Rattle.std.proofs.Math.ListN.{set, length-set}
 use Rattle.std.specs.List.{All, Contains}
 use Rattle.std.specs.Result.{OnOk}
@@ -24,12 +24,13 @@ added-is targets from to inside = record {
         let P : List ℕ → Type 0 = λ l. Contains l v in
         ⊎_elim
         (λ (e : u ≡ from).
-          let Q : ℕ → Type 0 = λ k. Out (set targets from (get_or targets from [] ++ to ∷ [])) k v in
-          let R : ℕ → Type 0 = λ k. Out targets k v in
-          ⊎_elim (λ (h : Out targets from v). inl (subst R (sym e) h)) (λ (same : to ≡ v). inr (e, sym same))
-          (Contains-push_cases (get_or targets from []) to v (subst P (get_or-set_same targets from (get_or targets from [] ++ to ∷ []) [] inside) (subst Q e c))))
+        let Q : ℕ → Type 0 = λ k. Out (set targets from (get_or targets from [] ++ to ∷ [])) k v in
+        let R : ℕ → Type 0 = λ k. Out targets k v in
+        ⊎_elim (λ (h : Out targets from v). inl (subst R (sym e) h)) (λ (same : to ≡ v). inr (e, sym same))
+        (Contains-push_cases (get_or targets from []) to v (subst P (get_or-set_same targets from (get_or targets from [] ++ to ∷ []) [] inside) (subst Q e c))))
         (λ (ne : u ≢ from). inl (subst P (get_or-set_other targets from u (get_or targets from [] ++ to ∷ []) [] ne) c))
         (cases_eq u from)
+
     back : (u v : ℕ) → (Out targets u v ⊎ ((u ≡ from) × (v ≡ to))) → Out (set targets from (get_or targets from [] ++ to ∷ [])) u v
     back u v h =
         let P : List ℕ → Type 0 = λ l. Contains l v in
@@ -38,9 +39,9 @@ added-is targets from to inside = record {
         let S : ℕ → Type 0 = λ k. Contains (get_or targets from [] ++ to ∷ []) k in
         ⊎_elim
         (λ (c : Out targets u v). ⊎_elim
-          (λ (e : u ≡ from). subst Q (sym e) (subst P (sym (get_or-set_same targets from (get_or targets from [] ++ to ∷ []) [] inside)) (Contains-append_left (get_or targets from []) (to ∷ []) v (subst R e c))))
-          (λ (ne : u ≢ from). subst P (sym (get_or-set_other targets from u (get_or targets from [] ++ to ∷ []) [] ne)) c)
-          (cases_eq u from))
+        (λ (e : u ≡ from). subst Q (sym e) (subst P (sym (get_or-set_same targets from (get_or targets from [] ++ to ∷ []) [] inside)) (Contains-append_left (get_or targets from []) (to ∷ []) v (subst R e c))))
+        (λ (ne : u ≢ from). subst P (sym (get_or-set_other targets from u (get_or targets from [] ++ to ∷ []) [] ne)) c)
+        (cases_eq u from))
         (λ (e : (u ≡ from) × (v ≡ to)). subst Q (sym e.0) (subst P (sym (get_or-set_same targets from (get_or targets from [] ++ to ∷ []) [] inside)) (subst S (sym e.1) (Contains-push (get_or targets from []) to))))
         h
 
@@ -67,12 +68,14 @@ linked-more : (L : ℕ → ℕ → Type 0) (nodes from to : ℕ) (down up more_d
 linked-more L nodes from to down up more_down more_up from_in to_in r p q = record {
   room_down = p.room ∙ r.room_down;
   room_up = q.room ∙ r.room_up;
-  is_down = λ u v.
-    (λ c. ⊎_elim (λ h. inl ((r.is_down u v).0 h)) (λ e. inr e) ((p.links u v).0 c),
-     λ m. (p.links u v).1 (⊎_elim (λ h. inl ((r.is_down u v).1 h)) (λ e. inr e) m));
-  is_up = λ u v.
-    (λ c. ⊎_elim (λ h. inl ((r.is_up u v).0 h)) (λ (e : (v ≡ to) × (u ≡ from)). inr (e.1, e.0)) ((q.links v u).0 c),
-     λ m. (q.links v u).1 (⊎_elim (λ h. inl ((r.is_up u v).1 h)) (λ (e : (u ≡ from) × (v ≡ to)). inr (e.1, e.0)) m));
+  is_down = λ u v. (
+    λ c. ⊎_elim (λ h. inl ((r.is_down u v).0 h)) (λ e. inr e) ((p.links u v).0 c),
+    λ m. (p.links u v).1 (⊎_elim (λ h. inl ((r.is_down u v).1 h)) (λ e. inr e) m),
+  );
+  is_up = λ u v. (
+    λ c. ⊎_elim (λ h. inl ((r.is_up u v).0 h)) (λ (e : (v ≡ to) × (u ≡ from)). inr (e.1, e.0)) ((q.links v u).0 c),
+    λ m. (q.links v u).1 (⊎_elim (λ h. inl ((r.is_up u v).1 h)) (λ (e : (u ≡ from) × (v ≡ to)). inr (e.1, e.0)) m),
+  );
   inside = λ u v m. ⊎_elim (λ h. r.inside u v h) (λ (e : (u ≡ from) × (v ≡ to)). (omega arith, omega arith)) m;
 }
 
@@ -87,8 +90,10 @@ linked-none nodes down up d e = record {
   where
     at : (u : ℕ) → get_or {A = List ℕ} (replicate nodes []) u [] ≡ []
     at u = ⊎_elim (λ (below : u < nodes). get_or-replicate nodes u [] [] below) (λ (over : nodes ≤ u). get_or_past (replicate nodes []) u [] (omega (arith, length-replicate {A = List ℕ} nodes []))) (cases_lt u nodes)
+
     none : (targets : List (List ℕ)) → targets ≡ replicate nodes [] → (u v : ℕ) → Out targets u v → ⊥
     none targets is u v c = let P : List ℕ → Type 0 = λ l. Contains l v in contains-nil v (subst P (ap (λ ts. get_or ts u []) is ∙ at u) c)
+
     no_link : (u v : ℕ) → Leads (graph_of [] []) u v → ⊥
     no_link u v l = ⊎_elim (λ j. ⊎_elim (λ c. contains-nil _ c) (λ c. contains-nil _ c) j) (λ e. contains-nil _ e.1) l
 
@@ -102,20 +107,22 @@ module _ (joined : List Link) (i : ℕ) (d : Link) (below : i < length joined) w
           let P : Link → Type 0 = λ l. Contains (take (i + 1) joined) l in
           let same : get_or joined i d ≡ record { from = a; to = b } = ap (λ k. record { from = k; to = (get_or joined i d).to }) (sym e) ∙ ap (λ k. record { from = a; to = k }) (sym f) in
           subst P same (contains-more_new joined i d below)
+
       there : ((Leads (graph_of (take i joined) []) u v ⊎ ((u ≡ (get_or joined i d).from) × (v ≡ (get_or joined i d).to))) ⊎ ((u ≡ (get_or joined i d).to) × (v ≡ (get_or joined i d).from))) → Leads (graph_of (take (i + 1) joined) []) u v
       there h = ⊎_elim
           (λ k. ⊎_elim
-            (λ l. ⊎_elim (λ j. inl (⊎_elim (λ c. inl (contains-more_old joined i d below _ c)) (λ c. inr (contains-more_old joined i d below _ c)) j)) (λ e. inr e) l)
-            (λ e. inl (inl (new u v e.0 e.1)))
-            k)
+          (λ l. ⊎_elim (λ j. inl (⊎_elim (λ c. inl (contains-more_old joined i d below _ c)) (λ c. inr (contains-more_old joined i d below _ c)) j)) (λ e. inr e) l)
+          (λ e. inl (inl (new u v e.0 e.1)))
+          k)
           (λ e. inl (inr (new v u e.1 e.0)))
           h
+
       back : Leads (graph_of (take (i + 1) joined) []) u v → ((Leads (graph_of (take i joined) []) u v ⊎ ((u ≡ (get_or joined i d).from) × (v ≡ (get_or joined i d).to))) ⊎ ((u ≡ (get_or joined i d).to) × (v ≡ (get_or joined i d).from)))
       back l = ⊎_elim
           (λ j. ⊎_elim
-            (λ c. ⊎_elim (λ k. inl (inl (inl (inl k)))) (λ e. inl (inr (ap (λ (l : Link). l.from) (sym e), ap (λ (l : Link). l.to) (sym e)))) (contains-more_cases joined i d below _ c))
-            (λ c. ⊎_elim (λ k. inl (inl (inl (inr k)))) (λ e. inr (ap (λ (l : Link). l.to) (sym e), ap (λ (l : Link). l.from) (sym e))) (contains-more_cases joined i d below _ c))
-            j)
+          (λ c. ⊎_elim (λ k. inl (inl (inl (inl k)))) (λ e. inl (inr (ap (λ (l : Link). l.from) (sym e), ap (λ (l : Link). l.to) (sym e)))) (contains-more_cases joined i d below _ c))
+          (λ c. ⊎_elim (λ k. inl (inl (inl (inr k)))) (λ e. inr (ap (λ (l : Link). l.to) (sym e), ap (λ (l : Link). l.from) (sym e))) (contains-more_cases joined i d below _ c))
+          j)
           (λ e. absurd (contains-nil _ e.1))
           l
 
@@ -129,6 +136,7 @@ module _ (joined : List Link) (edges : List Edge) (i : ℕ) (d : Edge) (below : 
           (λ l. ⊎_elim (λ j. inl j) (λ e. inr (e.0, contains-more_old edges i d below e.0 e.1, e.2, e.3)) l)
           (λ e. inr (get_or edges i d, contains-more_new edges i d below, sym e.0, sym e.1))
           h
+
       back : Leads (graph_of joined (take (i + 1) edges)) u v → (Leads (graph_of joined (take i edges)) u v ⊎ ((u ≡ (get_or edges i d).reader) × (v ≡ (get_or edges i d).source)))
       back l = ⊎_elim
           (λ j. inl (inl j))

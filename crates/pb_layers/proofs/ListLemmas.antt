@@ -1,11 +1,10 @@
 -- Elements of the front of a list, marks, and how many there are.
-use Rattle.std.proofs.Common.{◌≡◌, ◌≢◌, ◌⊎◌, ◌∙◌, refl, sym, ap, subst, inl, inr, ⊎_elim, ℕ, zero, suc, ◌+◌, ◌<◌, ◌≤◌, Bool, true, false, cond, List, [], ◌∷◌, ◌++◌, length, take, get_or, arith}
+use Rattle.std.proofs.Common.{◌≡◌, ◌≢◌, ◌⊎◌, ◌∙◌, refl, sym, ap, subst, ⊎_elim, ℕ, zero, suc, ◌+◌, ◌<◌, ◌≤◌, Bool, true, false, List, [], ◌∷◌, length, take, get_or, arith}
 use Rattle.std.proofs.Math.ListN.{set, length-set}
-use Rattle.std.specs.List.{All, Contains, count_by}
-use Rattle.std.proofs.lemmas.Bool.{cases_Bool, cases_eq, cases_lt, false≢true}
-use Rattle.std.proofs.lemmas.List.{ext_get_or, get_or-set_other, get_or-set_same, get_or_default, get_or_past, take_all, take_more, length_push}
-use Rattle.std.proofs.lemmas.List.Elements.{Contains-append_left, Contains-push, Contains-push_cases, Contains-get_or, All-contains}
-use Rattle.std.proofs.lemmas.List.Sums.{sum_by-set}
+use Rattle.std.specs.List.{Contains}
+use Rattle.std.proofs.lemmas.Bool.{cases_eq, cases_lt, false≢true}
+use Rattle.std.proofs.lemmas.List.{ext_get_or, get_or-set_other, get_or-set_same, get_or_default, get_or_past, take_all, take_more}
+use Rattle.std.proofs.lemmas.List.Elements.{Contains-append_left, Contains-push, Contains-push_cases}
 use Rattle.pb_layers.specs.Graphs.{IsFilled, IsMarked, count, marked}
 
 pub contains-nil : {A : Type 0} (x : A) → Contains [] x → ⊥
@@ -98,13 +97,13 @@ filled-more {A} old new nodes value i here inside f =
     record {
       room = length-set new v value ∙ f.room;
       written = λ w d below c.
-        ⊎_elim
-        (λ (e : w ≡ v). ap (λ k. get_or (set new v value) k d) e ∙ get_or-set_same new v value d (omega (arith, f.room)))
-        (λ (ne : w ≢ v). get_or-set_other new v w value d ne ∙ f.written w d below (⊎_elim (λ h. h) (λ (e : v ≡ w). absurd (ne (sym e))) (contains-more_cases nodes i 0 here w c)))
-        (cases_eq w v);
+          ⊎_elim
+          (λ (e : w ≡ v). ap (λ k. get_or (set new v value) k d) e ∙ get_or-set_same new v value d (omega (arith, f.room)))
+          (λ (ne : w ≢ v). get_or-set_other new v w value d ne ∙ f.written w d below (⊎_elim (λ h. h) (λ (e : v ≡ w). absurd (ne (sym e))) (contains-more_cases nodes i 0 here w c)))
+          (cases_eq w v);
       kept = λ w d out.
-        get_or-set_other new v w value d (λ e. out (same w e))
-        ∙ f.kept w d (λ c. out (contains-more_old nodes i 0 here w c));
+          get_or-set_other new v w value d (λ e. out (same w e))
+          ∙ f.kept w d (λ c. out (contains-more_old nodes i 0 here w c));
     }
   where
     same : (w : ℕ) → w ≡ get_or nodes i 0 → Contains (take (i + 1) nodes) w

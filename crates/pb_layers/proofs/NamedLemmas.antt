@@ -1,13 +1,13 @@
 -- Components that are named by their least members and depths.
-use Rattle.std.proofs.Common.{◌≡◌, ◌≢◌, ◌⊎◌, ◌↔◌, ◌∙◌, refl, sym, ap, subst, inl, inr, ⊎_elim, ℕ, zero, suc, ◌+◌, ◌<◌, ◌≤◌, min, max, Bool, true, false, List, [], ◌∷◌, length, take, get_or, slice_index, replicate, arith}
-use Rattle.std.specs.List.{All, Contains}
+use Rattle.std.proofs.Common.{◌≡◌, ◌≢◌, ◌⊎◌, ◌∙◌, refl, sym, ap, subst, inl, inr, ⊎_elim, ℕ, ◌+◌, ◌<◌, ◌≤◌, min, max, Bool, true, false, List, [], ◌∷◌, length, take, get_or, slice_index, replicate, arith}
+use Rattle.std.specs.List.{Contains}
 use Rattle.std.proofs.lemmas.Bool.{cases_Bool, cases_lt, false≢true}
 use Rattle.std.proofs.lemmas.List.{get_or-replicate, get_or_past, length-replicate, take_all}
 use Rattle.std.proofs.lemmas.List.Elements.{Contains-get_or}
 use Rattle.pb_base.specs.Reach.{Reach, Together}
 use Rattle.pb_base.proofs.ReachLemmas.{reach-keeps_back, together-sym}
-use Rattle.pb_layers.specs.Components.{AreFound, AreNamed, AreSettled, IsClosed, IsHeight, IsNamed, IsTaken, LeftBy, NoneMarked}
-use Rattle.pb_layers.specs.Graphs.{IsFilled, IsMarked, Out, count, marked}
+use Rattle.pb_layers.specs.Components.{AreFound, AreNamed, AreSettled, IsHeight, IsNamed, IsTaken, LeftBy}
+use Rattle.pb_layers.specs.Graphs.{IsMarked, Out, count, marked}
 use Rattle.pb_layers.specs.Orders.{IsDepth, IsLeastMember}
 use Rattle.pb_layers.proofs.ListLemmas.{contains-more_cases, contains-more_new, contains-more_old, contains-nil, marked-inside}
 
@@ -22,9 +22,9 @@ module _ (least depth : List ℕ) (root so_far : ℕ) where
       more = omega (arith, h.more);
       above = λ v c ne. ⊎_elim (λ k. let old = h.above v k ne in omega arith) (λ (e : get_or nodes i 0 ≡ v). let d = ap (slice_index depth) e in omega arith) (contains-more_cases nodes i 0 below v c);
       reached = ⊎_elim
-        (λ (is_old : max height (slice_index depth (get_or nodes i 0) + 1) ≡ height). ⊎_elim (λ e. inl (is ∙ is_old ∙ e)) (λ r. inr (r.0, contains-more_old nodes i 0 below r.0 r.1, r.2, is ∙ is_old ∙ r.3)) h.reached)
-        (λ (is_new : max height (slice_index depth (get_or nodes i 0) + 1) ≡ slice_index depth (get_or nodes i 0) + 1). inr (get_or nodes i 0, contains-more_new nodes i 0 below, out, is ∙ is_new))
-        (max-cases height (slice_index depth (get_or nodes i 0) + 1));
+          (λ (is_old : max height (slice_index depth (get_or nodes i 0) + 1) ≡ height). ⊎_elim (λ e. inl (is ∙ is_old ∙ e)) (λ r. inr (r.0, contains-more_old nodes i 0 below r.0 r.1, r.2, is ∙ is_old ∙ r.3)) h.reached)
+          (λ (is_new : max height (slice_index depth (get_or nodes i 0) + 1) ≡ slice_index depth (get_or nodes i 0) + 1). inr (get_or nodes i 0, contains-more_new nodes i 0 below, out, is ∙ is_new))
+          (max-cases height (slice_index depth (get_or nodes i 0) + 1));
     }
       where
         max-cases : (a b : ℕ) → (max a b ≡ a) ⊎ (max a b ≡ b)
@@ -42,17 +42,18 @@ module _ (least depth : List ℕ) (root so_far : ℕ) where
   height-next targets members i height higher nodes below is h k = record {
     more = omega (arith, h.more, k.more);
     above = λ v l ne. ⊎_elim
-      (λ c. let old = h.above v (l.0, c, l.2) ne in omega (arith, k.more))
-      (λ (e : get_or members i 0 ≡ l.0). k.above v (here v l.0 e l.2) ne)
-      (contains-more_cases members i 0 below l.0 l.1);
+        (λ c. let old = h.above v (l.0, c, l.2) ne in omega (arith, k.more))
+        (λ (e : get_or members i 0 ≡ l.0). k.above v (here v l.0 e l.2) ne)
+        (contains-more_cases members i 0 below l.0 l.1);
     reached = ⊎_elim
-      (λ (e : higher ≡ height). ⊎_elim (λ z. inl (e ∙ z)) (λ r. inr (r.0, (r.1.0, contains-more_old members i 0 below r.1.0 r.1.1, r.1.2), r.2, e ∙ r.3)) h.reached)
-      (λ r. inr (r.0, (get_or members i 0, contains-more_new members i 0 below, there r.0 r.1), r.2, r.3))
-      k.reached;
+        (λ (e : higher ≡ height). ⊎_elim (λ z. inl (e ∙ z)) (λ r. inr (r.0, (r.1.0, contains-more_old members i 0 below r.1.0 r.1.1, r.1.2), r.2, e ∙ r.3)) h.reached)
+        (λ r. inr (r.0, (get_or members i 0, contains-more_new members i 0 below, there r.0 r.1), r.2, r.3))
+        k.reached;
   }
     where
       here : (v u : ℕ) → get_or members i 0 ≡ u → Out targets u v → Contains nodes v
       here v u e l = let P : List ℕ → Type 0 = λ ns. Contains ns v in subst P (ap (λ w. get_or targets w []) (sym e) ∙ sym is) l
+
       there : (v : ℕ) → Contains nodes v → Out targets (get_or members i 0) v
       there v c = let P : List ℕ → Type 0 = λ ns. Contains ns v in subst P is c
 
@@ -95,9 +96,9 @@ module _ (targets : List (List ℕ)) (nodes : ℕ) (inside : (u v : ℕ) → Out
   from-member : (u v : ℕ) → Contains members u → Out targets u v → Contains members v ⊎ (marked left v ≡ false)
   from-member u v c l = ⊎_elim
       (λ (on : marked left v ≡ true). ⊎_elim
-        (λ (still : marked rest v ≡ true). absurd (unmarked rest u (t.gone u c) (t.closed u v l still)))
-        (λ (off : marked rest v ≡ false). inl (t.kept v on off))
-        (cases_Bool (marked rest v)))
+      (λ (still : marked rest v ≡ true). absurd (unmarked rest u (t.gone u c) (t.closed u v l still)))
+      (λ (off : marked rest v ≡ false). inl (t.kept v on off))
+      (cases_Bool (marked rest v)))
       (λ (off : marked left v ≡ false). inr off)
       (cases_Bool (marked left v))
 
@@ -131,19 +132,20 @@ module _ (targets : List (List ℕ)) (nodes : ℕ) (inside : (u v : ℕ) → Out
     same = λ a s. depth-member u c ∙ sym (depth-member a (t.whole u a c s));
     falls = λ a v s l. falls a v (t.whole u a c s) l;
     reached = ⊎_elim
-      (λ z. inl (depth-member u c ∙ z))
-      (λ r. let off = leaves r.0 r.1.0 r.1.1 r.1.2 r.2 in inr (r.1.0, r.0, t.together u r.1.0 c r.1.1, r.1.2, depth-member u c ∙ r.3 ∙ ap (λ k. k + 1) (sym (depth-settled r.0 off))))
-      n.is_height.reached;
+        (λ z. inl (depth-member u c ∙ z))
+        (λ r. let off = leaves r.0 r.1.0 r.1.1 r.1.2 r.2 in inr (r.1.0, r.0, t.together u r.1.0 c r.1.1, r.1.2, depth-member u c ∙ r.3 ∙ ap (λ k. k + 1) (sym (depth-settled r.0 off))))
+        n.is_height.reached;
   }
     where
       leaves : (v a : ℕ) → Contains members a → Out targets a v → slice_index new_least v ≢ n.root → marked left v ≡ false
       leaves v a d l ne = ⊎_elim (λ e. absurd (left-apart v ne e)) (λ off. off) (from-member a v d l)
+
       falls : (a v : ℕ) → Contains members a → Out targets a v → Together (Out targets) u v ⊎ (slice_index new_depth v < slice_index new_depth u)
       falls a v d l = ⊎_elim
           (λ e. inl (t.together u v c e))
           (λ off.
-            let lower = n.is_height.above v (a, d, l) (settled-apart v (inside a v l).1 off) in
-            inr (omega (arith, depth-settled v off, depth-member u c)))
+          let lower = n.is_height.above v (a, d, l) (settled-apart v (inside a v l).1 off) in
+          inr (omega (arith, depth-settled v off, depth-member u c)))
           (from-member a v d l)
 
   depths-settled : (u : ℕ) → u < nodes → marked left u ≡ false → IsDepth ℕ (Out targets) (slice_index new_depth) u
@@ -152,12 +154,12 @@ module _ (targets : List (List ℕ)) (nodes : ℕ) (inside : (u v : ℕ) → Out
       record {
         same = λ a s. depth-settled u off ∙ d.same a s ∙ sym (depth-settled a (settled-on u a s.0 off));
         falls = λ a v s l.
-          let a_off = settled-on u a s.0 off in
-          ⊎_elim (λ e. inl e) (λ (lower : slice_index depth v < slice_index depth u). inr (omega (arith, depth-settled u off, depth-settled v (settled-link a v l a_off)))) (d.falls a v s l);
+            let a_off = settled-on u a s.0 off in
+            ⊎_elim (λ e. inl e) (λ (lower : slice_index depth v < slice_index depth u). inr (omega (arith, depth-settled u off, depth-settled v (settled-link a v l a_off)))) (d.falls a v s l);
         reached = ⊎_elim
-          (λ z. inl (depth-settled u off ∙ z))
-          (λ r. let a_off = settled-on u r.0 r.2.0 off in inr (r.0, r.1, r.2, r.3, depth-settled u off ∙ r.4 ∙ ap (λ k. k + 1) (sym (depth-settled r.1 (settled-link r.0 r.1 r.3 a_off)))))
-          d.reached;
+            (λ z. inl (depth-settled u off ∙ z))
+            (λ r. let a_off = settled-on u r.0 r.2.0 off in inr (r.0, r.1, r.2, r.3, depth-settled u off ∙ r.4 ∙ ap (λ k. k + 1) (sym (depth-settled r.1 (settled-link r.0 r.1 r.3 a_off)))))
+            d.reached;
       }
 
   -- a node that isn't left is a member or was settled
@@ -195,16 +197,16 @@ module _ (targets : List (List ℕ)) (nodes : ℕ) (inside : (u v : ℕ) → Out
     depths = λ u below off. ⊎_elim (λ c. depths-member u c) (λ was. depths-settled u below was) (settled-cases u off);
     low = low-all;
     small = λ u below. ⊎_elim
-      (λ (on : marked rest u ≡ true). let same = n.depth_is.kept u 0 (still-outside u on) in omega (arith, old.small u below))
-      (λ (off : marked rest u ≡ false). let lower = low-all u below off in omega arith)
-      (cases_Bool (marked rest u));
+        (λ (on : marked rest u ≡ true). let same = n.depth_is.kept u 0 (still-outside u on) in omega (arith, old.small u below))
+        (λ (off : marked rest u ≡ false). let lower = low-all u below off in omega arith)
+        (cases_Bool (marked rest u));
     inside = λ u below. ⊎_elim
-      (λ (on : marked rest u ≡ true). let same = n.least_is.kept u 0 (still-outside u on) in omega (arith, old.inside u below))
-      (λ (off : marked rest u ≡ false). ⊎_elim
+        (λ (on : marked rest u ≡ true). let same = n.least_is.kept u 0 (still-outside u on) in omega (arith, old.inside u below))
+        (λ (off : marked rest u ≡ false). ⊎_elim
         (λ c. let root = member-inside n.root n.is_member in omega (arith, least-member u c))
         (λ was. omega (arith, least-settled u was, old.inside u below))
         (settled-cases u off))
-      (cases_Bool (marked rest u));
+        (cases_Bool (marked rest u));
   }
 
 -- ---- at the start and at the end
@@ -228,6 +230,7 @@ named-none targets nodes left ahead least depth inside l a m d = record {
   where
     is_left : (u : ℕ) → u < nodes → IsMarked left u
     is_left u below = ap (λ marks. marked marks u) l ∙ get_or-replicate nodes u true false below
+
     zeros : (u : ℕ) → u < nodes → slice_index (replicate nodes 0) u ≡ 0
     zeros u below = get_or-replicate nodes u 0 0 below
 

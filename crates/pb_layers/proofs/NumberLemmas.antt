@@ -1,5 +1,5 @@
 -- The numbers of layers.
-use Rattle.std.proofs.Common.{◌≡◌, ◌≢◌, ◌⊎◌, ◌↔◌, ◌∙◌, refl, sym, ap, subst, inl, inr, ⊎_elim, ℕ, ◌+◌, ◌<◌, ◌≤◌, Bool, true, false, Option, Some, None, List, [], ◌∷◌, length, map, take, get_or, slice_index, slice_index_or, arith}
+use Rattle.std.proofs.Common.{◌≡◌, ◌≢◌, ◌⊎◌, ◌∙◌, refl, sym, ap, subst, inl, inr, ⊎_elim, ℕ, ◌+◌, ◌<◌, ◌≤◌, true, Option, Some, None, List, [], length, map, take, get_or, slice_index, slice_index_or, arith}
 use Rattle.std.proofs.Math.ListN.{set, length-set}
 use Rattle.std.specs.List.{All, Contains}
 use Rattle.std.proofs.lemmas.Bool.{cases_eq, cases_order, false≢true}
@@ -8,8 +8,8 @@ use Rattle.std.proofs.lemmas.List.Elements.{All-contains}
 use Rattle.pb_layers.specs.declared.keys.Key.{Key}
 use Rattle.pb_layers.specs.declared.layers.Layer.{Layer}
 use Rattle.pb_layers.specs.declared.link.Edge.{Edge}
-use Rattle.pb_layers.specs.Layers.{EdgeInside, LayersValue, inner_at, list_at, no_layer}
-use Rattle.pb_layers.specs.Numbers.{AreKeys, AreMarked, AreNumbered, ArePlaces, HaveLists, IsBefore, IsRising, key_at}
+use Rattle.pb_layers.specs.Layers.{EdgeInside, inner_at, list_at, no_layer}
+use Rattle.pb_layers.specs.Numbers.{AreKeys, AreMarked, AreNumbered, ArePlaces, HaveLists, IsRising, key_at}
 use Rattle.pb_layers.proofs.ListLemmas.{contains-more_cases, contains-more_new, contains-more_old, contains-nil}
 
 -- ---- layers with an edge inside
@@ -28,19 +28,21 @@ module _ (edges : List Edge) (layer : List ℕ) (old : List Layer) (i : ℕ) (d 
       subst P (sym e) (record {
         room = length-set layers place marked_layer ∙ m.room;
         list = λ k. ⊎_elim
-          (λ (same : k ≡ place). ap (λ p. (get_or (set layers place marked_layer) p no_layer).list) same ∙ ap (λ (l : Layer). l.list) (get_or-set_same layers place marked_layer no_layer inside) ∙ ap (λ (l : Layer). l.list) (is ∙ get_or_default layers place held no_layer inside) ∙ ap (list_at layers) (sym same) ∙ m.list k)
-          (λ (ne : k ≢ place). ap (λ (l : Layer). l.list) (get_or-set_other layers place k marked_layer no_layer ne) ∙ m.list k)
-          (cases_eq k place);
+            (λ (same : k ≡ place). ap (λ p. (get_or (set layers place marked_layer) p no_layer).list) same ∙ ap (λ (l : Layer). l.list) (get_or-set_same layers place marked_layer no_layer inside) ∙ ap (λ (l : Layer). l.list) (is ∙ get_or_default layers place held no_layer inside) ∙ ap (list_at layers) (sym same) ∙ m.list k)
+            (λ (ne : k ≢ place). ap (λ (l : Layer). l.list) (get_or-set_other layers place k marked_layer no_layer ne) ∙ m.list k)
+            (cases_eq k place);
         inner = λ k low. (there k low, back k low);
       })
     where
       marked_layer : Layer
       marked_layer = record held { inner = true }
+
       there : (k : ℕ) → k < length old → inner_at (set layers place marked_layer) k ≡ true → (inner_at old k ≡ true) ⊎ ((e : Edge) × Contains (take (i + 1) edges) e × (slice_index layer e.reader ≡ k) × (slice_index layer e.source ≡ k))
       there k low on = ⊎_elim
           (λ (same : k ≡ place). inr (get_or edges i d, contains-more_new edges i d below, sym reader ∙ sym same, sym source ∙ sym same))
           (λ (ne : k ≢ place). ⊎_elim (λ h. inl h) (λ e. inr (e.0, contains-more_old edges i d below e.0 e.1, e.2, e.3)) ((m.inner k low).0 (sym (ap (λ (l : Layer). l.inner) (get_or-set_other layers place k marked_layer no_layer ne)) ∙ on)))
           (cases_eq k place)
+
       back : (k : ℕ) → k < length old → ((inner_at old k ≡ true) ⊎ ((e : Edge) × Contains (take (i + 1) edges) e × (slice_index layer e.reader ≡ k) × (slice_index layer e.source ≡ k))) → inner_at (set layers place marked_layer) k ≡ true
       back k low h = ⊎_elim
           (λ (same : k ≡ place). ap (λ p. (get_or (set layers place marked_layer) p no_layer).inner) same ∙ ap (λ (l : Layer). l.inner) (get_or-set_same layers place marked_layer no_layer inside))
@@ -53,9 +55,10 @@ module _ (edges : List Edge) (layer : List ℕ) (old : List Layer) (i : ℕ) (d 
       subst P (sym e) (record {
         room = m.room;
         list = m.list;
-        inner = λ k low.
-          (λ on. ⊎_elim (λ h. inl h) (λ e. inr (e.0, contains-more_old edges i d below e.0 e.1, e.2, e.3)) ((m.inner k low).0 on),
-           λ h. (m.inner k low).1 (⊎_elim (λ on. inl on) (λ e. ⊎_elim (λ c. inr (e.0, c, e.2, e.3)) (λ (same : get_or edges i d ≡ e.0). absurd (source (reader ∙ ap (λ (f : Edge). slice_index layer f.reader) same ∙ e.2 ∙ sym e.3 ∙ ap (λ (f : Edge). slice_index layer f.source) (sym same)))) (contains-more_cases edges i d below e.0 e.1)) h));
+        inner = λ k low. (
+          λ on. ⊎_elim (λ h. inl h) (λ e. inr (e.0, contains-more_old edges i d below e.0 e.1, e.2, e.3)) ((m.inner k low).0 on),
+          λ h. (m.inner k low).1 (⊎_elim (λ on. inl on) (λ e. ⊎_elim (λ c. inr (e.0, c, e.2, e.3)) (λ (same : get_or edges i d ≡ e.0). absurd (source (reader ∙ ap (λ (f : Edge). slice_index layer f.reader) same ∙ e.2 ∙ sym e.3 ∙ ap (λ (f : Edge). slice_index layer f.source) (sym same)))) (contains-more_cases edges i d below e.0 e.1)) h),
+        );
       })
 
 pub marked-all : (edges : List Edge) (layer : List ℕ) (old new : List Layer) (n : ℕ) → length edges ≤ n → AreMarked (take n edges) layer old new → AreMarked edges layer old new
@@ -89,12 +92,12 @@ module _ (edges : List Edge) (nodes : ℕ) (least depth : List ℕ) (lists : Lis
   before-back : (u v : ℕ) → u < nodes → v < nodes → ((slice_index depth (slice_index least u) < slice_index depth (slice_index least v)) ⊎ ((slice_index depth (slice_index least u) ≡ slice_index depth (slice_index least v)) × (slice_index least u < slice_index least v))) → slice_index layer u < slice_index layer v
   before-back u v u_in v_in h = ⊎_elim
       (λ (e : slice_index layer u ≡ slice_index layer v).
-        let at = place-of u u_in in
-        let to = place-of v v_in in
-        let same : at.0 ≡ to.0 = sym at.3 ∙ e ∙ to.3 in
-        let root : slice_index least u ≡ slice_index least v = sym at.2 ∙ ap (λ q. (key_at keys q).root) same ∙ to.2 in
-        let deep = ap (slice_index depth) root in
-        absurd (⊎_elim (λ d. omega arith) (λ d. omega (arith, d.1)) h))
+      let at = place-of u u_in in
+      let to = place-of v v_in in
+      let same : at.0 ≡ to.0 = sym at.3 ∙ e ∙ to.3 in
+      let root : slice_index least u ≡ slice_index least v = sym at.2 ∙ ap (λ q. (key_at keys q).root) same ∙ to.2 in
+      let deep = ap (slice_index depth) root in
+      absurd (⊎_elim (λ d. omega arith) (λ d. omega (arith, d.1)) h))
       (λ o. ⊎_elim (λ less. less) (λ (more : slice_index layer v < slice_index layer u). absurd (clash h (before-there v u v_in u_in more))) o)
       (cases_order (slice_index layer u) (slice_index layer v))
     where
@@ -126,18 +129,19 @@ module _ (edges : List Edge) (nodes : ℕ) (least depth : List ℕ) (lists : Lis
       rising = λ u v u_in v_in. (before-there u v u_in v_in, before-back u v u_in v_in);
       numbered = λ u below. let at = place-of u below in omega (arith, at.1, at.3, m.room, l.room);
       no_gap = λ place below.
-        let in_keys : place < length keys = omega (arith, m.room, l.room) in
-        let each = k.each place in_keys in
-        let at = place-of (key_at keys place).root each.0 in
-        ((key_at keys place).root, each.0, at.3 ∙ k.apart at.0 place at.1 in_keys (at.2 ∙ each.1));
+          let in_keys : place < length keys = omega (arith, m.room, l.room) in
+          let each = k.each place in_keys in
+          let at = place-of (key_at keys place).root each.0 in
+          ((key_at keys place).root, each.0, at.3 ∙ k.apart at.0 place at.1 in_keys (at.2 ∙ each.1));
       list = λ u below.
-        let at = place-of u below in
-        ap (λ r. slice_index_or lists r None) (sym at.2) ∙ l.list at.0 at.1 ∙ ap Some (sym (ap (list_at layers) at.3 ∙ m.list at.0));
+          let at = place-of u below in
+          ap (λ r. slice_index_or lists r None) (sym at.2) ∙ l.list at.0 at.1 ∙ ap Some (sym (ap (list_at layers) at.3 ∙ m.list at.0));
       inner = λ u below.
-        let at = place-of u below in
-        let here : slice_index layer u < length bare = omega (arith, at.1, at.3, l.room) in
-        (λ on. ⊎_elim (λ (never : inner_at bare (slice_index layer u) ≡ true). absurd (false≢true (sym (l.bare (slice_index layer u)) ∙ never))) (λ e. let in_e = edge-inside e.0 e.1 in (e.0, e.1, layer-root e.0.reader u in_e.0 below e.2, layer-root e.0.source u in_e.1 below e.3)) ((m.inner (slice_index layer u) here).0 on),
-         λ e. let in_e = edge-inside e.0 e.1 in (m.inner (slice_index layer u) here).1 (inr (e.0, e.1, root-layer e.0.reader u in_e.0 below e.2, root-layer e.0.source u in_e.1 below e.3)));
+          let at = place-of u below in
+          let here : slice_index layer u < length bare = omega (arith, at.1, at.3, l.room) in (
+            λ on. ⊎_elim (λ (never : inner_at bare (slice_index layer u) ≡ true). absurd (false≢true (sym (l.bare (slice_index layer u)) ∙ never))) (λ e. let in_e = edge-inside e.0 e.1 in (e.0, e.1, layer-root e.0.reader u in_e.0 below e.2, layer-root e.0.source u in_e.1 below e.3)) ((m.inner (slice_index layer u) here).0 on),
+            λ e. let in_e = edge-inside e.0 e.1 in (m.inner (slice_index layer u) here).1 (inr (e.0, e.1, root-layer e.0.reader u in_e.0 below e.2, root-layer e.0.source u in_e.1 below e.3)),
+          );
     }
 
 -- the same from what the code has

@@ -1,14 +1,14 @@
 -- Nodes that are visited, and what links lead to.
-use Rattle.std.proofs.Common.{◌≡◌, ◌≢◌, ◌⊎◌, ◌∙◌, refl, sym, ap, subst, inl, inr, ⊎_elim, ℕ, ◌+◌, ◌-◌, ◌<◌, ◌≤◌, Bool, true, false, List, [], ◌∷◌, ◌++◌, length, take, get_or, slice_index, arith}
+use Rattle.std.proofs.Common.{◌≡◌, ◌≢◌, ◌∙◌, refl, sym, ap, subst, inl, inr, ⊎_elim, ℕ, ◌+◌, ◌<◌, ◌≤◌, Bool, true, false, List, [], ◌∷◌, ◌++◌, length, take, get_or, slice_index, arith}
 use Rattle.std.proofs.Math.ListN.{set, length-set}
 use Rattle.std.specs.List.{Contains}
-use Rattle.std.proofs.lemmas.Bool.{cases_Bool, cases_eq, cases_lt, false≢true}
+use Rattle.std.proofs.lemmas.Bool.{cases_Bool, cases_eq, false≢true}
 use Rattle.std.proofs.lemmas.List.{get_or_append_left, get_or_read, length_push, take_all, take_more}
 use Rattle.std.proofs.lemmas.List.Elements.{Contains-append_cases, Contains-append_left, Contains-get_or, Contains-append_right, Contains-push, Contains-push_cases}
 use Rattle.pb_base.specs.Reach.{Reach}
 use Rattle.pb_base.specs.Reach.Reach.{here}
 use Rattle.pb_base.proofs.ReachLemmas.{reach-link, reach-trans}
-use Rattle.pb_layers.specs.Graphs.{IsMarked, IsReached, IsVisited, Out, count, marked}
+use Rattle.pb_layers.specs.Graphs.{IsMarked, IsReached, IsVisited, Out, marked}
 use Rattle.pb_layers.proofs.ListLemmas.{contains-here, contains-nil, contains-one, contains-read, count-unset, mark-set_other, mark-set_same, marked-inside}
 
 -- ---- one node
@@ -97,6 +97,7 @@ start-of Leads within rest start found is p = record {
   where
     only : (v : ℕ) → Contains found v → start ≡ v
     only v c = ⊎_elim (λ (h : Contains [] v). absurd (contains-nil v h)) (λ (m : IsMarked within v × Contains (start ∷ []) v). contains-one start v m.1) (p.new v c)
+
     at_start : (P : ℕ → Type 0) (v : ℕ) → start ≡ v → P start → P v
     at_start P v e h = subst P e h
 
@@ -115,13 +116,14 @@ reached-more targets within rest more start k found further below r p = record {
   fewer = λ v h. r.fewer v (p.fewer v h);
   kept = λ v h unmarked. ⊎_elim (λ (on : marked rest v ≡ true). p.kept v on unmarked) (λ (was : marked rest v ≡ false). p.old v (r.kept v h was)) (cases_Bool (marked rest v));
   closed = λ j v lower l. ⊎_elim
-    (λ (e : j ≡ k). let P : ℕ → Type 0 = λ u. Out targets u v in p.gone v (subst P (p.same j (omega arith) ∙ ap (slice_index found) e) l))
-    (λ (ne : j ≢ k). let P : ℕ → Type 0 = λ u. Out targets u v in off v (r.closed j v (omega arith) (subst P (p.same j (omega arith)) l)))
-    (cases_eq j k);
+      (λ (e : j ≡ k). let P : ℕ → Type 0 = λ u. Out targets u v in p.gone v (subst P (p.same j (omega arith) ∙ ap (slice_index found) e) l))
+      (λ (ne : j ≢ k). let P : ℕ → Type 0 = λ u. Out targets u v in off v (r.closed j v (omega arith) (subst P (p.same j (omega arith)) l)))
+      (cases_eq j k);
 }
   where
     here_found : Contains found (get_or found k 0)
     here_found = Contains-get_or found k 0 below
+
     off : (v : ℕ) → marked rest v ≡ false → marked more v ≡ false
     off v unmarked = ⊎_elim (λ (on : marked more v ≡ true). absurd (false≢true (sym unmarked ∙ p.fewer v on))) (λ h. h) (cases_Bool (marked more v))
 

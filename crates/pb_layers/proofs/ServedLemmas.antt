@@ -1,5 +1,5 @@
 -- The lists that serve components.
-use Rattle.std.proofs.Common.{◌≡◌, ◌≢◌, ◌⊎◌, ◌↔◌, ◌∙◌, refl, sym, ap, subst, inl, inr, ⊎_elim, ℕ, zero, suc, ◌+◌, ◌<◌, ◌≤◌, Bool, true, false, Option, Some, None, List, [], ◌∷◌, ◌++◌, length, take, get_or, slice_index, slice_index_or, arith}
+use Rattle.std.proofs.Common.{◌≡◌, ◌≢◌, ◌⊎◌, ◌↔◌, ◌∙◌, refl, sym, ap, subst, ⊎_elim, ℕ, ◌+◌, ◌<◌, ◌≤◌, Bool, true, false, Option, Some, None, List, [], ◌∷◌, ◌++◌, length, take, get_or, slice_index, slice_index_or, arith}
 use Rattle.std.proofs.Math.ListN.{set, length-set}
 use Rattle.std.specs.List.{All, Contains}
 use Rattle.std.proofs.lemmas.Bool.{cases_Bool, cases_eq, cases_lt, false≢true}
@@ -17,10 +17,10 @@ module _ (edges : List Edge) (least : List ℕ) (list i : ℕ) (d : Edge) (below
   serves-next root other s e c reader source = ⊎_elim
       (λ k. s e k reader source)
       (λ (is : get_or edges i d ≡ e).
-        let P : Edge → Type 0 = λ k. slice_index_or k.serves list false ≡ true in
-        let here_reader : slice_index least (get_or edges i d).reader ≡ root = ap (λ (k : Edge). slice_index least k.reader) is ∙ reader in
-        let here_source : slice_index least (get_or edges i d).source ≡ root = ap (λ (k : Edge). slice_index least k.source) is ∙ source in
-        subst P is (by_test here_reader here_source (cases_Bool (slice_index_or (get_or edges i d).serves list false))))
+      let P : Edge → Type 0 = λ k. slice_index_or k.serves list false ≡ true in
+      let here_reader : slice_index least (get_or edges i d).reader ≡ root = ap (λ (k : Edge). slice_index least k.reader) is ∙ reader in
+      let here_source : slice_index least (get_or edges i d).source ≡ root = ap (λ (k : Edge). slice_index least k.source) is ∙ source in
+      subst P is (by_test here_reader here_source (cases_Bool (slice_index_or (get_or edges i d).serves list false))))
       (contains-more_cases edges i d below e c)
     where
       by_test : slice_index least (get_or edges i d).reader ≡ root → slice_index least (get_or edges i d).source ≡ root → (slice_index_or (get_or edges i d).serves list false ≡ true) ⊎ (slice_index_or (get_or edges i d).serves list false ≡ false) → slice_index_or (get_or edges i d).serves list false ≡ true
@@ -41,6 +41,7 @@ module _ (edges : List Edge) (least : List ℕ) (list i : ℕ) (d : Edge) (below
           (λ (e : root ≡ slice_index least (get_or edges i d).reader). absurd (false≢true (sym (ap (marked (set served (slice_index least (get_or edges i d).reader) false)) e ∙ mark-set_same served (slice_index least (get_or edges i d).reader) false inside) ∙ on)))
           (λ ne. serves-next root (λ s e. ne (sym e)) ((a.is root low).0 (sym (mark-set_other served (slice_index least (get_or edges i d).reader) root false ne) ∙ on)))
           (cases_eq root (slice_index least (get_or edges i d).reader))
+
       back : (root : ℕ) → root < length least → ServesRoot (take (i + 1) edges) least root list → IsMarked (set served (slice_index least (get_or edges i d).reader) false) root
       back root low s = ⊎_elim
           (λ (e : root ≡ slice_index least (get_or edges i d).reader). absurd (false≢true (sym spoils.1 ∙ s (get_or edges i d) (contains-more_new edges i d below) (sym e) (sym spoils.0 ∙ sym e))))
@@ -50,9 +51,9 @@ module _ (edges : List Edge) (least : List ℕ) (list i : ℕ) (d : Edge) (below
   pub served-hit : (served next : List Bool) → next ≡ set served (slice_index least (get_or edges i d).reader) false → All (EdgeInside (length least)) edges → All (λ v. v < length least) least → Spoils least list (get_or edges i d) → AreServed (take i edges) least list served →
       AreServed (take (i + 1) edges) least list next
   served-hit served next is inside low spoils a =
-    let here = inside i d below in
-    let root = low (get_or edges i d).reader 0 here.0 in
-    let P : List Bool → Type 0 = λ l. AreServed (take (i + 1) edges) least list l in subst P (sym is) (hit served spoils (omega (arith, a.room)) a)
+      let here = inside i d below in
+      let root = low (get_or edges i d).reader 0 here.0 in
+      let P : List Bool → Type 0 = λ l. AreServed (take (i + 1) edges) least list l in subst P (sym is) (hit served spoils (omega (arith, a.room)) a)
 
   pub served-miss : (served same : List Bool) → same ≡ served → (Spoils least list (get_or edges i d) → ⊥) → AreServed (take i edges) least list served → AreServed (take (i + 1) edges) least list same
   served-miss served same e fine a =
@@ -76,9 +77,9 @@ pub lists-more : (edges : List Edge) (least : List ℕ) (bound : ℕ) (old new :
 lists-more edges least bound old new served other f s same room is = record {
   room = room ∙ f.room;
   is = λ root low.
-    let P : Option ℕ → Type 0 = λ o. IsFirstList edges least root (bound + 1) o in
-    let e = is root (omega (arith, f.room)) ∙ ap (λ m. chosen bound (slice_index_or old root None) (marked m root)) same in
-    subst P (sym e) (first-more edges least root bound (slice_index_or old root None) (marked other root) (f.is root low) (s.is root low));
+      let P : Option ℕ → Type 0 = λ o. IsFirstList edges least root (bound + 1) o in
+      let e = is root (omega (arith, f.room)) ∙ ap (λ m. chosen bound (slice_index_or old root None) (marked m root)) same in
+      subst P (sym e) (first-more edges least root bound (slice_index_or old root None) (marked other root) (f.is root low) (s.is root low));
 }
 
 pub served-all : (edges : List Edge) (least : List ℕ) (list n : ℕ) (served : List Bool) → length edges ≤ n → AreServed (take n edges) least list served → AreServed edges least list served
@@ -89,25 +90,27 @@ pub members-push : (least : List ℕ) (root node : ℕ) (old new : List ℕ) →
 members-push least root node old new at is m =
     let P : List ℕ → Type 0 = λ l. AreMembers least root (node + 1) l in
     subst P (sym is) (record {
-      each = λ v.
-        (λ c. ⊎_elim (λ k. let h = (m.each v).0 k in (omega arith, h.1)) (λ (e : node ≡ v). (omega arith, ap (slice_index least) (sym e) ∙ at)) (Contains-push_cases old node v c),
-         λ h. ⊎_elim (λ (e : v ≡ node). let Q : ℕ → Type 0 = λ w. Contains (old ++ node ∷ []) w in subst Q (sym e) (Contains-push old node)) (λ (ne : v ≢ node). Contains-append_left old (node ∷ []) v ((m.each v).1 (omega (arith, h.0), h.1))) (cases_eq v node));
+      each = λ v. (
+        λ c. ⊎_elim (λ k. let h = (m.each v).0 k in (omega arith, h.1)) (λ (e : node ≡ v). (omega arith, ap (slice_index least) (sym e) ∙ at)) (Contains-push_cases old node v c),
+        λ h. ⊎_elim (λ (e : v ≡ node). let Q : ℕ → Type 0 = λ w. Contains (old ++ node ∷ []) w in subst Q (sym e) (Contains-push old node)) (λ (ne : v ≢ node). Contains-append_left old (node ∷ []) v ((m.each v).1 (omega (arith, h.0), h.1))) (cases_eq v node),
+      );
       rises = λ i j before low. ⊎_elim
-        (λ (short : j < length old). let r = m.rises i j before short in omega (arith, get_or_append_left old (node ∷ []) 0 i (omega arith), get_or_append_left old (node ∷ []) 0 j short))
-        (λ (last : length old ≤ j).
+          (λ (short : j < length old). let r = m.rises i j before short in omega (arith, get_or_append_left old (node ∷ []) 0 i (omega arith), get_or_append_left old (node ∷ []) 0 j short))
+          (λ (last : length old ≤ j).
           let size = length_push old node in
           let here : i < length old = omega arith in
           let lower = (m.each (get_or old i 0)).0 (Contains-get_or old i 0 here) in
           omega (arith, lower.0, get_or_append_left old (node ∷ []) 0 i here, get_or_push old node 0 j (omega arith)))
-        (cases_lt j (length old));
+          (cases_lt j (length old));
     })
 
 pub members-pass : (least : List ℕ) (root node : ℕ) (old same : List ℕ) → slice_index least node ≢ root → same ≡ old → AreMembers least root node old → AreMembers least root (node + 1) same
 members-pass least root node old same ne is m =
     let P : List ℕ → Type 0 = λ l. AreMembers least root (node + 1) l in
     subst P (sym is) (record {
-      each = λ v.
-        (λ c. let h = (m.each v).0 c in (omega (arith, h.0), h.1),
-         λ h. ⊎_elim (λ (e : v ≡ node). absurd (ne (ap (slice_index least) (sym e) ∙ h.1))) (λ (other : v ≢ node). (m.each v).1 (omega (arith, h.0), h.1)) (cases_eq v node));
+      each = λ v. (
+        λ c. let h = (m.each v).0 c in (omega (arith, h.0), h.1),
+        λ h. ⊎_elim (λ (e : v ≡ node). absurd (ne (ap (slice_index least) (sym e) ∙ h.1))) (λ (other : v ≢ node). (m.each v).1 (omega (arith, h.0), h.1)) (cases_eq v node),
+      );
       rises = m.rises;
     })

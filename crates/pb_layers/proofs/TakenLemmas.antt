@@ -1,13 +1,13 @@
 -- There and back within what is left.
-use Rattle.std.proofs.Common.{◌≡◌, ◌≢◌, ◌⊎◌, ◌↔◌, ◌∙◌, refl, sym, ap, subst, inl, inr, ⊎_elim, ℕ, ◌+◌, ◌<◌, ◌≤◌, Bool, true, false, List, [], ◌∷◌, length, get_or, slice_index, arith}
+use Rattle.std.proofs.Common.{◌≡◌, ◌∙◌, sym, subst, ⊎_elim, ℕ, ◌<◌, Bool, true, false, List, length, get_or, slice_index, arith}
 use Rattle.std.specs.List.{All, Contains}
 use Rattle.std.proofs.lemmas.Bool.{cases_Bool, false≢true}
 use Rattle.std.proofs.lemmas.List.{get_or_default}
 use Rattle.std.proofs.lemmas.List.Elements.{All-contains, Contains-get_or}
 use Rattle.pb_base.specs.Reach.{Reach, Together}
 use Rattle.pb_base.specs.Reach.Reach.{here, along}
-use Rattle.pb_base.proofs.ReachLemmas.{reach-keeps_back, reach-link, reach-trans, reach-turned, together-sym, together-trans}
-use Rattle.pb_layers.specs.Graphs.{IsFilled, IsMarked, IsReached, Out, count, marked}
+use Rattle.pb_base.proofs.ReachLemmas.{reach-keeps_back, reach-trans, reach-turned, together-sym, together-trans}
+use Rattle.pb_layers.specs.Graphs.{IsFilled, IsMarked, IsReached, Out, marked}
 use Rattle.pb_layers.specs.Components.{IsClosed, IsTaken, IsTurned, NoneMarked}
 use Rattle.pb_layers.proofs.ListLemmas.{contains-some, count-less, marked-inside, marks-same}
 
@@ -49,9 +49,9 @@ module _ (down up : List (List ℕ)) (nodes : ℕ) (turned : IsTurned nodes down
     there-ahead v on = ⊎_elim
         (λ (is : marked rest v ≡ true). absurd (not-both ahead v (filled.kept v false (λ c. not-both rest v (r.gone v c) is) ∙ none v) on))
         (λ (off : marked rest v ≡ false). ⊎_elim
-          (λ (is : marked left v ≡ true). r.kept v is off)
-          (λ (out : marked left v ≡ false). absurd (not-both ahead v (filled.kept v false (λ c. not-both left v out (r.taken v c)) ∙ none v) on))
-          (cases_Bool (marked left v)))
+        (λ (is : marked left v ≡ true). r.kept v is off)
+        (λ (out : marked left v ≡ false). absurd (not-both ahead v (filled.kept v false (λ c. not-both left v out (r.taken v c)) ∙ none v) on))
+        (cases_Bool (marked left v)))
         (cases_Bool (marked rest v))
 
     leads-back : (v : ℕ) → Contains back v → Reach ℕ (Out down) v from
@@ -91,11 +91,11 @@ module _ (down up : List (List ℕ)) (nodes : ℕ) (turned : IsTurned nodes down
       fewer = r.fewer;
       kept = λ v on off. there-back v (r.kept v on off);
       closed = λ u v l on. ⊎_elim
-        (λ (is : marked rest u ≡ true). is)
-        (λ (off : marked rest u ≡ false).
+          (λ (is : marked rest u ≡ true). is)
+          (λ (off : marked rest u ≡ false).
           let was = closed u v l (r.fewer v on) in
           absurd (not-both rest v (r.gone v (found-next (Out down) left rest from there r u v (r.kept u was off) l (r.fewer v on))) on))
-        (cases_Bool (marked rest u));
+          (cases_Bool (marked rest u));
     }
       where
         there-back : (v : ℕ) → Contains there v → Contains back v
@@ -109,13 +109,14 @@ module _ (down up : List (List ℕ)) (nodes : ℕ) (turned : IsTurned nodes down
     clear-again new f = λ v. unmarked new v (λ on. ⊎_elim
         (λ (is : marked rest v ≡ true). out v on (λ c. not-both rest v (r.gone v c) is))
         (λ (off : marked rest v ≡ false). ⊎_elim
-          (λ (is : marked left v ≡ true). let c = r.kept v is off in not-both new v (f.written v false (inside v c) c) on)
-          (λ (never : marked left v ≡ false). out v on (λ c. not-both left v never (r.taken v c)))
-          (cases_Bool (marked left v)))
+        (λ (is : marked left v ≡ true). let c = r.kept v is off in not-both new v (f.written v false (inside v c) c) on)
+        (λ (never : marked left v ≡ false). out v on (λ c. not-both left v never (r.taken v c)))
+        (cases_Bool (marked left v)))
         (cases_Bool (marked rest v)))
       where
         inside : (v : ℕ) → Contains there v → v < length after
         inside v c = let below = marked-inside left v (r.taken v c) in omega (arith, b.room, filled.room, room)
+
         out : (v : ℕ) → IsMarked new v → (Contains there v → ⊥) → ⊥
         out v on no_there = no_there (there-ahead v (b.fewer v (sym (f.kept v false no_there) ∙ on)))
 
@@ -123,16 +124,16 @@ module _ (down up : List (List ℕ)) (nodes : ℕ) (turned : IsTurned nodes down
     pub left-again : (new : List Bool) → IsFilled Bool rest new there true → new ≡ left
     left-again new f = marks-same new left (f.room ∙ r.room)
         (λ v on. ⊎_elim
-          (λ (is : marked rest v ≡ true). r.fewer v is)
-          (λ (off : marked rest v ≡ false). ⊎_elim
-            (λ (is : marked left v ≡ true). is)
-            (λ (never : marked left v ≡ false). absurd (not-both new v (f.kept v false (λ c. not-both left v never (r.taken v c)) ∙ off) on))
-            (cases_Bool (marked left v)))
-          (cases_Bool (marked rest v)))
+        (λ (is : marked rest v ≡ true). r.fewer v is)
+        (λ (off : marked rest v ≡ false). ⊎_elim
+        (λ (is : marked left v ≡ true). is)
+        (λ (never : marked left v ≡ false). absurd (not-both new v (f.kept v false (λ c. not-both left v never (r.taken v c)) ∙ off) on))
+        (cases_Bool (marked left v)))
+        (cases_Bool (marked rest v)))
         (λ v on. ⊎_elim
-          (λ (is : marked rest v ≡ true). f.kept v false (λ c. not-both rest v (r.gone v c) is) ∙ is)
-          (λ (off : marked rest v ≡ false). let below = marked-inside left v on in f.written v false (omega (arith, r.room)) (r.kept v on off))
-          (cases_Bool (marked rest v)))
+        (λ (is : marked rest v ≡ true). f.kept v false (λ c. not-both rest v (r.gone v c) is) ∙ is)
+        (λ (off : marked rest v ≡ false). let below = marked-inside left v on in f.written v false (omega (arith, r.room)) (r.kept v on off))
+        (cases_Bool (marked rest v)))
 
     -- fewer nodes are there from a node that doesn't lead back
     pub there-fewer : (other : ℕ) (rest' : List Bool) (there' : List ℕ) → Contains there other → IsMarked after other → IsReached (Out down) left other (length there') rest' there' → length there' < length there
@@ -143,14 +144,15 @@ module _ (down up : List (List ℕ)) (nodes : ℕ) (turned : IsTurned nodes down
         fewer : (w : ℕ) → IsMarked rest w → IsMarked rest' w
         fewer w is = ⊎_elim (λ (h : marked rest' w ≡ true). h)
             (λ (off : marked rest' w ≡ false).
-              let d = s.kept w (r.fewer w is) off in
-              absurd (not-both rest w (r.gone w (there-all w (reach-trans (Out down) from other w (r.reach other c) (s.reach w d)) (r.fewer w is))) is))
+            let d = s.kept w (r.fewer w is) off in
+            absurd (not-both rest w (r.gone w (there-all w (reach-trans (Out down) from other w (r.reach other c) (s.reach w d)) (r.fewer w is))) is))
             (cases_Bool (marked rest' w))
+
         from_left : IsMarked rest' from
         from_left = ⊎_elim (λ (h : marked rest' from ≡ true). h)
             (λ (off : marked rest' from ≡ false).
-              let d = s.kept from (r.taken from r.started) off in
-              absurd (not-both after other (b.gone other (back-all other c (s.reach from d))) on))
+            let d = s.kept from (r.taken from r.started) off in
+            absurd (not-both after other (b.gone other (back-all other c (s.reach from d))) on))
             (cases_Bool (marked rest' from))
 
 -- ---- the steps of the search, as the code has them

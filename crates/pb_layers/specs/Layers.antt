@@ -1,6 +1,6 @@
 -- The order that is used, and why there is none.
-use Rattle.std.specs.Prelude.{◌≡◌, ℕ, ◌<◌, ◌≤◌, ◌⊎◌, ◌↔◌, Bool, true, false, List, length, slice_index, slice_index_or}
-use Rattle.std.specs.List.{All, Contains}
+use Rattle.std.specs.Prelude.{◌≡◌, ℕ, ◌<◌, ◌⊎◌, ◌↔◌, Bool, true, false, List, length, slice_index, slice_index_or}
+use Rattle.std.specs.List.{Contains}
 use Rattle.pb_base.specs.Reach.{Together}
 use Rattle.pb_layers.specs.Orders.{Graph, IsDepth, IsInner, IsLeastMember, Leads, OrderExists, ServesAll}
 use Rattle.pb_layers.specs.declared.link.Edge.{Edge}

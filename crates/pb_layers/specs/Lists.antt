@@ -1,5 +1,5 @@
 -- The lists that serve the edges inside components.
-use Rattle.std.specs.Prelude.{◌≡◌, ℕ, ◌<◌, ◌≤◌, ◌↔◌, Bool, true, false, Option, Some, None, IsSome, List, length, slice_index, slice_index_or}
+use Rattle.std.specs.Prelude.{◌≡◌, ℕ, ◌<◌, ◌↔◌, Bool, true, false, Option, Some, None, IsSome, List, length, slice_index, slice_index_or}
 use Rattle.std.specs.List.{Contains}
 use Rattle.pb_layers.specs.declared.link.Edge.{Edge}
 use Rattle.pb_layers.specs.Graphs.{IsMarked}

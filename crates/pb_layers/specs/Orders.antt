@@ -1,6 +1,6 @@
 -- Orders of nodes in layers, and strong components. Nothing here speaks of code.
 use Rattle.std.specs.Prelude.{◌≡◌, ℕ, ◌+◌, ◌<◌, ◌≤◌, ◌⊎◌}
-use Rattle.pb_base.specs.Reach.{Reach, Together}
+use Rattle.pb_base.specs.Reach.{Together}
 
 -- nodes, edges and lists: which edges there are, which nodes must share a layer, and which lists serve an edge
 pub record Graph (N E L : Type 0) : Type 1 where

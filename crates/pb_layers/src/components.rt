@@ -78,7 +78,13 @@ fn height(targets: &[Targets], members: &[u32], least: &[u32], depth: &[u32], ro
 {
     let mut height = 0;
     for member in members {
-        height = height_of(targets[*member as usize].nodes(), least, depth, root, height);
+        height = height_of(
+            targets[*member as usize].nodes(),
+            least,
+            depth,
+            root,
+            height,
+        );
     }
     height
 }
@@ -194,7 +200,11 @@ fn unsettled(alloc: Global, nodes: u32) -> Result<Components, AllocError>
 
 /// The strong components of the nodes. They are the same whatever the order in which nodes are looked at; along the reverse of
 /// the order in which a walk over the turned links finishes them each is found at once.
-pub(crate) fn find_components(alloc: Global, graph: &Graph, nodes: u32) -> Result<Components, AllocError>
+pub(crate) fn find_components(
+    alloc: Global,
+    graph: &Graph,
+    nodes: u32,
+) -> Result<Components, AllocError>
     requires { IsTurned nodes graph.now.down.items graph.now.up.items }
     ensures { IfOk result (λ c. AreFound (Out graph.now.down.items) nodes c.least.items c.depth.items) }
 {

@@ -9,8 +9,8 @@
 mod components;
 mod graph;
 mod keys;
-mod layers;
 mod laws;
+mod layers;
 mod link;
 mod lists;
 mod order;
@@ -18,8 +18,8 @@ mod reach;
 mod refusal;
 mod walk;
 
-pub use layers::{Layer, Layers};
 pub use laws::{a_used_order_is_an_order, nodes_have_one_answer};
+pub use layers::{Layer, Layers};
 pub use link::{Edge, LISTS, Link};
 pub use order::layers_of;
 pub use refusal::LayersRefusal;

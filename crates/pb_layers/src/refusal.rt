@@ -5,9 +5,7 @@ use std::alloc::{AllocError, AllocFailed};
 pub enum LayersRefusal {
     /// No list serves all edges inside the strong component of these nodes, which are in rising order. It is the first such
     /// component by its least node.
-    NoOrder {
-        nodes: Vec<u32>,
-    },
+    NoOrder { nodes: Vec<u32> },
     Memory,
 }
 

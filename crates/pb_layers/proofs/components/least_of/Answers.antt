@@ -1,4 +1,3 @@
-use Rattle.std.proofs.Common.{arith}
 use Rattle.pb_layers.proofs.ListLemmas.{contains-all}
 use Rattle.pb_layers.proofs.NamedLemmas.{least-more}
 use Rattle.pb_layers.proofs.components.least_of.Goals as goal

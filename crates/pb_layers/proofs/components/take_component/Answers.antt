@@ -1,7 +1,7 @@
-use Rattle.std.proofs.Common.{◌≡◌, refl, true, subst, sym, ◌∙◌, length, arith}
+use Rattle.std.proofs.Common.{refl, true, sym, ◌∙◌, arith}
 use Rattle.std.specs.List.{Contains}
 use Rattle.pb_layers.specs.Graphs.{IsMarked, Out}
-use Rattle.pb_layers.proofs.TakenLemmas.{IsRound, all-as, contains-as, down-inside, filled-as, list-inside, marked-as, reached-as, round-clear_again, round-cleared, round-fewer, round-left_again, round-taken, start-ahead, up-inside}
+use Rattle.pb_layers.proofs.TakenLemmas.{IsRound, all-as, contains-as, down-inside, filled-as, list-inside, marked-as, reached-as, round-clear_again, round-fewer, round-left_again, round-taken, start-ahead, up-inside}
 use Rattle.pb_layers.proofs.components.take_component.Goals as goal
 
 pub reached-requires-clause-inside : goal.reached-requires-clause-inside
@@ -64,7 +64,7 @@ reached-requires-in-there-2-clause-start c =
       back_is = reached-as _ c.args.graph.now.up.items _ c.fill.new.values.items _ _ _ _ c.deref-in-there-2.ensures.value refl c.in_ok-back.ensures;
     } in
     let other : IsMarked c.reached-in-there.new.within.items c.in-Some.other × Contains c.there.there.items c.in-Some.other =
-      (marked-as _ _ c.in-Some.other c.deref-in-there-3.ensures.value c.in-Some.ensures.0, contains-as _ _ c.in-Some.other c.deref-in-there-4.ensures.value c.in-Some.ensures.1) in
+    (marked-as _ _ c.in-Some.other c.deref-in-there-3.ensures.value c.in-Some.ensures.0, contains-as _ _ c.in-Some.other c.deref-in-there-4.ensures.value c.in-Some.ensures.1) in
     let left = round-left_again _ _ _ _ _ _ _ _ _ _ round c.fill-in-there-2.new.values.items (filled-as _ _ _ c.there.there.items true c.deref-in-there-6.ensures.value c.fill-in-there-2.ensures) in
     marked-as _ _ c.in-Some.other (sym left) (c.there.invariant.reached.taken c.in-Some.other other.1)
 
@@ -81,7 +81,7 @@ there-smaller c =
       back_is = reached-as _ c.args.graph.now.up.items _ c.fill.new.values.items _ _ _ _ c.deref-in-there-2.ensures.value refl c.in_ok-back.ensures;
     } in
     let other : IsMarked c.reached-in-there.new.within.items c.in-Some.other × Contains c.there.there.items c.in-Some.other =
-      (marked-as _ _ c.in-Some.other c.deref-in-there-3.ensures.value c.in-Some.ensures.0, contains-as _ _ c.in-Some.other c.deref-in-there-4.ensures.value c.in-Some.ensures.1) in
+    (marked-as _ _ c.in-Some.other c.deref-in-there-3.ensures.value c.in-Some.ensures.0, contains-as _ _ c.in-Some.other c.deref-in-there-4.ensures.value c.in-Some.ensures.1) in
     let left = round-left_again _ _ _ _ _ _ _ _ _ _ round c.fill-in-there-2.new.values.items (filled-as _ _ _ c.there.there.items true c.deref-in-there-6.ensures.value c.fill-in-there-2.ensures) in
     let next = reached-as _ c.args.graph.now.down.items _ c.args.left.now.items _ _ _ _ c.deref-in-there-7.ensures.value left c.in_ok-there-2.ensures in
     round-fewer _ _ _ _ _ _ _ _ _ _ round c.in-Some.other _ _ other.1 other.0 next

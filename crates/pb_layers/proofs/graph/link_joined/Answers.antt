@@ -1,4 +1,4 @@
-use Rattle.pb_layers.proofs.LinkLemmas.{linked-none, pair-linked}
+use Rattle.pb_layers.proofs.LinkLemmas.{pair-linked}
 use Rattle.pb_layers.proofs.graph.link_joined.Goals as goal
 
 pub loop-pair-preserved : goal.loop-pair-preserved

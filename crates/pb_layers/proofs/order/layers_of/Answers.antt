@@ -7,11 +7,11 @@ returns-in-Some-clause-refused c =
     let least = c.in_ok-components.components.least.items in
     let lists = c.in_ok-lists.lists.items in
     inr (refused-is c.args.joined.now c.args.edges.now c.args.nodes c.requires.joined c.requires.edges least c.in_ok-components.components.depth.items c.in_ok-components.ensures lists
-      (firsts-as c.args.edges.now least c.deref.result.now lists c.deref.ensures.value c.in_ok-lists.ensures)
-      c.in-Some.root
-      (without-as least c.deref-2.result.now lists c.deref-3.result.now c.in-Some.root c.deref-2.ensures.value c.deref-3.ensures.value c.in-Some.ensures)
-      c.in_ok-nodes.nodes.items
-      (members-as least c.deref-in-Some.result.now c.in-Some.root c.in_ok-nodes.nodes.items c.deref-in-Some.ensures.value c.in_ok-nodes.ensures))
+    (firsts-as c.args.edges.now least c.deref.result.now lists c.deref.ensures.value c.in_ok-lists.ensures)
+    c.in-Some.root
+    (without-as least c.deref-2.result.now lists c.deref-3.result.now c.in-Some.root c.deref-2.ensures.value c.deref-3.ensures.value c.in-Some.ensures)
+    c.in_ok-nodes.nodes.items
+    (members-as least c.deref-in-Some.result.now c.in-Some.root c.in_ok-nodes.nodes.items c.deref-in-Some.ensures.value c.in_ok-nodes.ensures))
 
 pub numbered-requires-clause-inside : goal.numbered-requires-clause-inside
 numbered-requires-clause-inside c = least-inside _ c.args.nodes _ _ c.in_ok-components.ensures

@@ -1,4 +1,4 @@
-use Rattle.std.proofs.Common.{◌≡◌, ◌∙◌, ◌<◌, ap, length, get_or, subst, arith, ℕ}
+use Rattle.std.proofs.Common.{◌<◌, length, get_or, arith}
 use Rattle.pb_layers.specs.Graphs.{Out}
 use Rattle.pb_layers.proofs.ReachedLemmas.{found-inside, out-read, reached-next, reached-start}
 use Rattle.pb_layers.proofs.reach.reached.Goals as goal

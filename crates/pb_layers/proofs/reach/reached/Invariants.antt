@@ -1,4 +1,4 @@
-use Rattle.std.proofs.Common.{◌≡◌, ◌+◌, ◌-◌, ◌<◌, ◌≤◌, length}
+use Rattle.std.proofs.Common.{◌+◌, ◌-◌, ◌≤◌, length}
 use Rattle.pb_layers.specs.Graphs.{IsReached, Out, count}
 use Rattle.pb_layers.proofs.reach.reached.Given as goal
 

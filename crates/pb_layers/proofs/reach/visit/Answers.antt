@@ -1,8 +1,8 @@
-use Rattle.std.proofs.Common.{sym, ◌∙◌, subst, ◌∷◌, ◌++◌, [], false, List, ℕ}
+use Rattle.std.proofs.Common.{sym, ◌∙◌, subst, ◌∷◌, [], false, List, ℕ}
 use Rattle.std.proofs.Math.ListN.{set}
 use Rattle.pb_layers.specs.Graphs.{IsVisited}
 use Rattle.pb_layers.proofs.ListLemmas.{marked-read}
-use Rattle.pb_layers.proofs.ReachedLemmas.{visited-passed, visited-taken}
+use Rattle.pb_layers.proofs.ReachedLemmas.{visited-taken}
 use Rattle.pb_layers.proofs.reach.visit.Goals as goal
 
 pub returns-in_ok-push : goal.returns-in_ok-push
