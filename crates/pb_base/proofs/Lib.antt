@@ -1,1 +1,3 @@
 pub mod ReachLemmas
+pub mod WayLemmas
+pub mod RankLemmas

@@ -9,22 +9,10 @@ use Rattle.pb_layers.specs.declared.link.Edge.{Edge}
 use Rattle.pb_layers.specs.declared.link.Link.{Link}
 use Rattle.pb_layers.specs.Layers.{EdgeInside, IsRefused, IsUsedOrder, LayersValue, LinksInside, graph_of, inner_at, list_at, no_layer}
 use Rattle.pb_layers.specs.Orders.{Graph, IsDepth, Leads, OrderExists}
+use Rattle.pb_layers.proofs.ListLemmas.{contains-cons, contains-cons_cases, contains-first}
 use Rattle.pb_layers.proofs.AnswerLemmas.{least-unique, links-inside}
 
 -- ---- rising lists with the same elements are the same
-contains-cons_cases : (x v : ℕ) (xs : List ℕ) → Contains (x ∷ xs) v → (x ≡ v) ⊎ Contains xs v
-contains-cons_cases x v xs c = at c.0 c.1 c.2
-  where
-    at : (k : ℕ) → k < length (x ∷ xs) → slice_index_or (x ∷ xs) k v ≡ v → (x ≡ v) ⊎ Contains xs v
-    at zero below e = inl e
-    at (suc k) below e = inr (k, omega arith, e)
-
-contains-cons : (x v : ℕ) (xs : List ℕ) → Contains xs v → Contains (x ∷ xs) v
-contains-cons x v xs c = let below = c.1 in (suc c.0, omega arith, c.2)
-
-contains-first : (x : ℕ) (xs : List ℕ) → Contains (x ∷ xs) x
-contains-first x xs = (0, omega arith, refl)
-
 rises-tail : (x : ℕ) (xs : List ℕ) → ((i j : ℕ) → i < j → j < length (x ∷ xs) → slice_index (x ∷ xs) i < slice_index (x ∷ xs) j) → (i j : ℕ) → i < j → j < length xs → slice_index xs i < slice_index xs j
 rises-tail x xs r i j before below = r (suc i) (suc j) (omega arith) (omega arith)
 

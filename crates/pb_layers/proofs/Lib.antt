@@ -8,3 +8,4 @@ pub mod KeyLemmas
 pub mod NumberLemmas
 pub mod AnswerLemmas
 pub mod LawLemmas
+pub mod ExistLemmas

@@ -1,5 +1,5 @@
 -- Elements of the front of a list, marks, and how many there are.
-use Rattle.std.proofs.Common.{◌≡◌, ◌≢◌, ◌⊎◌, ◌∙◌, refl, sym, ap, subst, ⊎_elim, ℕ, zero, suc, ◌+◌, ◌<◌, ◌≤◌, Bool, true, false, List, [], ◌∷◌, length, take, get_or, arith}
+use Rattle.std.proofs.Common.{inl, inr, ◌≡◌, ◌≢◌, ◌⊎◌, ◌∙◌, refl, sym, ap, subst, ⊎_elim, ℕ, zero, suc, ◌+◌, ◌<◌, ◌≤◌, Bool, true, false, List, [], ◌∷◌, length, take, get_or, arith}
 use Rattle.std.proofs.Math.ListN.{set, length-set}
 use Rattle.std.specs.List.{Contains}
 use Rattle.std.proofs.lemmas.Bool.{cases_eq, cases_lt, false≢true}
@@ -40,6 +40,20 @@ contains-all {A} xs x n over c = let P : List A → Type 0 = λ l. Contains l x 
 
 pub contains-some : {A : Type 0} (xs : List A) (x : A) → Contains xs x → 0 < length xs
 contains-some xs x c = let below = c.1 in omega arith
+
+-- ---- elements of a list with one more in front
+pub contains-cons_cases : {A : Type 0} (x v : A) (xs : List A) → Contains (x ∷ xs) v → (x ≡ v) ⊎ Contains xs v
+contains-cons_cases {A} x v xs c = at c.0 c.1 c.2
+  where
+    at : (k : ℕ) → k < length (x ∷ xs) → get_or (x ∷ xs) k v ≡ v → (x ≡ v) ⊎ Contains xs v
+    at zero below e = inl e
+    at (suc k) below e = inr (k, omega arith, e)
+
+pub contains-cons : {A : Type 0} (x v : A) (xs : List A) → Contains xs v → Contains (x ∷ xs) v
+contains-cons x v xs c = let below = c.1 in (suc c.0, omega arith, c.2)
+
+pub contains-first : {A : Type 0} (x : A) (xs : List A) → Contains (x ∷ xs) x
+contains-first x xs = (0, omega arith, refl)
 
 -- ---- marks
 pub marked-inside : (marks : List Bool) (v : ℕ) → IsMarked marks v → v < length marks

@@ -78,6 +78,15 @@ module _ (g : Graph ℕ Edge ℕ) (nodes : ℕ) where
     pub no_order : OrderExists g → ⊥
     pub component : IsUnserved members
 
+  -- there is such an order, and there is such a refusal
+  pub record HasUsedOrder : Type 0 where
+    pub layers : LayersValue
+    pub is : IsUsedOrder layers
+
+  pub record HasRefusal : Type 0 where
+    pub members : List ℕ
+    pub told : IsRefused members
+
 -- the refusal that is answered, memory aside
 abbrev pub Refuses : Graph ℕ Edge ℕ → ℕ → LayersRefusal → Type 0
 Refuses g nodes (NoOrder members) = IsRefused g nodes members.items
