@@ -1,6 +1,5 @@
-ghost use Rattle.std.specs.Prelude.{◌≡◌, ◌<◌, ◌≤◌, ◌++◌, ◌∷◌, IfOk, OnOk, [], length};
-ghost use Rattle.std.specs.List.{All, range_with_len};
-ghost use Rattle.std.specs.Prelude.{replicate};
+ghost use Rattle.std.specs.Prelude.{◌≡◌, ◌<◌, ◌++◌, ◌∷◌, IfOk, OnOk, [], length, replicate};
+ghost use Rattle.std.specs.List.{All};
 ghost use Rattle.pb_layers.specs.Graphs.{IsAdded, IsLinked};
 ghost use Rattle.pb_layers.specs.Layers.{EdgeInside, LinksInside, graph_of};
 ghost use Rattle.pb_layers.specs.Orders.{Leads};

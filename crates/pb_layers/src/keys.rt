@@ -1,5 +1,4 @@
 ghost use Rattle.std.specs.Prelude.{◌≡◌, ◌<◌, ◌≤◌, ◌^◌, ℕ, IfOk, length};
-ghost use Rattle.std.specs.List.{All};
 ghost use Rattle.pb_layers.specs.Numbers.{AreKeys, ArePlaces, IsRising, key_at};
 
 use std::alloc::{AllocError, Global};

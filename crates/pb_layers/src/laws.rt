@@ -1,4 +1,4 @@
-ghost use Rattle.std.specs.Prelude.{◌≡◌, ◌⊎◌, ◌<◌, ℕ, List, length};
+ghost use Rattle.std.specs.Prelude.{◌≡◌, ◌⊎◌, ◌<◌, ℕ, List};
 ghost use Rattle.std.specs.List.{All};
 ghost use Rattle.pb_layers.specs.Layers.{EdgeInside, HasRefusal, HasUsedOrder, IsRefused, IsUsedOrder, LayersValue, LinksInside, graph_of};
 ghost use Rattle.pb_layers.specs.Orders.{OrderExists};

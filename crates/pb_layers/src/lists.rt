@@ -1,5 +1,5 @@
-ghost use Rattle.std.specs.Prelude.{◌≡◌, ◌<◌, ◌≤◌, ◌+◌, ◌^◌, ◌↔◌, ℕ, IsTrue, IfOk, MatchOption, None, length, slice_index, slice_index_or};
-ghost use Rattle.std.specs.List.{All, Contains};
+ghost use Rattle.std.specs.Prelude.{◌≡◌, ◌<◌, ◌^◌, ◌↔◌, ℕ, IsTrue, IfOk, MatchOption, None, length, slice_index_or};
+ghost use Rattle.std.specs.List.{All};
 ghost use Rattle.pb_layers.specs.Layers.{EdgeInside};
 ghost use Rattle.pb_layers.specs.Graphs.{marked};
 ghost use Rattle.pb_layers.specs.Lists.{AllHaveLists, AreFirstLists, AreMembers, AreServed, IsFirstWithout, Spoils, chosen};

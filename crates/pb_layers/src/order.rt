@@ -1,8 +1,7 @@
 ghost use Rattle.std.specs.Prelude.{◌≡◌, ◌⊎◌, ◌<◌, ◌≤◌, ◌^◌, ℕ, IfErr, IfOk, length, map, slice_index};
 ghost use Rattle.std.specs.List.{All};
-ghost use Rattle.pb_layers.specs.Graphs.{Out};
 ghost use Rattle.pb_layers.specs.Components.{AreFound};
-ghost use Rattle.pb_layers.specs.Layers.{EdgeInside, IsUsedOrder, LinksInside, Refuses, graph_of, inner_at};
+ghost use Rattle.pb_layers.specs.Layers.{EdgeInside, IsUsedOrder, LinksInside, Refuses, graph_of};
 ghost use Rattle.pb_layers.specs.Lists.{AllHaveLists, HasList};
 ghost use Rattle.pb_layers.specs.Numbers.{AreMarked, AreNumbered, HaveLists, key_at};
 ghost use Rattle.pb_layers.specs.Orders.{Leads};

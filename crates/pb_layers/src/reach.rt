@@ -1,4 +1,4 @@
-ghost use Rattle.std.specs.Prelude.{◌≡◌, ◌<◌, ◌≤◌, ℕ, false, IfOk, MatchOption, OnOk, [], ◌∷◌, length, slice_index, slice_index_or};
+ghost use Rattle.std.specs.Prelude.{◌≡◌, ◌<◌, ◌≤◌, ℕ, false, IfOk, MatchOption, OnOk, [], ◌∷◌, length};
 ghost use Rattle.std.specs.List.{All, Contains};
 ghost use Rattle.pb_layers.specs.Graphs.{IsFilled, IsMarked, IsReached, IsVisited, Out, marked};
 
