@@ -1,1 +1,4 @@
 pub mod SystemLemmas
+pub mod ReachLemmas
+pub mod WayLemmas
+pub mod RankLemmas

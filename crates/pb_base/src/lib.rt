@@ -1,8 +1,8 @@
-//! Laws that name nothing of the language.
+//! Definitions and laws that name nothing of the language: several crates above stand on them.
 //!
-//! In: a system of equations, whose cells are given or have an equation over the cells that they read. Out: nothing that
-//! runs. The theorem: enough rounds know each cell, and what they know is all that obeys the equations. Proofs of other
-//! crates cite the lemmas of `proofs/`, which hold over any types.
+//! What links lead to, as definitions with lemmas; and systems of equations, whose cells are given or have an equation over
+//! the cells that they read. In: nothing that runs. The theorem: enough rounds of a system know each cell, and what they
+//! know is all that obeys the equations. Proofs of other crates cite the lemmas of `proofs/`, which hold over any types.
 #![tactic(auto)]
 
 mod systems;

@@ -12,6 +12,8 @@ mod forms;
 #[cfg(test)]
 mod grids;
 #[cfg(test)]
+mod layers;
+#[cfg(test)]
 mod linear;
 #[cfg(test)]
 mod matrix;

@@ -1,0 +1,11 @@
+pub mod ListLemmas
+pub mod ReachedLemmas
+pub mod LinkLemmas
+pub mod TakenLemmas
+pub mod NamedLemmas
+pub mod ServedLemmas
+pub mod KeyLemmas
+pub mod NumberLemmas
+pub mod AnswerLemmas
+pub mod LawLemmas
+pub mod ExistLemmas
