@@ -8,7 +8,7 @@ use Rattle.pb_base.proofs.ReachLemmas.{reach-link, together-refl}
 use Rattle.pb_layers.specs.declared.link.Edge.{Edge}
 use Rattle.pb_layers.specs.declared.link.Link.{Link}
 use Rattle.pb_layers.specs.Layers.{EdgeInside, IsRefused, IsUsedOrder, LayersValue, LinksInside, graph_of, inner_at, list_at, no_layer}
-use Rattle.pb_layers.specs.Orders.{Graph, IsDepth, Leads, OrderExists}
+use Rattle.pb_layers.specs.Orders.{IsOrder, Graph, IsDepth, Leads, OrderExists}
 use Rattle.pb_layers.proofs.ListLemmas.{contains-cons, contains-cons_cases, contains-first}
 use Rattle.pb_layers.proofs.AnswerLemmas.{least-unique, links-inside}
 
@@ -76,8 +76,9 @@ module _ (joined : List Link) (edges : List Edge) (nodes : ℕ) (joined_in : All
         o)
         (cases_order (slice_index a.layer u) (slice_index a.layer v))
 
-    pub order-from : OrderExists g
-    order-from = (slice_index a.layer, list_at a.layers, record { shared = shared; lower = lower })
+    -- the layers and lists that are answered
+    pub order-is : IsOrder ℕ Edge ℕ g (slice_index a.layer) (list_at a.layers)
+    order-is = record { shared = shared; lower = lower }
       where
         shared : (u v : ℕ) → g.Joined u v → slice_index a.layer u ≡ slice_index a.layer v
         shared u v j =
@@ -93,6 +94,9 @@ module _ (joined : List Link) (edges : List Edge) (nodes : ℕ) (joined_in : All
             (λ t. inr (sym (together-layer e.reader e.source in_both.0 in_both.1 t), r.serves e.reader in_both.0 e (record { is_edge = c; reader = together-refl (Leads g) e.reader; source = t })))
             (λ d. inl ((r.rising e.source e.reader in_both.1 in_both.0).1 (inl d)))
             ((r.depths e.reader in_both.0).falls e.reader e.source (together-refl (Leads g) e.reader) link)
+
+    pub order-from : OrderExists g
+    order-from = (slice_index a.layer, list_at a.layers, order-is)
 
   -- two used orders number each node alike
   layer-most : (a b : LayersValue) → IsUsedOrder g nodes a → IsUsedOrder g nodes b → (bound u : ℕ) → u < nodes → slice_index a.layer u < bound → slice_index a.layer u ≤ slice_index b.layer u
