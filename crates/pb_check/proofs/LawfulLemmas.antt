@@ -264,13 +264,20 @@ module _ (p : List ProgTransform) (number : ℕ) (t : ProgTransform) (c : Cell) 
           least = λ k d below inside free. less r h held.out b.0 b.2 (get_or m.boxes k d) (made_by (get_or m.boxes k d) (Contains-get_or m.boxes k d below)) inside free;
         }
 
+    -- the rule of a box without a guard that holds the cell can make it
+    pub unguarded_can : (b : Bounds) → Contains m.boxes b → is_in sizes (pos c.x) (pos c.y) b ≡ true → b.guarded ≡ false → (k : ℕ) × (r : ProgRule) × (slice_get t.rules k ≡ Some r) × CanMake t.matrices sizes c r
+    unguarded_can b h inside free =
+        let made = made_by b h in
+        let in_made = subst (λ (v : BoxValue). Inside v.limits) (sym made.same) ((in_box sizes b (pos c.x) (pos c.y)).0 inside) in
+        (made.place, made.rule, made.there, can_make made.place made.rule made.there made.out made.among made.on in_made (ap (λ (v : BoxValue). v.guarded) made.same ∙ free))
+
     in_x : pos c.x <ℤ value m.width sizes
     in_x = subst (λ n. pos c.x <ℤ exact_value n sizes) (sym (is.width ∙ ap (λ (d : DeclValue). d.w) (same_decl is.decl cell.decl (sym is.there ∙ cell.there)))) cell.before_x
 
     in_y : pos c.y <ℤ value m.height sizes
     in_y = subst (λ n. pos c.y <ℤ exact_value n sizes) (sym (is.height ∙ ap (λ (d : DeclValue). d.h) (same_decl is.decl cell.decl (sym is.there ∙ cell.there)))) cell.before_y
 
-    ranges : InRange m.leasts sizes
+    pub ranges : InRange m.leasts sizes
     ranges = subst (λ l. InRange l sizes) (sym is.leasts) cell.in_range
 
   module _ (ss : List SegmentValue) (cut : IsCut t c.matrix ss) where

@@ -7,3 +7,4 @@ pub mod PlaceLemmas
 pub mod LawfulLemmas
 pub mod AcceptLemmas
 pub mod FindLemmas
+pub mod CoverLemmas

@@ -1,4 +1,4 @@
-ghost use Rattle.std.specs.Prelude.{◌≡◌, ◌⊎◌, ℕ, pos, IsTrue, List, Some, filter, length, slice_get};
+ghost use Rattle.std.specs.Prelude.{◌≡◌, ◌≢◌, ◌≤◌, ◌⊎◌, [], ℕ, pos, IsTrue, List, Some, filter, length, slice_get};
 ghost use Rattle.std.specs.List.{All, Contains};
 ghost use Rattle.pb_grid.specs.Places.{is_at};
 ghost use Rattle.pb_grid.specs.Segments.{SegmentValue};
@@ -31,6 +31,12 @@ pub fn the_segment_of_a_cell_has_its_lawful_rules()
         → (ss : List SegmentValue) → IsCut t c.matrix ss → length (filter (is_at sizes (pos c.x) (pos c.y)) ss) ≡ 1 }
     ensures lawful { (p : List ProgTransform) (number : ℕ) (t : ProgTransform) (c : Cell) (sizes : List ℕ) → IsWellFormed p → IsSound p → slice_get p number ≡ Some t → IsCell t sizes c
         → (ss : List SegmentValue) → IsCut t c.matrix ss → All (λ s. IsTrue (is_at sizes (pos c.x) (pos c.y) s) → (r : ℕ) → Contains (lawful t sizes c) r → Contains s.rules r) ss }
+{}
+
+/// A law: at all sizes in range each cell of a matrix that rules make has a rule that may make it.
+pub fn each_cell_has_a_lawful_rule()
+    ensures { (p : List ProgTransform) (number : ℕ) (t : ProgTransform) (c : Cell) (sizes : List ℕ) → IsWellFormed p → IsSound p → slice_get p number ≡ Some t → IsCell t sizes c → t.inputs ≤ c.matrix
+        → lawful t sizes c ≢ [] }
 {}
 
 /// A law: a text is accepted as one program or refused for one reason, and never both.

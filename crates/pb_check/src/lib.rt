@@ -15,7 +15,7 @@ mod phases;
 pub use accepted::{Accepted, accept};
 pub use cuts::Analysis;
 pub use laws::{
-    a_program_is_sound_or_refused, a_text_has_one_answer, soundness_doesnt_depend_on_places,
-    the_segment_of_a_cell_has_its_lawful_rules,
+    a_program_is_sound_or_refused, a_text_has_one_answer, each_cell_has_a_lawful_rule,
+    soundness_doesnt_depend_on_places, the_segment_of_a_cell_has_its_lawful_rules,
 };
 pub use phases::judge;
