@@ -1,5 +1,5 @@
 -- A text is accepted as one program or refused for one reason.
-use Rattle.std.proofs.Common.{◌≡◌, ◌∙◌, ◌⊎◌, inl, inr, refl, sym, ap, subst, ℕ, List}
+use Rattle.std.proofs.Common.{◌≡◌, ◌⊎◌, inl, inr, sym, subst, ℕ, List}
 use Rattle.pb_syntax.specs.Trees.{TransformTree}
 use Rattle.pb_syntax.specs.WithinLimits.{IsWithinLimits}
 use Rattle.pb_syntax.specs.declared.refusal.Refusal.{Refusal}

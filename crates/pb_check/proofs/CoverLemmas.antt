@@ -1,7 +1,7 @@
 -- Each cell has a lawful rule.
-use Rattle.std.proofs.Common.{◌≡◌, ◌∙◌, refl, sym, ap, subst, inl, inr, ◌⊎◌, ◌≢◌, ℕ, zero, suc, ◌+◌, ◌-◌, ◌<◌, ◌≤◌, ℤ, pos, ◌≤ℤ◌, ◌<ℤ◌, Bool, true, false, ◌&&◌, ◌||◌, not, List, [], ◌∷◌, length, map, get_or, slice_get, Option, Some, None, arith}
+use Rattle.std.proofs.Common.{◌≡◌, ◌∙◌, refl, ap, subst, ◌≢◌, ℕ, zero, suc, ◌+◌, ◌-◌, ◌<◌, ◌≤◌, ℤ, pos, ◌≤ℤ◌, ◌<ℤ◌, Bool, true, false, ◌&&◌, ◌||◌, not, List, [], ◌∷◌, length, map, get_or, slice_get, Some, None, arith}
 use Rattle.std.specs.Prelude.{filter, int_le, int_lt, nat_le}
-use Rattle.std.specs.List.{All, Contains, find, list_all}
+use Rattle.std.specs.List.{Contains, find, list_all}
 use Rattle.std.proofs.Math.Bool.{cond}
 use Rattle.std.proofs.lemmas.Bool.{and_parts, leb-false, leb-true}
 use Rattle.std.proofs.lemmas.Int.{ints}
@@ -14,7 +14,7 @@ use Rattle.pb_linear.specs.declared.form.Form.{Form}
 use Rattle.pb_linear.specs.declared.vform.SymBox.{SymBox}
 use Rattle.pb_linear.proofs.SizesLemmas.{le_everywhere-at}
 use Rattle.pb_grid.specs.Cuts.{le}
-use Rattle.pb_grid.specs.Grids.{Matrix, areas_of}
+use Rattle.pb_grid.specs.Grids.{areas_of}
 use Rattle.pb_grid.specs.Places.{is_at, is_in}
 use Rattle.pb_grid.specs.Segments.{SegmentValue, holder_of, holds, is_uncovered, segment_of}
 use Rattle.pb_program.specs.Trees.{ProgRule, ProgTransform}
@@ -23,7 +23,7 @@ use Rattle.pb_model.specs.Cells.{Cell, IsCell}
 use Rattle.pb_model.specs.Lawful.{CanMake, IsLawful, can_make, lawful}
 use Rattle.pb_model.proofs.LawfulLemmas.{can_test, in_lawful}
 use Rattle.pb_model.proofs.ListLemmas.{all_each, at_in, filter_in, in_at, in_none, in_tail, in_head, map_in}
-use Rattle.pb_check.specs.Cuts.{AreCut, HasCut, IsCut, made_matrices}
+use Rattle.pb_check.specs.Cuts.{AreCut, HasCut, IsCut}
 use Rattle.pb_check.specs.Phases.{IsSound}
 use Rattle.pb_check.proofs.FirstLemmas.{all_at}
 use Rattle.pb_check.proofs.LawfulLemmas.{one_at, ranges, unguarded_can}

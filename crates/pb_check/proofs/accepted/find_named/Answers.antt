@@ -1,4 +1,3 @@
-use Rattle.std.proofs.Common.{◌≡◌, false, true, sym, ◌∙◌}
 use Rattle.pb_check.proofs.FindLemmas.{named_nowhere, none_more}
 use Rattle.pb_check.proofs.accepted.find_named.Goals as goal
 
