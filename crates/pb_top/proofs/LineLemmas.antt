@@ -73,7 +73,7 @@ cut_refusal t matrix grid.TooManySegments m told = tt
 cut_refusal t matrix (grid.Uncovered area) m told = tt
 cut_refusal t matrix grid.Memory m told = absurd told
 
-phase_refusal : (p : List ProgTransform) (e : Refusal) → IsUnsound p e → HasLine e
+pub phase_refusal : (p : List ProgTransform) (e : Refusal) → IsUnsound p e → HasLine e
 phase_refusal p e (inl causes) = type_refusal p e causes
 phase_refusal p e (inr (inl (right, bad))) = bound_refusal bad.place bad.item e bad.fails
 phase_refusal p e (inr (inr (right, bounded, bad))) =
@@ -88,9 +88,9 @@ each (t ∷ p) n h = (h.0.few_sizes, each p n h.1)
 pub few_sizes : (p : List ProgTransform) → IsWellFormed p → HaveFewSizes p
 few_sizes p well = All-from_recursion (λ t. length t.sizes ≤ 8) p (each p (length p) well.transforms)
 
-pub phase_line : (p : List ProgTransform) (e : Refusal) → (e ≡ Memory) ⊎ IsUnsound p e → (e ≡ Memory → ⊥) → HasLine e
-phase_line p e (inl is) other = absurd (other is)
-phase_line p e (inr causes) other = phase_refusal p e causes
+pub phase_why : (p : List ProgTransform) (e : Refusal) → (e ≡ Memory) ⊎ IsUnsound p e → (e ≡ Memory → ⊥) → IsUnsound p e
+phase_why p e (inl is) other = absurd (other is)
+phase_why p e (inr causes) other = causes
 
 -- a tree that was read is within the limits
 pub read_within : (text : List ℕ) (tree : List TransformTree) → IsRead text tree → IsWithinLimits tree

@@ -1,6 +1,7 @@
 ghost use Rattle.std.specs.Prelude.{◌≡◌, IfOk, Ok};
 ghost use Rattle.pb_program.specs.Trees.{bare_prog};
 ghost use Rattle.pb_program.specs.WellFormed.{IsWellFormed};
+ghost use Rattle.pb_check.specs.Phases.{IsRefused};
 ghost use Rattle.pb_syntax.specs.Trees.{bare_text};
 ghost use Rattle.pb_syntax.specs.WithinLimits.{IsWithinLimits};
 ghost use Rattle.pb_top.specs.Steps.{Reads, Resolves, Accepts};
@@ -48,8 +49,19 @@ fn resolve_names(alloc: Global, tree: &Text) -> Result<Prog, Stop>
     }
 }
 
+// The line of a program that a further phase refuses.
+#[tactic(auto, using(crate::proofs::LineLemmas::phase_refusal, crate::proofs::LineLemmas::few_sizes))]
+fn refuse(alloc: Global, program: &Prog, refusal: &Refusal) -> Result<(), Stop>
+    requires well_formed { IsWellFormed (bare_prog program.now) }
+    requires refused { IsRefused (bare_prog program.now) refusal.now }
+    ensures { Gives (λ accepted. accepted) (Accepts (bare_prog program.now)) result }
+{
+    let line = refusal_line(alloc, &program.transforms, refusal)?;
+    Err(Stop::Refused(Status::Program, line))
+}
+
 // Nothing, for a program that every further phase accepts.
-#[tactic(auto, using(crate::proofs::LineLemmas::phase_line, crate::proofs::LineLemmas::few_sizes))]
+#[tactic(auto, using(crate::proofs::LineLemmas::phase_why))]
 fn accept(alloc: Global, program: &Prog) -> Result<(), Stop>
     requires { IsWellFormed (bare_prog program.now) }
     ensures { Gives (λ accepted. accepted) (Accepts (bare_prog program.now)) result }
@@ -57,10 +69,7 @@ fn accept(alloc: Global, program: &Prog) -> Result<(), Stop>
     match judge(alloc, program) {
         Ok(_) => Ok(()),
         Err(Refusal::Memory) => Err(Stop::Memory),
-        Err(refusal) => {
-            let line = refusal_line(alloc, &program.transforms, &refusal)?;
-            Err(Stop::Refused(Status::Program, line))
-        }
+        Err(refusal) => refuse(alloc, program, &refusal),
     }
 }
 
