@@ -1,3 +1,4 @@
+pub mod ListLemmas
 pub mod SystemLemmas
 pub mod ReachLemmas
 pub mod WayLemmas

@@ -22,7 +22,7 @@ use Rattle.pb_program.specs.WellFormed.{IsWellFormed}
 use Rattle.pb_model.specs.Cells.{Cell, IsCell}
 use Rattle.pb_model.specs.Lawful.{CanMake, IsLawful, can_make, lawful}
 use Rattle.pb_model.proofs.LawfulLemmas.{can_test, in_lawful}
-use Rattle.pb_model.proofs.ListLemmas.{all_each, at_in, filter_in, in_at, in_none, in_tail, in_head, map_in}
+use Rattle.pb_base.proofs.ListLemmas.{all_each, at_in, filter_in, in_at, in_none, in_tail, in_head, map_in}
 use Rattle.pb_check.specs.Cuts.{AreCut, HasCut, IsCut}
 use Rattle.pb_check.specs.Phases.{IsSound}
 use Rattle.pb_check.proofs.FirstLemmas.{all_at}
@@ -34,7 +34,7 @@ module _ {A : Type 0} (p : A → Bool) where
   some_by x xs true e h rest = (x, in_head x xs, e)
   some_by x xs false e h rest = let r = rest h in (r.0, in_tail x r.0 xs r.1, r.2)
 
-  some_of : (xs : List A) → length (filter p xs) ≡ 1 → (y : A) × Contains xs y × (p y ≡ true)
+  pub some_of : (xs : List A) → length (filter p xs) ≡ 1 → (y : A) × Contains xs y × (p y ≡ true)
   some_of [] h = absurd (omega (arith, h))
   some_of (x ∷ xs) h = some_by x xs (p x) refl h (some_of xs)
 

@@ -1,7 +1,8 @@
 -- The boxes of a matrix, and the matrices of a transform, one after the other.
-use Rattle.std.proofs.Common.{◌≡◌, ◌∙◌, refl, sym, ap, subst, inl, inr, ◌⊎◌, ℕ, zero, suc, ◌+◌, ◌-◌, ◌<◌, ◌≤◌, Bool, true, false, List, [], ◌∷◌, ◌++◌, length, map, take, drop, get_or, slice_get, Some, Result, Ok, Err, append_assoc, arith, ◌||◌}
+use Rattle.std.proofs.Common.{◌≡◌, ◌∙◌, refl, sym, ap, subst, inl, inr, ◌⊎◌, ℕ, zero, suc, ◌+◌, ◌-◌, ◌<◌, ◌≤◌, Bool, true, false, List, [], ◌∷◌, ◌++◌, length, map, take, drop, get_or, slice_get, Some, ℤ, Result, Ok, Err, append_assoc, arith, ◌||◌}
 use Rattle.std.specs.Prelude.{◌==◌, IfErr, IfOk, OnOk, filter, if◌then◌else◌}
-use Rattle.std.specs.List.{All, AllByRecursion, Contains, enumerate_from, flat_map, list_any}
+use Rattle.std.specs.List.{All, AllByRecursion, Contains, enumerate_from, flat_map, list_all, list_any}
+use Rattle.std.proofs.lemmas.Bool.{le-leb, leb-true}
 use Rattle.std.proofs.lemmas.Grind.{flat_map-append}
 use Rattle.std.proofs.lemmas.List.{append-nil, length-take-le, map-append, take_all, take_more}
 use Rattle.std.proofs.lemmas.Option.{get_or_from_slice_get, slice_get-get_or, slice_get_within}
@@ -17,7 +18,7 @@ use Rattle.pb_syntax.specs.declared.refusal.Refusal.{Refusal}
 use Rattle.pb_syntax.specs.declared.refusal.Refusal.TheVariants.{Memory}
 use Rattle.pb_grid.specs.declared.refusal.GridRefusal.{GridRefusal}
 use Rattle.pb_grid.specs.declared.refusal.GridRefusal.TheVariants as grid
-use Rattle.pb_grid.specs.Cuts.{AreSmall, IsSmallBox}
+use Rattle.pb_grid.specs.Cuts.{AreSmall, IsSmallBox, is_half_number}
 use Rattle.pb_grid.specs.Grids.{IsGrid, IsRefused as HasGridRefusal, matrix_of}
 use Rattle.pb_grid.specs.Segments.{SegmentValue}
 use Rattle.pb_graph.specs.Nodes.{NodeValue}
@@ -28,11 +29,11 @@ use Rattle.pb_program.specs.Trees.{ProgRule, ProgTransform}
 use Rattle.pb_program.specs.WellFormed.{IsDecl, IsForm, IsRule, IsTransform, IsWellFormed}
 use Rattle.pb_region.specs.Boxes.{BoxValue, box, box_of, boxes}
 use Rattle.pb_region.specs.Rules.{AtRule, HasBoxes, HasRule, IsAccepted, IsRefused}
-use Rattle.pb_region.specs.Small.{AreSmallLimits, IsSmallBound}
+use Rattle.pb_region.specs.Small.{AreSmallLimits, IsSmallBound, is_bound_number}
 use Rattle.pb_region.proofs.AnswerLemmas.{not_both as accepted_and_refused}
-use Rattle.pb_region.proofs.LimitLemmas.{bound_form, small_form, small_limits}
+use Rattle.pb_region.proofs.LimitLemmas.{all_numbers, bound_form, small_form, small_limits}
 use Rattle.pb_region.proofs.SmallLemmas.{at_place, small_transform}
-use Rattle.pb_check.specs.Cuts.{AnalysisValue, AreCut, AreFound, AreNodes, AreNodesOf, FailsCut, HasCut, IsCut, IsMatrix, IsUncut, boxes_on, kept, made_matrices, node, rule_boxes, to_refusal}
+use Rattle.pb_check.specs.Cuts.{CutValue, AreCut, AreCutInto, AreNodes, AreNodesOf, FailsCut, HasCut, IsCut, IsMatrix, IsUncut, boxes_on, kept, made_matrices, node, rule_boxes, to_refusal}
 use Rattle.pb_check.specs.Phases.{IsBounded, IsUncuttable}
 use Rattle.pb_check.proofs.FirstLemmas.{all_at}
 
@@ -54,8 +55,14 @@ module _ (ts : List ProgTransform) (t : ℕ) (x : ProgTransform) (r : ℕ) (y : 
   never_refused (Err e) bounded (inr bad) = absurd (accepted_and_refused t r x y e (all_at (IsAccepted x) x.rules r y bounded.rules there) (had (λ transform rule. IsRefused t r transform rule e) bad))
 
 -- the bounds of a box are small enough to be cut at
+half_number : (z : ℤ) → is_bound_number z ≡ true → is_half_number z ≡ true
+half_number z h = le-leb _ _ (omega (arith, leb-true _ _ h))
+
+half_row : (zs : List ℤ) → list_all is_bound_number zs ≡ true → list_all is_half_number zs ≡ true
+half_row = all_numbers is_bound_number is_half_number half_number
+
 half_form : (f : Form) → IsSmallBound (numbers f) → AreSmall f
-half_form f h = record { constant = h.constant; whole = h.whole; half = h.half; third = h.third; quarter = h.quarter }
+half_form f h = record { constant = half_number f.constant h.constant; whole = half_row f.whole h.whole; half = half_row f.half h.half; third = half_row f.third h.third; quarter = half_row f.quarter h.quarter }
 
 half_forms : (fs : List Form) → AllByRecursion IsSmallBound (map numbers fs) → All AreSmall fs
 half_forms [] h k d below = absurd (omega arith)
@@ -126,15 +133,18 @@ numbered_join n (y ∷ xs) x =
     let e : (n + 1) + length xs ≡ n + length (y ∷ xs) = omega arith in
     ap (λ l. (n, y) ∷ l) (numbered_join (n + 1) xs x ∙ ap (λ k. enumerate_from (n + 1) xs ++ (k, x) ∷ []) e)
 
+-- what is made of the first elements of a list, with their numbers, and of one more
+pub more_made : {A B : Type 0} (f : ℕ × A → List B) (xs : List A) (k : ℕ) (x : A) → slice_get xs k ≡ Some x → flat_map f (enumerate_from 0 (take (k + 1) xs)) ≡ flat_map f (enumerate_from 0 (take k xs)) ++ f (k, x)
+more_made f xs k x there =
+    let below = slice_get_within xs k x there in
+    let is : get_or xs k x ≡ x = get_or_from_slice_get xs k x x there in
+    let all = ap (λ l. flat_map f (enumerate_from 0 l)) (take_more xs k x below) ∙ ap (flat_map f) (numbered_join 0 (take k xs) (get_or xs k x)) in
+    let e : 0 + length (take k xs) ≡ k = omega (arith, length-take-le k xs (omega arith)) in
+    all ∙ flat_map-append f (enumerate_from 0 (take k xs)) ((0 + length (take k xs), get_or xs k x) ∷ []) ∙ rw (e, is, append-nil) refl
+
 pub more_boxes : (t : ProgTransform) (m k : ℕ) (rule : ProgRule) → slice_get t.rules k ≡ Some rule →
     flat_map (rule_boxes t m) (enumerate_from 0 (take (k + 1) t.rules)) ≡ flat_map (rule_boxes t m) (enumerate_from 0 (take k t.rules)) ++ rule_boxes t m (k, rule)
-more_boxes t m k rule there =
-    let f = rule_boxes t m in
-    let below = slice_get_within t.rules k rule there in
-    let is : get_or t.rules k rule ≡ rule = get_or_from_slice_get t.rules k rule rule there in
-    let all = ap (λ l. flat_map f (enumerate_from 0 l)) (take_more t.rules k rule below) ∙ ap (flat_map f) (numbered_join 0 (take k t.rules) (get_or t.rules k rule)) in
-    let e : 0 + length (take k t.rules) ≡ k = omega (arith, length-take-le k t.rules (omega arith)) in
-    all ∙ flat_map-append f (enumerate_from 0 (take k t.rules)) ((0 + length (take k t.rules), get_or t.rules k rule) ∷ []) ∙ rw (e, is, append-nil) refl
+more_boxes t m k rule there = more_made (rule_boxes t m) t.rules k rule there
 
 pub on_ok : {T E : Type 0} (r : Result T E) (P Q : Type 0) → (P → Q) → OnOk r P → OnOk r Q
 on_ok (Ok x) P Q f h = f h
@@ -215,16 +225,16 @@ module _ (t : ProgTransform) where
       inr (record { place = k; item = m; there = (made_at k below).0 ∙ ap (λ z. Some z) (sym is); fails = uncut; earlier = nodes_cut (take k (made_matrices t)) ns h })
 
 -- ---- the transforms of a program, one after the other
-nodes_of : (t : ProgTransform) (a : AnalysisValue) → AreNodes t a.nodes → AreCut t
+nodes_of : (t : ProgTransform) (a : CutValue) → AreNodes t a.nodes → AreCut t
 nodes_of t a h = record { each = nodes_cut t (made_matrices t) a.nodes h }
 
-pub all_cut : (p : List ProgTransform) (found : List AnalysisValue) → AreFound p found → All AreCut p
+pub all_cut : (p : List ProgTransform) (found : List CutValue) → AreCutInto p found → All AreCut p
 all_cut [] [] h = All-nil AreCut
 all_cut [] (a ∷ found) h = absurd h
 all_cut (t ∷ p) [] h = absurd h
 all_cut (t ∷ p) (a ∷ found) h = All-cons AreCut t p (nodes_of t a h.0) (all_cut p found h.1)
 
-found_join : (p : List ProgTransform) (found : List AnalysisValue) (t : ProgTransform) (a : AnalysisValue) → AreFound p found → AreNodes t a.nodes → AreFound (p ++ t ∷ []) (found ++ a ∷ [])
+found_join : (p : List ProgTransform) (found : List CutValue) (t : ProgTransform) (a : CutValue) → AreCutInto p found → AreNodes t a.nodes → AreCutInto (p ++ t ∷ []) (found ++ a ∷ [])
 found_join [] [] t a h n = (n, tt)
 found_join [] (b ∷ found) t a h n = absurd h
 found_join (u ∷ p) [] t a h n = absurd h
@@ -234,9 +244,9 @@ module _ (p : List ProgTransform) (k : ℕ) (t : ProgTransform) (there : slice_g
   one_more : take (k + 1) p ≡ take k p ++ t ∷ []
   one_more = take_more p k t (slice_get_within p k t there) ∙ ap (λ x. take k p ++ x ∷ []) (get_or_from_slice_get p k t t there)
 
-  pub next_found : (found more : List AnalysisValue) (a : AnalysisValue) → AreFound (take k p) found → AreNodes t a.nodes → more ≡ found ++ a ∷ [] → AreFound (take (k + 1) p) more
-  next_found found more a h n is = subst (AreFound (take (k + 1) p)) (sym is) (subst (λ q. AreFound q (found ++ a ∷ [])) (sym one_more) (found_join (take k p) found t a h n))
+  pub next_found : (found more : List CutValue) (a : CutValue) → AreCutInto (take k p) found → AreNodes t a.nodes → more ≡ found ++ a ∷ [] → AreCutInto (take (k + 1) p) more
+  next_found found more a h n is = subst (AreCutInto (take (k + 1) p)) (sym is) (subst (λ q. AreCutInto q (found ++ a ∷ [])) (sym one_more) (found_join (take k p) found t a h n))
 
-  pub fails_found : (found : List AnalysisValue) (e : Refusal) → AreFound (take k p) found → (e ≡ Memory) ⊎ FailsCut t k e → (e ≡ Memory) ⊎ IsUncuttable p e
+  pub fails_found : (found : List CutValue) (e : Refusal) → AreCutInto (take k p) found → (e ≡ Memory) ⊎ FailsCut t k e → (e ≡ Memory) ⊎ IsUncuttable p e
   fails_found found e h (inl is) = inl is
   fails_found found e h (inr fails) = inr (record { place = k; item = t; there = there; fails = fails; earlier = all_cut (take k p) found h })

@@ -38,20 +38,20 @@ use Rattle.pb_region.specs.Boxes.{gaps_of}
 use Rattle.pb_model.specs.Cells.{Cell, IsCell}
 use Rattle.pb_model.specs.Lawful.{CanMake, IsLawful, WritesBy, has, lawful, output_holds}
 use Rattle.pb_model.proofs.LawfulLemmas.{lawful_in}
-use Rattle.pb_model.proofs.ListLemmas.{filter_in, flat_in, in_filter, in_flat, in_map, map_in}
+use Rattle.pb_base.proofs.ListLemmas.{filter_in, flat_in, in_filter, in_flat, in_map, map_in}
 use Rattle.pb_check.specs.Cuts.{IsCut, IsMatrix, rule_boxes}
 use Rattle.pb_check.specs.Phases.{IsBounded, IsSound}
 use Rattle.pb_check.proofs.FirstLemmas.{all_at}
 use Rattle.pb_check.proofs.SegmentLemmas.{same_decl}
 
 -- ---- tests
-both : (a b : Bool) → a ≡ true → b ≡ true → (a && b) ≡ true
+pub both : (a b : Bool) → a ≡ true → b ≡ true → (a && b) ≡ true
 both a b ea eb = rw (ea, eb) refl
 
-le_true : (a b : ℤ) → (int_le a b ≡ true) ↔ (a ≤ℤ b)
+pub le_true : (a b : ℤ) → (int_le a b ≡ true) ↔ (a ≤ℤ b)
 le_true a b = (λ h. grind (arith, ints), λ h. grind (arith, ints))
 
-lt_true : (a b : ℤ) → (int_lt a b ≡ true) ↔ (a <ℤ b)
+pub lt_true : (a b : ℤ) → (int_lt a b ≡ true) ↔ (a <ℤ b)
 lt_true a b = (λ h. grind (arith, ints), λ h. grind (arith, ints))
 
 has_in : (a : Area) (x y : ℤ) → (has a x y ≡ true) ↔ IsIn a x y
@@ -103,12 +103,12 @@ some_output p outs h = any_here p outs h
 output_some : (p : Read → Bool) (outs : List Read) (o : Read) → Contains outs o → p o ≡ true → list_any p outs ≡ true
 output_some p outs o c h = any_from p outs o c.0 c.1 c.2 h
 
-numbered_at : {A : Type 0} (n : ℕ) (xs : List A) (e : ℕ × A) → Contains (enumerate_from n xs) e → (k : ℕ) × (e.0 ≡ n + k) × (slice_get xs k ≡ Some e.1)
+pub numbered_at : {A : Type 0} (n : ℕ) (xs : List A) (e : ℕ × A) → Contains (enumerate_from n xs) e → (k : ℕ) × (e.0 ≡ n + k) × (slice_get xs k ≡ Some e.1)
 numbered_at n [] e c = absurd (omega (arith, c.1))
 numbered_at n (x ∷ xs) e (zero, below, is) = (0, sym (ap (λ (p : _). p.0) is) ∙ omega arith, ap (λ (p : _). Some p.1) is)
 numbered_at n (x ∷ xs) e (suc k, below, is) = let rest = numbered_at (n + 1) xs e (k, omega arith, is) in (suc rest.0, omega (arith, rest.1), rest.2)
 
-at_numbered : {A : Type 0} (n : ℕ) (xs : List A) (k : ℕ) (x : A) → slice_get xs k ≡ Some x → Contains (enumerate_from n xs) (n + k, x)
+pub at_numbered : {A : Type 0} (n : ℕ) (xs : List A) (k : ℕ) (x : A) → slice_get xs k ≡ Some x → Contains (enumerate_from n xs) (n + k, x)
 at_numbered n [] k x h = let none : None ≡ Some x = h in absurd (cc)
 at_numbered n (y ∷ xs) zero x h = let some : Some y ≡ Some x = h in let same : y ≡ x = cc in let e : n ≡ n + 0 = omega arith in (0, omega arith, λ i. (e i, same i))
 at_numbered n (y ∷ xs) (suc k) x h =

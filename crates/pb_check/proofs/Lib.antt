@@ -8,3 +8,12 @@ pub mod LawfulLemmas
 pub mod AcceptLemmas
 pub mod FindLemmas
 pub mod CoverLemmas
+pub mod EndLemmas
+pub mod OrderLemmas
+pub mod OrderedLemmas
+pub mod PlacedLemmas
+pub mod RankedLemmas
+pub mod AcceptedLemmas
+pub mod NamedLemmas
+pub mod EachLemmas
+pub mod SiteLemmas

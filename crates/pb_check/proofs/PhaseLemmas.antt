@@ -1,5 +1,6 @@
 -- A program is sound or refused by the first phase that finds a fault.
-use Rattle.std.proofs.Common.{◌≡◌, ◌⊎◌, inl, inr, ℕ, List, [], length, slice_get, Some, subst}
+use Rattle.std.proofs.Common.{◌≡◌, ◌⊎◌, inl, inr, ℕ, List, [], length, Result, Ok, Err, slice_get, Some, subst}
+use Rattle.std.specs.Prelude.{IfErr}
 use Rattle.std.specs.List.{All}
 use Rattle.pb_linear.specs.Sizes.{IsRanges}
 use Rattle.pb_syntax.specs.declared.refusal.Refusal.{Refusal}
@@ -15,11 +16,14 @@ use Rattle.pb_region.proofs.NegativeLemmas.{not_refused, one_negative}
 use Rattle.pb_region.proofs.SomeLemmas.{sides_or_refused}
 use Rattle.pb_region.proofs.SmallLemmas.{at_place, small_transform}
 use Rattle.pb_check.specs.Firsts.{IsFirst}
-use Rattle.pb_check.specs.Cuts.{AnalysisValue, AreCut, AreFound, FailsCut}
-use Rattle.pb_check.specs.Phases.{FailsBounds, FailsRule, IsBounded, IsUnbounded, IsUncuttable, IsSound, IsRefused}
+use Rattle.pb_check.specs.Cuts.{AreCut, AreCutInto, CutValue, FailsCut}
+use Rattle.pb_check.specs.Orders.{AnalysisValue, AreFound, HasNoOrder, IsOrdered}
+use Rattle.pb_check.specs.Phases.{FailsBounds, FailsCuts, FailsLater, FailsRule, IsBounded, IsRefused, IsSound, IsUnbounded, IsUncuttable, IsUnorderable}
 use Rattle.pb_check.proofs.CutLemmas.{all_cut}
 use Rattle.pb_check.proofs.SegmentLemmas.{cut_answer, cut_apart, one_failing}
-use Rattle.pb_check.proofs.FirstLemmas.{none_first, same_item, same_place, some_first}
+use Rattle.pb_check.proofs.FirstLemmas.{all_at, none_first, same_item, same_place, some_first}
+use Rattle.pb_check.proofs.OrderLemmas.{all_ordered}
+use Rattle.pb_check.proofs.OrderedLemmas.{one_no_order, order_answer, order_apart}
 
 pub by_types : (p : List ProgTransform) (e : Refusal) → (e ≡ Memory) ⊎ HasBadTypes p e → (e ≡ Memory) ⊎ IsRefused p e
 by_types p e (inl is) = inl is
@@ -27,15 +31,23 @@ by_types p e (inr bad) = inr (inl bad)
 
 pub by_bounds : (p : List ProgTransform) (e : Refusal) → broken p ≡ [] → (e ≡ Memory) ⊎ IsUnbounded p e → (e ≡ Memory) ⊎ IsRefused p e
 by_bounds p e right (inl is) = inl is
-by_bounds p e right (inr bad) = inr (inr (inl (right, bad)))
+by_bounds p e right (inr bad) = inr (inr (right, inl bad))
 
 pub by_cuts : (p : List ProgTransform) (e : Refusal) → broken p ≡ [] → All IsBounded p → (e ≡ Memory) ⊎ IsUncuttable p e → (e ≡ Memory) ⊎ IsRefused p e
 by_cuts p e right bounded (inl is) = inl is
-by_cuts p e right bounded (inr bad) = inr (inr (inr (right, bounded, bad)))
+by_cuts p e right bounded (inr bad) = inr (inr (right, inr (bounded, inl bad)))
 
--- where the segments of all transforms are found, the program is sound
-pub sound_is : (p : List ProgTransform) (found : List AnalysisValue) → broken p ≡ [] → All IsBounded p → AreFound p found → IsSound p
-sound_is p found right bounded h = record { typed = right; bounded = bounded; cut = all_cut p found h }
+pub by_order : (p : List ProgTransform) (cuts : List CutValue) (e : Refusal) → broken p ≡ [] → All IsBounded p → AreCutInto p cuts → (e ≡ Memory) ⊎ IsUnorderable p e → (e ≡ Memory) ⊎ IsRefused p e
+by_order p cuts e right bounded cut (inl is) = inl is
+by_order p cuts e right bounded cut (inr bad) = inr (inr (right, inr (bounded, inr (all_cut p cuts cut, bad))))
+
+pub order_refused : {A : Type 0} (p : List ProgTransform) (cuts : List CutValue) (o : Result A Refusal) → broken p ≡ [] → All IsBounded p → AreCutInto p cuts → IfErr o (λ e. (e ≡ Memory) ⊎ IsUnorderable p e) → IfErr o (λ e. (e ≡ Memory) ⊎ IsRefused p e)
+order_refused p cuts (Ok a) right bounded cut h = tt
+order_refused p cuts (Err e) right bounded cut h = by_order p cuts e right bounded cut h
+
+-- where the order of the segments of all transforms is found, the program is sound
+pub sound_is : (p : List ProgTransform) (cuts : List CutValue) (found : List AnalysisValue) → broken p ≡ [] → All IsBounded p → AreCutInto p cuts → AreFound p found → IsSound p
+sound_is p cuts found right bounded cut h = record { typed = right; bounded = bounded; cut = all_cut p cuts cut; ordered = all_ordered p found h }
 
 -- the rules of a transform
 module _ (n : ℕ) (t : ProgTransform) where
@@ -75,62 +87,85 @@ module _ (n : ℕ) (t : ProgTransform) where
   bound_answer ok = sides_by (sides_or_refused n t ok)
 
 -- the transforms of a program
-some_cuts : (p : List ProgTransform) → broken p ≡ [] → All IsBounded p → All AreCut p ⊎ IsFirst AreCut (λ k t. (e : Refusal) × FailsCut t k e) p → IsSound p ⊎ ((e : Refusal) × IsRefused p e)
-some_cuts p right bounded (inl all) = inl (record { typed = right; bounded = bounded; cut = all })
-some_cuts p right bounded (inr f) = inr (f.fails.0, inr (inr (right, bounded, record { place = f.place; item = f.item; there = f.there; fails = f.fails.1; earlier = f.earlier })))
-
 module _ (p : List ProgTransform) (well : IsWellFormed p) where
+  abbrev Answer : Type 0
+  Answer = IsSound p ⊎ ((e : Refusal) × IsRefused p e)
+
   fits : (k : ℕ) (t : ProgTransform) → slice_get p k ≡ Some t → IsTransform (length p) t
   fits k t at = at_place (IsTransform (length p)) p k t well.transforms at
 
-  some_bounds : broken p ≡ [] → All IsBounded p ⊎ IsFirst IsBounded (λ k t. (e : Refusal) × FailsBounds k t e) p → IsSound p ⊎ ((e : Refusal) × IsRefused p e)
-  some_bounds right (inl all) =
-      some_cuts p right all (some_first AreCut (λ k t. (e : Refusal) × FailsCut t k e) p (λ k t at. cut_answer (length p) t (fits k t at) (small_transform p well k t at).ranges k))
-  some_bounds right (inr f) = inr (f.fails.0, inr (inl (right, record { place = f.place; item = f.item; there = f.there; fails = f.fails.1; earlier = f.earlier })))
+  some_orders : broken p ≡ [] → All IsBounded p → All AreCut p → All IsOrdered p ⊎ IsFirst IsOrdered (λ k t. (e : Refusal) × HasNoOrder t k e) p → Answer
+  some_orders right bounded cut (inl all) = inl (record { typed = right; bounded = bounded; cut = cut; ordered = all })
+  some_orders right bounded cut (inr f) =
+      inr (f.fails.0, inr (right, inr (bounded, inr (cut, record { place = f.place; item = f.item; there = f.there; fails = f.fails.1; earlier = f.earlier }))))
 
-  sound_by : (broken p ≡ []) ⊎ ((e : Refusal) × HasBadTypes p e) → IsSound p ⊎ ((e : Refusal) × IsRefused p e)
+  order_at : All IsBounded p → All AreCut p → (k : ℕ) (t : ProgTransform) → slice_get p k ≡ Some t → IsOrdered t ⊎ ((e : Refusal) × HasNoOrder t k e)
+  order_at bounded cut k t at = order_answer (length p) t (fits k t at) (all_at IsBounded p k t bounded at) (all_at AreCut p k t cut at) k
+
+  some_cuts : broken p ≡ [] → All IsBounded p → All AreCut p ⊎ IsFirst AreCut (λ k t. (e : Refusal) × FailsCut t k e) p → Answer
+  some_cuts right bounded (inl all) = some_orders right bounded all (some_first IsOrdered (λ k t. (e : Refusal) × HasNoOrder t k e) p (order_at bounded all))
+  some_cuts right bounded (inr f) = inr (f.fails.0, inr (right, inr (bounded, inl (record { place = f.place; item = f.item; there = f.there; fails = f.fails.1; earlier = f.earlier }))))
+
+  some_bounds : broken p ≡ [] → All IsBounded p ⊎ IsFirst IsBounded (λ k t. (e : Refusal) × FailsBounds k t e) p → Answer
+  some_bounds right (inl all) =
+      some_cuts right all (some_first AreCut (λ k t. (e : Refusal) × FailsCut t k e) p (λ k t at. cut_answer (length p) t (fits k t at) (small_transform p well k t at).ranges k))
+  some_bounds right (inr f) = inr (f.fails.0, inr (right, inl (record { place = f.place; item = f.item; there = f.there; fails = f.fails.1; earlier = f.earlier })))
+
+  sound_by : (broken p ≡ []) ⊎ ((e : Refusal) × HasBadTypes p e) → Answer
   sound_by (inl right) = some_bounds right (some_first IsBounded (λ k t. (e : Refusal) × FailsBounds k t e) p (λ k t at. bound_answer k t (small_transform p well k t at).ranges))
   sound_by (inr bad) = inr (bad.0, inl bad.1)
 
   pub sound_or_refused : IsSound p ⊎ ((e : Refusal) × IsRefused p e)
   sound_or_refused = sound_by (right_or_refused p)
 
+-- ---- at most one refusal
+-- the refusals of a phase that takes the transforms in their order
+module _ (Holds : ProgTransform → Type 0) (Fails : Refusal → ℕ → ProgTransform → Type 0) (apart_by : (e : Refusal) (k : ℕ) (t : ProgTransform) → Holds t → Fails e k t → ⊥)
+    (one : (e f : Refusal) (k : ℕ) (t : ProgTransform) → Fails e k t → Fails f k t → e ≡ f) where
+  one_phase : (p : List ProgTransform) (e f : Refusal) → IsFirst Holds (Fails e) p → IsFirst Holds (Fails f) p → e ≡ f
+  one_phase p e f a b =
+      let place = same_place Holds (Fails e) (Fails f) (apart_by e) (apart_by f) p a b in
+      let item = same_item Holds (Fails e) (Fails f) p a b place in
+      one e f b.place b.item (subst (λ t. Fails e b.place t) item (subst (λ k. Fails e k a.item) place a.fails)) b.fails
+
 one_unbounded : (p : List ProgTransform) (e f : Refusal) → IsUnbounded p e → IsUnbounded p f → e ≡ f
-one_unbounded p e f a b =
-    let P : Refusal → ℕ → ProgTransform → Type 0 = λ x k t. FailsBounds k t x in
-    let place = same_place IsBounded (P e) (P f) (λ k t. apart k t e) (λ k t. apart k t f) p a b in
-    let item = same_item IsBounded (P e) (P f) p a b place in
-    one_bound b.place b.item e f (subst (λ t. P e b.place t) item (subst (λ k. P e k a.item) place a.fails)) b.fails
+one_unbounded = one_phase IsBounded (λ e k t. FailsBounds k t e) (λ e k t. apart k t e) (λ e f k t. one_bound k t e f)
 
 one_uncuttable : (p : List ProgTransform) (e f : Refusal) → IsUncuttable p e → IsUncuttable p f → e ≡ f
-one_uncuttable p e f a b =
-    let P : Refusal → ℕ → ProgTransform → Type 0 = λ x k t. FailsCut t k x in
-    let place = same_place AreCut (P e) (P f) (λ k t. cut_apart k t e) (λ k t. cut_apart k t f) p a b in
-    let item = same_item AreCut (P e) (P f) p a b place in
-    one_failing b.place b.item e f (subst (λ t. P e b.place t) item (subst (λ k. P e k a.item) place a.fails)) b.fails
+one_uncuttable = one_phase AreCut (λ e k t. FailsCut t k e) (λ e k t. cut_apart k t e) (λ e f k t. one_failing k t e f)
+
+one_unorderable : (p : List ProgTransform) (e f : Refusal) → IsUnorderable p e → IsUnorderable p f → e ≡ f
+one_unorderable = one_phase IsOrdered (λ e k t. HasNoOrder t k e) (λ e k t. order_apart t k e) (λ e f k t. one_no_order t k e f)
 
 bounded_apart : (p : List ProgTransform) (e : Refusal) → All IsBounded p → IsUnbounded p e → ⊥
 bounded_apart p e all bad = none_first IsBounded (λ k t. FailsBounds k t e) (λ k t. apart k t e) p all bad
 
--- those after the types
-one_later : (p : List ProgTransform) (e f : Refusal) → ((broken p ≡ []) × IsUnbounded p e) ⊎ ((broken p ≡ []) × All IsBounded p × IsUncuttable p e)
-    → ((broken p ≡ []) × IsUnbounded p f) ⊎ ((broken p ≡ []) × All IsBounded p × IsUncuttable p f) → e ≡ f
-one_later p e f (inl (right, a)) (inl (again, b)) = one_unbounded p e f a b
-one_later p e f (inl (right, a)) (inr (again, all, b)) = absurd (bounded_apart p e all a)
-one_later p e f (inr (right, all, a)) (inl (again, b)) = absurd (bounded_apart p f all b)
-one_later p e f (inr (right, all, a)) (inr (again, too, b)) = one_uncuttable p e f a b
+cuttable_apart : (p : List ProgTransform) (e : Refusal) → All AreCut p → IsUncuttable p e → ⊥
+cuttable_apart p e all bad = none_first AreCut (λ k t. FailsCut t k e) (λ k t. cut_apart k t e) p all bad
 
-right_of : (p : List ProgTransform) (e : Refusal) → ((broken p ≡ []) × IsUnbounded p e) ⊎ ((broken p ≡ []) × All IsBounded p × IsUncuttable p e) → broken p ≡ []
-right_of p e (inl h) = h.0
-right_of p e (inr h) = h.0
+ordered_apart : (p : List ProgTransform) (e : Refusal) → All IsOrdered p → IsUnorderable p e → ⊥
+ordered_apart p e all bad = none_first IsOrdered (λ k t. HasNoOrder t k e) (λ k t. order_apart t k e) p all bad
+
+one_cut_refusal : (p : List ProgTransform) (e f : Refusal) → FailsCuts p e → FailsCuts p f → e ≡ f
+one_cut_refusal p e f (inl a) (inl b) = one_uncuttable p e f a b
+one_cut_refusal p e f (inl a) (inr (all, b)) = absurd (cuttable_apart p e all a)
+one_cut_refusal p e f (inr (all, a)) (inl b) = absurd (cuttable_apart p f all b)
+one_cut_refusal p e f (inr (all, a)) (inr (again, b)) = one_unorderable p e f a b
+
+one_later : (p : List ProgTransform) (e f : Refusal) → FailsLater p e → FailsLater p f → e ≡ f
+one_later p e f (inl a) (inl b) = one_unbounded p e f a b
+one_later p e f (inl a) (inr (all, b)) = absurd (bounded_apart p e all a)
+one_later p e f (inr (all, a)) (inl b) = absurd (bounded_apart p f all b)
+one_later p e f (inr (all, a)) (inr (again, b)) = one_cut_refusal p e f a b
 
 pub one_refusal : (p : List ProgTransform) (e f : Refusal) → IsRefused p e → IsRefused p f → e ≡ f
 one_refusal p e f (inl bad) (inl worse) = one_place p e f bad worse
-one_refusal p e f (inl bad) (inr later) = absurd (right_and_wrong p e (right_of p f later) bad)
-one_refusal p e f (inr later) (inl bad) = absurd (right_and_wrong p f (right_of p e later) bad)
-one_refusal p e f (inr a) (inr b) = one_later p e f a b
+one_refusal p e f (inl bad) (inr (right, later)) = absurd (right_and_wrong p e right bad)
+one_refusal p e f (inr (right, later)) (inl bad) = absurd (right_and_wrong p f right bad)
+one_refusal p e f (inr (right, a)) (inr (again, b)) = one_later p e f a b
 
 pub not_both : (p : List ProgTransform) (e : Refusal) → IsSound p → IsRefused p e → ⊥
 not_both p e sound (inl bad) = right_and_wrong p e sound.typed bad
-not_both p e sound (inr (inl (right, a))) = bounded_apart p e sound.bounded a
-not_both p e sound (inr (inr (right, all, a))) = none_first AreCut (λ k t. FailsCut t k e) (λ k t. cut_apart k t e) p sound.cut a
+not_both p e sound (inr (right, inl a)) = bounded_apart p e sound.bounded a
+not_both p e sound (inr (right, inr (all, inl a))) = cuttable_apart p e sound.cut a
+not_both p e sound (inr (right, inr (all, inr (cut, a)))) = ordered_apart p e sound.ordered a

@@ -14,15 +14,19 @@ use Rattle.pb_program.specs.Trees.{ProgRule, ProgTransform}
 use Rattle.pb_program.specs.declared.view.Read.{Read}
 use Rattle.pb_program.specs.declared.view.ReadView.TheVariants as view
 use Rattle.pb_grid.specs.Grids.{Matrix}
+use Rattle.pb_grid.specs.Segments.{SegmentValue}
+use Rattle.pb_graph.specs.Nodes.{NodeValue}
 use Rattle.pb_types.specs.Types.{broken}
 use Rattle.pb_types.proofs.UnplacedPlans.{same_broken}
-use Rattle.pb_region.specs.Boxes.{box, is_box}
+use Rattle.pb_region.specs.Boxes.{box, is_box, is_wide}
 use Rattle.pb_region.specs.Dims.{HasNoNegative}
 use Rattle.pb_region.specs.Ends.{ends_by, ends_in, ends_of}
 use Rattle.pb_region.specs.Gaps.{gap}
 use Rattle.pb_region.specs.Overlaps.{both_overlap, overlap, overlap_at}
+use Rattle.pb_region.specs.Reads.{is_made, read_of, reads_of}
 use Rattle.pb_region.specs.Rules.{IsAccepted}
-use Rattle.pb_check.specs.Cuts.{AreCut, HasCut, IsMatrix, made_matrices, rule_boxes}
+use Rattle.pb_check.specs.Cuts.{AreCut, AreNodesOf, HasCut, IsCut, IsMatrix, made_matrices, rule_boxes}
+use Rattle.pb_check.specs.Orders.{IsOrdered, made_reads, wide_rules}
 use Rattle.pb_check.specs.Phases.{IsBounded, IsSound}
 
 none_long : {A : Type 0} (xs : List A) → length xs ≡ 0 → xs ≡ []
@@ -130,6 +134,11 @@ outs_kept : (m : ℕ) (outs : List Read) → filter (λ (o : Read). o.matrix == 
 outs_kept m [] = refl
 outs_kept m (o ∷ outs) = rw (outs_kept m outs) (sym (kept_step m unplaced_read o (filter (λ (p : Read). p.matrix == m) outs) (o.matrix == m)))
 
+-- what is made of each rule and its number
+numbered_same : {B : Type 0} (f g : ℕ × ProgRule → List B) → ((n : ℕ) (r : ProgRule) → f (n, unplaced_prog_rule r) ≡ g (n, r)) → (n : ℕ) (rules : List ProgRule) → flat_map f (enumerate_from n (map unplaced_prog_rule rules)) ≡ flat_map g (enumerate_from n rules)
+numbered_same f g each n [] = refl
+numbered_same f g each n (r ∷ rules) = rw (each n r, numbered_same f g each (n + 1) rules) refl
+
 map_same : {A B : Type 0} (u : A → A) (f g : A → B) → ((x : A) → f (u x) ≡ g x) → (xs : List A) → map f (map u xs) ≡ map g xs
 map_same u f g e [] = refl
 map_same u f g e (x ∷ xs) = rw (e x, map_same u f g e xs) refl
@@ -144,8 +153,7 @@ module _ (t : ProgTransform) where
       ∙ map_same unplaced_read (box (leasts_of t.ranges) (map unplaced_matrix t.matrices) number (unplaced_prog_rule r)) (box (leasts_of t.ranges) t.matrices number r) (box_kept number r) (filter (λ (o : Read). o.matrix == m) r.outs)
 
   numbered_kept : (m n : ℕ) (rules : List ProgRule) → flat_map (rule_boxes (unplaced_prog_transform t) m) (enumerate_from n (map unplaced_prog_rule rules)) ≡ flat_map (rule_boxes t m) (enumerate_from n rules)
-  numbered_kept m n [] = refl
-  numbered_kept m n (r ∷ rules) = rw (rule_boxes_kept m n r, numbered_kept m (n + 1) rules) refl
+  numbered_kept m = numbered_same (rule_boxes (unplaced_prog_transform t) m) (rule_boxes t m) (rule_boxes_kept m)
 
   matrix_to : (number : ℕ) (m : Matrix) → IsMatrix t number m → IsMatrix (unplaced_prog_transform t) number m
   matrix_to number m h = record {
@@ -181,9 +189,60 @@ module _ (t : ProgTransform) where
         (subst (λ n. All (HasCut (unplaced_prog_transform t)) (range_with_len t.inputs (n - t.inputs))) (length-map t.matrices unplaced_matrix) c.each);
   }
 
+-- the order of segments
+made_kept : (inputs : ℕ) (rs : List Read) → filter (is_made inputs) (map unplaced_read rs) ≡ map unplaced_read (filter (is_made inputs) rs)
+made_kept inputs [] = refl
+made_kept inputs (r ∷ rs) = rw (made_kept inputs rs) (sym (kept_step 0 unplaced_read r (filter (is_made inputs) rs) (is_made inputs r)))
+
+module _ (t : ProgTransform) where
+  read_kept : (number : ℕ) (wide : Bool) (r : Read) → read_of (map unplaced_matrix t.matrices) number wide (unplaced_read r) ≡ read_of t.matrices number wide r
+  read_kept number wide r = rw (ends_of_kept (leasts_of t.ranges) t.matrices r) refl
+
+  reads_kept : (number : ℕ) (r : ProgRule) → reads_of (unplaced_prog_transform t) number (unplaced_prog_rule r) ≡ reads_of t number r
+  unfolding reads_of
+  reads_kept number r =
+      ap (map (read_of (map unplaced_matrix t.matrices) number (is_wide r.kind))) (made_kept t.inputs r.reads)
+      ∙ map_same unplaced_read (read_of (map unplaced_matrix t.matrices) number (is_wide r.kind)) (read_of t.matrices number (is_wide r.kind)) (read_kept number (is_wide r.kind)) (filter (is_made t.inputs) r.reads)
+
+  made_reads_kept : made_reads (unplaced_prog_transform t) ≡ made_reads t
+  made_reads_kept = numbered_same (λ r. reads_of (unplaced_prog_transform t) r.0 r.1) (λ r. reads_of t r.0 r.1) reads_kept 0 t.rules
+
+  wide_kept : wide_rules (unplaced_prog_transform t) ≡ wide_rules t
+  wide_kept = numbered_same (λ r. if is_wide r.1.kind then r.0 ∷ [] else []) (λ r. if is_wide r.1.kind then r.0 ∷ [] else []) (λ n r. refl) 0 t.rules
+
+  cut_is_to : (number : ℕ) (ss : List SegmentValue) → IsCut t number ss → IsCut (unplaced_prog_transform t) number ss
+  cut_is_to number ss h = record { matrix = h.matrix; is = matrix_to t number h.matrix h.is; grid = h.grid }
+
+  cut_is_from : (number : ℕ) (ss : List SegmentValue) → IsCut (unplaced_prog_transform t) number ss → IsCut t number ss
+  cut_is_from number ss h = record { matrix = h.matrix; is = matrix_from t number h.matrix h.is; grid = h.grid }
+
+  nodes_to : (ms : List ℕ) (ns : List NodeValue) → AreNodesOf t ms ns → AreNodesOf (unplaced_prog_transform t) ms ns
+  nodes_to [] ns h = h
+  nodes_to (m ∷ ms) ns (ss, rest, cut, more, is) = (ss, rest, cut_is_to m ss cut, nodes_to ms rest more, is)
+
+  nodes_from : (ms : List ℕ) (ns : List NodeValue) → AreNodesOf (unplaced_prog_transform t) ms ns → AreNodesOf t ms ns
+  nodes_from [] ns h = h
+  nodes_from (m ∷ ms) ns (ss, rest, cut, more, is) = (ss, rest, cut_is_from m ss cut, nodes_from ms rest more, is)
+
+  matrices_kept : made_matrices (unplaced_prog_transform t) ≡ made_matrices t
+  matrices_kept = ap (λ n. range_with_len t.inputs (n - t.inputs)) (length-map t.matrices unplaced_matrix)
+
+  order_to : IsOrdered t → IsOrdered (unplaced_prog_transform t)
+  order_to h =
+      let k = h.is.are in
+      let nodes = subst (λ ms. AreNodesOf (unplaced_prog_transform t) ms h.is.choices.nodes) (sym matrices_kept) (nodes_to (made_matrices t) h.is.choices.nodes k.nodes) in
+      record { analysis = h.analysis; is = record { choices = h.is.choices; are = record { leasts = k.leasts; nodes = nodes; reads = k.reads ∙ sym made_reads_kept; wide = k.wide ∙ sym wide_kept }; nodes = h.is.nodes; layering = h.is.layering } }
+
+  order_from : IsOrdered (unplaced_prog_transform t) → IsOrdered t
+  order_from h =
+      let k = h.is.are in
+      let nodes = nodes_from (made_matrices t) h.is.choices.nodes (subst (λ ms. AreNodesOf (unplaced_prog_transform t) ms h.is.choices.nodes) matrices_kept k.nodes) in
+      record { analysis = h.analysis; is = record { choices = h.is.choices; are = record { leasts = k.leasts; nodes = nodes; reads = k.reads ∙ made_reads_kept; wide = k.wide ∙ wide_kept }; nodes = h.is.nodes; layering = h.is.layering } }
+
 pub sound_again : (q p : List ProgTransform) → unplaced_prog q ≡ unplaced_prog p → IsSound p → IsSound q
 sound_again q p e sound = record {
   typed = none_long (broken q) (same_broken q p e ∙ ap length sound.typed);
   bounded = all_from unplaced_prog_transform IsBounded IsBounded transform_from q (subst (All IsBounded) (sym e) (all_to unplaced_prog_transform IsBounded IsBounded transform_to p sound.bounded));
   cut = all_from unplaced_prog_transform AreCut AreCut cut_from q (subst (All AreCut) (sym e) (all_to unplaced_prog_transform AreCut AreCut cut_to p sound.cut));
+  ordered = all_from unplaced_prog_transform IsOrdered IsOrdered order_from q (subst (All IsOrdered) (sym e) (all_to unplaced_prog_transform IsOrdered IsOrdered order_to p sound.ordered));
 }

@@ -23,13 +23,13 @@ use Rattle.pb_region.specs.Boxes.{BoxValue, box, box_of}
 use Rattle.pb_region.specs.Small.{AreSmallLimits, IsSmallBound, is_bound_number}
 use Rattle.pb_region.proofs.LimitLemmas.{bound_form, small_form, small_limits}
 use Rattle.pb_region.proofs.SmallLemmas.{at_place}
-use Rattle.pb_model.proofs.ListLemmas.{at_in, filter_in, flat_in, map_in}
+use Rattle.pb_base.proofs.ListLemmas.{at_in, filter_in, flat_in, map_in}
 use Rattle.pb_check.specs.Cuts.{AreCut, FailsCut, HasCut, IsMatrix, IsUncut, boxes_on, made_matrices, rule_boxes, to_refusal}
 use Rattle.pb_check.specs.Firsts.{IsFirst}
 use Rattle.pb_check.proofs.FirstLemmas.{none_first, same_item, same_place, some_at, some_first}
 
 -- ---- forms and boxes by what contracts see of them
-same_form : (f g : Form) → numbers f ≡ numbers g → f ≡ g
+pub same_form : (f g : Form) → numbers f ≡ numbers g → f ≡ g
 same_form f g e = Form-same f g (record {
   constant = ap (λ (n : Numbers). n.constant) e;
   whole = ap (λ (n : Numbers). n.whole) e;
@@ -38,7 +38,7 @@ same_form f g e = Form-same f g (record {
   quarter = ap (λ (n : Numbers). n.quarter) e;
 })
 
-same_list : {A B : Type 0} (f : A → B) → ((x y : A) → f x ≡ f y → x ≡ y) → (xs ys : List A) → map f xs ≡ map f ys → xs ≡ ys
+pub same_list : {A B : Type 0} (f : A → B) → ((x y : A) → f x ≡ f y → x ≡ y) → (xs ys : List A) → map f xs ≡ map f ys → xs ≡ ys
 same_list f same [] [] e = refl
 same_list f same [] (y ∷ ys) e = let n = ap length e in absurd (omega arith)
 same_list f same (x ∷ xs) [] e = let n = ap length e in absurd (omega arith)
@@ -64,7 +64,7 @@ same_decl d e h = cc
 
 -- ---- a transform's matrix of a number is one
 module _ (t : ProgTransform) (number : ℕ) where
-  one_matrix : (m n : Matrix) → IsMatrix t number m → IsMatrix t number n → m ≡ n
+  pub one_matrix : (m n : Matrix) → IsMatrix t number m → IsMatrix t number n → m ≡ n
   one_matrix m n h k =
       let decl = same_decl h.decl k.decl (sym h.there ∙ k.there) in
       let leasts = h.leasts ∙ sym k.leasts in
@@ -106,7 +106,7 @@ form_of n h = record {
   small_quarter = bound_row n.quarter h.quarter;
 }
 
-some_form : (n : Numbers) → IsSmallBound n → (f : Form) × (numbers f ≡ n)
+pub some_form : (n : Numbers) → IsSmallBound n → (f : Form) × (numbers f ≡ n)
 unfolding form_of
 some_form n h = (form_of n h, refl)
 
@@ -137,7 +137,7 @@ numbered_in n (x ∷ xs) e (zero, below, is) = (0, omega arith, ap (λ (p : _). 
 numbered_in n (x ∷ xs) e (suc k, below, is) = let rest = numbered_in (n + 1) xs e (k, omega arith, is) in (suc rest.0, omega (arith, rest.1), rest.2)
 
 module _ (count : ℕ) (t : ProgTransform) (fits : IsTransform count t) (ranges : IsRanges t.ranges) where
-  small_on : (number : ℕ) (v : BoxValue) → Contains (boxes_on t number) v → AreSmallLimits v.limits
+  pub small_on : (number : ℕ) (v : BoxValue) → Contains (boxes_on t number) v → AreSmallLimits v.limits
   small_on number v c =
       let rule = flat_in (rule_boxes t number) (enumerate_from 0 t.rules) v c in
       let place = at_in t.rules rule.0.1 (numbered_in 0 t.rules rule.0 rule.1) in

@@ -7,7 +7,7 @@ use Rattle.pb_program.specs.Trees.{ProgTransform, bare_prog}
 use Rattle.pb_program.specs.WellFormed.{IsWellFormed}
 use Rattle.pb_syntax.specs.Trees.{TransformTree}
 use Rattle.pb_syntax.specs.declared.refusal.Refusal.{Refusal}
-use Rattle.pb_check.specs.Cuts.{AnalysisValue, AreFound}
+use Rattle.pb_check.specs.Orders.{AnalysisValue, AreFound}
 use Rattle.pb_check.specs.Phases.{IsSound, IsRefused}
 
 -- what contracts see of an accepted program

@@ -21,14 +21,14 @@ use Rattle.pb_check.specs.Firsts.{IsFirst}
 abbrev pub rule_boxes : ProgTransform → ℕ → ℕ × ProgRule → List BoxValue
 rule_boxes t matrix r = map (box (leasts_of t.ranges) t.matrices r.0 r.1) (filter (λ o. o.matrix == matrix) r.1.outs)
 
+-- those of all rules, in the order of the rules and of their outputs
+abbrev pub boxes_on : ProgTransform → ℕ → List BoxValue
+boxes_on t matrix = flat_map (rule_boxes t matrix) (enumerate_from 0 t.rules)
+
 -- of some boxes, one for each output, those of the outputs on a matrix
 abbrev pub kept : ℕ → List Read → List Bounds → List Bounds
 kept matrix (out ∷ outs) (b ∷ bs) = if out.matrix == matrix then b ∷ kept matrix outs bs else kept matrix outs bs
 kept matrix _ _ = []
-
--- those of all rules, in the order of the rules and of their outputs
-abbrev pub boxes_on : ProgTransform → ℕ → List BoxValue
-boxes_on t matrix = flat_map (rule_boxes t matrix) (enumerate_from 0 t.rules)
 
 -- the refusal of a program for a matrix that can't be cut, by the numbers of its transform and of the matrix
 abbrev pub to_refusal : ℕ → ℕ → GridRefusal → Refusal
@@ -93,10 +93,10 @@ module _ (t : ProgTransform) where
   abbrev pub AreNodes : List NodeValue → Type 0
   AreNodes ns = AreNodesOf made_matrices ns
 
--- what contracts see of what is found of a transform
-pub record AnalysisValue : Type 0 where
+-- what contracts see of a transform that is cut
+pub record CutValue : Type 0 where
   pub nodes : List NodeValue
 
--- what is found of each transform
-abbrev pub AreFound : List ProgTransform → List AnalysisValue → Type 0
-AreFound p found = AllZip (λ t (a : AnalysisValue). AreNodes t a.nodes) p found
+-- the segments of each transform
+abbrev pub AreCutInto : List ProgTransform → List CutValue → Type 0
+AreCutInto p cuts = AllZip (λ t (c : CutValue). AreNodes t c.nodes) p cuts

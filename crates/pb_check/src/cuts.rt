@@ -9,7 +9,7 @@ ghost use Rattle.pb_program.specs.Configs.{writes};
 ghost use Rattle.pb_program.specs.Trees.{bare_prog, bare_rule, bare_transform};
 ghost use Rattle.pb_program.specs.WellFormed.{IsWellFormed};
 ghost use Rattle.pb_region.specs.Boxes.{box_of, boxes};
-ghost use Rattle.pb_check.specs.Cuts.{AreFound, AreNodes, boxes_on, FailsCut, IsCut, IsUncut, kept, node, rule_boxes, to_refusal};
+ghost use Rattle.pb_check.specs.Cuts.{AreCutInto, AreNodes, boxes_on, FailsCut, IsCut, IsUncut, kept, node, rule_boxes, to_refusal};
 ghost use Rattle.pb_check.specs.Phases.{IsBounded, IsUncuttable};
 
 use pb_graph::Node;
@@ -216,23 +216,23 @@ fn matrix_at(transform: &Transform, matrix: u32) -> &Decl
     &transform.matrices[matrix as usize]
 }
 
-/// What is found of a transform: its segments, numbered by matrix, then by y, then by x.
+/// The segments of a transform, numbered by matrix, then by y, then by x.
 #[derive(Drop)]
-pub struct Analysis {
+pub(crate) struct CutTransform {
     pub(crate) nodes: Vec<Node>,
 }
 
-impl Model for Analysis {
-    ghost use Rattle.pb_check.specs.Cuts.{AnalysisValue};
+impl Model for CutTransform {
+    ghost use Rattle.pb_check.specs.Cuts.{CutValue};
 
-    ghost Value = { AnalysisValue };
+    ghost Value = { CutValue };
 
-    ghost view = { λ a. record { nodes = a.nodes.items } };
+    ghost view = { λ c. record { nodes = c.nodes.items } };
 }
 
 /// The segments of all matrices of a transform that rules make, one matrix after the other.
 #[tactic(auto, using(crate::proofs::CutLemmas::next_nodes, crate::proofs::CutLemmas::all_nodes, crate::proofs::CutLemmas::fails_at, crate::proofs::CutLemmas::parts_fit, crate::proofs::CutLemmas::few_matrices))]
-fn transform_nodes(
+pub(crate) fn transform_nodes(
     alloc: Global,
     p: &Prog,
     t: u32,
@@ -255,16 +255,16 @@ fn transform_nodes(
 
 /// The segments of each transform.
 #[tactic(auto, using(crate::proofs::BoundLemmas::few_transforms, pb_region::proofs::RuleLemmas::held_at))]
-pub(crate) fn analyses(alloc: Global, p: &Prog) -> Result<Vec<Analysis>, Refusal>
+pub(crate) fn cut_all(alloc: Global, p: &Prog) -> Result<Vec<CutTransform>, Refusal>
     requires well_formed { IsWellFormed (bare_prog p.now) }
     requires bounded { All IsBounded (bare_prog p.now) }
-    ensures found { IfOk result (λ found. AreFound (bare_prog p.now) found.items) }
+    ensures found { IfOk result (λ cuts. AreCutInto (bare_prog p.now) cuts.items) }
     ensures refused { IfErr result (λ e. (e ≡ Memory) ⊎ IsUncuttable (bare_prog p.now) e) }
 {
-    let mut found = Vec::new(alloc);
+    let mut cuts = Vec::new(alloc);
     for (t, transform) in p.transforms.iter().enumerate() {
         let nodes = transform_nodes(alloc, p, t as u32, transform)?;
-        found.push(Analysis { nodes })?;
+        cuts.push(CutTransform { nodes })?;
     }
-    Ok(found)
+    Ok(cuts)
 }

@@ -8,3 +8,4 @@ pub mod ValueLemmas
 pub mod PlaceLemmas
 pub mod AnswerLemmas
 pub mod RuleLemmas
+pub mod EachLemmas

@@ -1,18 +1,19 @@
 -- The line on `err` for a program that is refused.
 use Rattle.std.specs.Prelude.{ℕ, zero, suc, ◌≤◌, ◌==◌, if◌then◌else◌, List, length, [], ◌∷◌, ◌++◌, Option, Some, None, codes, decimal, slice_get}
 use Rattle.pb_values.specs.Name.{NameValue}
-use Rattle.std.specs.List.{All}
+use Rattle.std.specs.List.{All, flat_map}
 use Rattle.pb_linear.specs.declared.form.Form.{Form}
 use Rattle.pb_linear.specs.declared.sizes.Sizes.{Sizes}
 use Rattle.pb_linear.specs.declared.vform.SymBox.{SymBox}
 use Rattle.pb_linear.specs.Sizes.{sizes_of}
+use Rattle.pb_graph.specs.Nodes.{NodeValue}
 use Rattle.pb_prog.specs.FormText.{form_text}
 use Rattle.pb_program.specs.Forms.{DeclValue}
 use Rattle.pb_program.specs.Trees.{ProgTransform}
 use Rattle.pb_syntax.specs.declared.refusal.Item.{Item}
 use Rattle.pb_syntax.specs.declared.refusal.Item.TheVariants.{Transforms, Rules, Matrices, Sizes as ItemSizes, Outputs, Reads, Conditions, Minimums, Targets, Arguments, Terms, Number, Statements, Nesting}
 use Rattle.pb_syntax.specs.declared.refusal.Refusal.{Refusal}
-use Rattle.pb_syntax.specs.declared.refusal.Refusal.TheVariants.{TooLong, BadToken, BadSyntax, OverLimit, DuplicateName, UnknownName, SizeNotBound, BadOutput, BadType, NegativeDim, OverlapOutputs, NotABox, Crossing, Uncovered, TooManySegments}
+use Rattle.pb_syntax.specs.declared.refusal.Refusal.TheVariants.{TooLong, BadToken, BadSyntax, OverLimit, DuplicateName, UnknownName, SizeNotBound, BadOutput, BadType, NegativeDim, OverlapOutputs, NotABox, Crossing, Uncovered, TooManySegments, NoOrder, Memory}
 
 -- the word for what is too many
 abbrev pub item_word : Item → List ℕ
@@ -132,24 +133,35 @@ uncovered_text ts t matrix area = transform_text ts t ++ (matrix_text ts t matri
 abbrev pub crowded_text : List ProgTransform → ℕ → ℕ → List ℕ
 crowded_text ts t matrix = transform_text ts t ++ (matrix_text ts t matrix ++ 10 ∷ [])
 
--- the refusals of the phases that are built
+-- a segment: the name of its matrix and its area, `B[0,1)`
+abbrev pub segment_of : List NameValue → SymBox → Option DeclValue → List ℕ
+segment_of names area None = []
+segment_of names area (Some d) = d.name.bytes ++ area_by d.dims names area
+
+abbrev pub segment_text : ProgTransform → NodeValue → List ℕ
+segment_text t s = segment_of t.sizes s.area (slice_get t.matrices s.matrix)
+
+-- the segment of a number
+abbrev pub segment_at : ProgTransform → Option NodeValue → List ℕ
+segment_at t None = []
+segment_at t (Some s) = segment_text t s
+
+abbrev pub segment_in : Option ProgTransform → Option NodeValue → List ℕ
+segment_in None s = []
+segment_in (Some t) s = segment_at t s
+
+-- segments by their numbers, each after a blank
+abbrev pub segments_text : Option ProgTransform → List NodeValue → List ℕ → List ℕ
+segments_text t nodes numbers = flat_map (λ k. codes " " ++ segment_in t (slice_get nodes k)) numbers
+
+-- `T U[0,n) V[0,n)`
+abbrev pub unordered_text : List ProgTransform → List NodeValue → ℕ → List ℕ → List ℕ
+unordered_text ts nodes t numbers = transform_text ts t ++ (segments_text (slice_get ts t) nodes numbers ++ 10 ∷ [])
+
+-- a refusal has a line, but for out of memory
 abbrev pub HasLine : Refusal → Type 0
-HasLine TooLong = Unit {0}
-HasLine (BadToken at) = Unit {0}
-HasLine (BadSyntax at) = Unit {0}
-HasLine (OverLimit what at) = Unit {0}
-HasLine (DuplicateName name at) = Unit {0}
-HasLine (UnknownName name at) = Unit {0}
-HasLine (SizeNotBound name at) = Unit {0}
-HasLine (BadOutput at) = Unit {0}
-HasLine (BadType at) = Unit {0}
-HasLine (NegativeDim t matrix axis sizes) = Unit {0}
-HasLine (OverlapOutputs t rule first second) = Unit {0}
-HasLine (NotABox t rule condition) = Unit {0}
-HasLine (Crossing t matrix axis first second over under) = Unit {0}
-HasLine (Uncovered t matrix area) = Unit {0}
-HasLine (TooManySegments t matrix) = Unit {0}
-HasLine other = ⊥
+HasLine Memory = ⊥
+HasLine other = Unit {0}
 
 -- no transform has more than 8 size variables
 abbrev pub HaveFewSizes : List ProgTransform → Type 0
@@ -172,27 +184,37 @@ code_text (NotABox t rule condition) = codes "P12 NotABox: "
 code_text (Crossing t matrix axis first second over under) = codes "P13 Crossing: "
 code_text (Uncovered t matrix area) = codes "P14 Uncovered: "
 code_text (TooManySegments t matrix) = codes "P15 TooManySegments: "
-code_text other = []
+code_text (NoOrder t segments) = codes "P16 NoOrder: "
+code_text Memory = []
+
+-- what is told of the segments of a transform
+abbrev pub segments_cause : List ProgTransform → List NodeValue → Refusal → List ℕ
+segments_cause ts nodes (Crossing t matrix axis first second over under) = crossing_text ts t matrix axis first second over under
+segments_cause ts nodes (Uncovered t matrix area) = uncovered_text ts t matrix area
+segments_cause ts nodes (TooManySegments t matrix) = crowded_text ts t matrix
+segments_cause ts nodes (NoOrder t segments) = unordered_text ts nodes t segments
+segments_cause ts nodes other = []
+
+-- of its sides and its rules
+abbrev pub transform_cause : List ProgTransform → List NodeValue → Refusal → List ℕ
+transform_cause ts nodes (NegativeDim t matrix axis sizes) = negative_text ts t matrix axis sizes
+transform_cause ts nodes (OverlapOutputs t rule first second) = rule_text ts t rule ++ outputs_text first second
+transform_cause ts nodes (NotABox t rule condition) = rule_text ts t rule ++ condition_text condition
+transform_cause ts nodes other = segments_cause ts nodes other
 
 -- where the fault is, and the line's end
-abbrev pub cause_text : List ProgTransform → Refusal → List ℕ
-cause_text ts TooLong = 10 ∷ []
-cause_text ts (BadToken at) = at_byte at
-cause_text ts (BadSyntax at) = at_byte at
-cause_text ts (OverLimit what at) = named (item_word what) at
-cause_text ts (DuplicateName name at) = named name.bytes at
-cause_text ts (UnknownName name at) = named name.bytes at
-cause_text ts (SizeNotBound name at) = named name.bytes at
-cause_text ts (BadOutput at) = at_byte at
-cause_text ts (BadType at) = at_byte at
-cause_text ts (NegativeDim t matrix axis sizes) = negative_text ts t matrix axis sizes
-cause_text ts (OverlapOutputs t rule first second) = rule_text ts t rule ++ outputs_text first second
-cause_text ts (NotABox t rule condition) = rule_text ts t rule ++ condition_text condition
-cause_text ts (Crossing t matrix axis first second over under) = crossing_text ts t matrix axis first second over under
-cause_text ts (Uncovered t matrix area) = uncovered_text ts t matrix area
-cause_text ts (TooManySegments t matrix) = crowded_text ts t matrix
-cause_text ts other = []
+abbrev pub cause_text : List ProgTransform → List NodeValue → Refusal → List ℕ
+cause_text ts nodes TooLong = 10 ∷ []
+cause_text ts nodes (BadToken at) = at_byte at
+cause_text ts nodes (BadSyntax at) = at_byte at
+cause_text ts nodes (OverLimit what at) = named (item_word what) at
+cause_text ts nodes (DuplicateName name at) = named name.bytes at
+cause_text ts nodes (UnknownName name at) = named name.bytes at
+cause_text ts nodes (SizeNotBound name at) = named name.bytes at
+cause_text ts nodes (BadOutput at) = at_byte at
+cause_text ts nodes (BadType at) = at_byte at
+cause_text ts nodes other = transform_cause ts nodes other
 
--- the line of a refusal; the line of a later phase comes with the phase, and out of memory has none
-abbrev pub refusal_line : List ProgTransform → Refusal → List ℕ
-refusal_line ts e = code_text e ++ cause_text ts e
+-- the line of a refusal, with the segments of the transform that it names; out of memory has none
+abbrev pub refusal_line : List ProgTransform → List NodeValue → Refusal → List ℕ
+refusal_line ts nodes e = code_text e ++ cause_text ts nodes e

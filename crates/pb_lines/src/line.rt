@@ -3,8 +3,9 @@ ghost use Rattle.pb_program.specs.Trees.{bare_transform};
 ghost use Rattle.pb_lines.specs.Lines as lines;
 
 use crate::names::{write_axis, write_matrix, write_named, write_sizes_of, write_transform};
-use crate::segments::{write_crossing, write_crowded, write_uncovered};
+use crate::segments::{write_crossing, write_crowded, write_uncovered, write_unordered};
 use crate::text::{write_numbered, write_place};
+use pb_graph::Node;
 use pb_linear::Sizes;
 use pb_program::Transform;
 use pb_syntax::{Item, Refusal};
@@ -82,27 +83,57 @@ fn write_condition(text: &mut Vec<u8>, condition: u32) -> Result<(), AllocError>
     text.extend_from_slice(b"\n")
 }
 
-/// What follows a refusal's code and name.
-fn write_cause(
+/// What is told of the segments of a transform.
+fn write_segments_cause(
     alloc: Global,
     text: &mut Vec<u8>,
     program: &[Transform],
+    nodes: &[Node],
     refusal: &Refusal,
 ) -> Result<(), AllocError>
-    requires line { lines.HasLine refusal.now }
-    requires few { lines.HaveFewSizes (map bare_transform program.now) }
-    ensures { OnOk result (text.new.items ≡ text.old.items ++ lines.cause_text (map bare_transform program.now) refusal.now) }
+    requires { lines.HaveFewSizes (map bare_transform program.now) }
+    ensures { OnOk result (text.new.items ≡ text.old.items ++ lines.segments_cause (map bare_transform program.now) nodes.now refusal.now) }
 {
     match refusal {
-        Refusal::TooLong => text.extend_from_slice(b"\n"),
-        Refusal::BadToken { at } => write_place(text, *at),
-        Refusal::BadSyntax { at } => write_place(text, *at),
-        Refusal::OverLimit { what, at } => write_named(text, item_word(*what), *at),
-        Refusal::DuplicateName { name, at } => write_named(text, name.bytes(), *at),
-        Refusal::UnknownName { name, at } => write_named(text, name.bytes(), *at),
-        Refusal::SizeNotBound { name, at } => write_named(text, name.bytes(), *at),
-        Refusal::BadOutput { at } => write_place(text, *at),
-        Refusal::BadType { at } => write_place(text, *at),
+        Refusal::Crossing {
+            transform,
+            matrix,
+            axis,
+            first,
+            second,
+            over,
+            under,
+        } => write_crossing(
+            alloc, text, program, *transform, *matrix, *axis, first, second, over, under,
+        ),
+        Refusal::Uncovered {
+            transform,
+            matrix,
+            area,
+        } => write_uncovered(alloc, text, program, *transform, *matrix, area),
+        Refusal::TooManySegments { transform, matrix } => {
+            write_crowded(text, program, *transform, *matrix)
+        }
+        Refusal::NoOrder {
+            transform,
+            segments,
+        } => write_unordered(alloc, text, program, nodes, *transform, segments),
+        _ => Ok(()),
+    }
+}
+
+/// What is told of a transform: of its sides, its rules and its segments.
+fn write_transform_cause(
+    alloc: Global,
+    text: &mut Vec<u8>,
+    program: &[Transform],
+    nodes: &[Node],
+    refusal: &Refusal,
+) -> Result<(), AllocError>
+    requires { lines.HaveFewSizes (map bare_transform program.now) }
+    ensures { OnOk result (text.new.items ≡ text.old.items ++ lines.transform_cause (map bare_transform program.now) nodes.now refusal.now) }
+{
+    match refusal {
         Refusal::NegativeDim {
             transform,
             matrix,
@@ -126,26 +157,32 @@ fn write_cause(
             write_rule(text, program, *transform, *rule)?;
             write_condition(text, *condition)
         }
-        Refusal::Crossing {
-            transform,
-            matrix,
-            axis,
-            first,
-            second,
-            over,
-            under,
-        } => write_crossing(
-            alloc, text, program, *transform, *matrix, *axis, first, second, over, under,
-        ),
-        Refusal::Uncovered {
-            transform,
-            matrix,
-            area,
-        } => write_uncovered(alloc, text, program, *transform, *matrix, area),
-        Refusal::TooManySegments { transform, matrix } => {
-            write_crowded(text, program, *transform, *matrix)
-        }
-        _ => unreachable!(),
+        _ => write_segments_cause(alloc, text, program, nodes, refusal),
+    }
+}
+
+/// What follows a refusal's code and name.
+fn write_cause(
+    alloc: Global,
+    text: &mut Vec<u8>,
+    program: &[Transform],
+    nodes: &[Node],
+    refusal: &Refusal,
+) -> Result<(), AllocError>
+    requires { lines.HaveFewSizes (map bare_transform program.now) }
+    ensures { OnOk result (text.new.items ≡ text.old.items ++ lines.cause_text (map bare_transform program.now) nodes.now refusal.now) }
+{
+    match refusal {
+        Refusal::TooLong => text.extend_from_slice(b"\n"),
+        Refusal::BadToken { at } => write_place(text, *at),
+        Refusal::BadSyntax { at } => write_place(text, *at),
+        Refusal::OverLimit { what, at } => write_named(text, item_word(*what), *at),
+        Refusal::DuplicateName { name, at } => write_named(text, name.bytes(), *at),
+        Refusal::UnknownName { name, at } => write_named(text, name.bytes(), *at),
+        Refusal::SizeNotBound { name, at } => write_named(text, name.bytes(), *at),
+        Refusal::BadOutput { at } => write_place(text, *at),
+        Refusal::BadType { at } => write_place(text, *at),
+        _ => write_transform_cause(alloc, text, program, nodes, refusal),
     }
 }
 
@@ -170,22 +207,25 @@ fn code(refusal: &Refusal) -> &'static [u8]
         Refusal::Crossing { .. } => b"P13 Crossing: ",
         Refusal::Uncovered { .. } => b"P14 Uncovered: ",
         Refusal::TooManySegments { .. } => b"P15 TooManySegments: ",
-        _ => unreachable!(),
+        Refusal::NoOrder { .. } => b"P16 NoOrder: ",
+        Refusal::Memory => unreachable!(),
     }
 }
 
 /// The line for `err` of a refusal of a program with these transforms, none where the refusal comes before their names are
-/// resolved. No transform has more than 8 size variables. Not for the refusals of the phases that aren't built, and not for memory that ran out.
+/// resolved. `nodes` are the segments of the transform that has no order, none for other refusals. No transform has more than 8
+/// size variables. Not for memory that ran out.
 pub fn refusal_line(
     alloc: Global,
     program: &[Transform],
+    nodes: &[Node],
     refusal: &Refusal,
 ) -> Result<Vec<u8>, AllocError>
     requires line { lines.HasLine refusal.now }
     requires few { lines.HaveFewSizes (map bare_transform program.now) }
-    ensures { IfOk result (λ line. line.items ≡ lines.refusal_line (map bare_transform program.now) refusal.now) }
+    ensures { IfOk result (λ line. line.items ≡ lines.refusal_line (map bare_transform program.now) nodes.now refusal.now) }
 {
     let mut text = code(refusal).to_vec(alloc)?;
-    write_cause(alloc, &mut text, program, refusal)?;
+    write_cause(alloc, &mut text, program, nodes, refusal)?;
     Ok(text)
 }

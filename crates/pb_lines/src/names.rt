@@ -53,7 +53,8 @@ pub(crate) fn write_matrix(
     }
 }
 
-pub(crate) fn write_axis(text: &mut Vec<u8>, axis: u8) -> Result<(), AllocError>
+/// Adds the letter of an axis: `x` for 0, else `y`.
+pub fn write_axis(text: &mut Vec<u8>, axis: u8) -> Result<(), AllocError>
     ensures { OnOk result (text.new.items ≡ text.old.items ++ axis_text axis) }
 {
     if axis == 0 {

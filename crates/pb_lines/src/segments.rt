@@ -1,27 +1,14 @@
-ghost use Rattle.std.specs.Prelude.{◌≡◌, ◌≤◌, ◌++◌, IfNone, IfSome, None, OnOk, Some, length, map, slice_get};
-ghost use Rattle.pb_prog.specs.FormText.{form_text};
+ghost use Rattle.std.specs.Prelude.{◌≡◌, ◌++◌, IfNone, IfSome, None, OnOk, Some, map, slice_get};
 ghost use Rattle.pb_program.specs.Trees.{bare_transform};
-ghost use Rattle.pb_lines.specs.Lines.{area_by, area_in, both_text, crossing_text, crowded_text, form_in, HaveFewSizes, interval_text, over_text, uncovered_text};
+ghost use Rattle.pb_lines.specs.Lines.{area_in, both_text, crossing_text, crowded_text, form_in, HaveFewSizes, over_text, segment_in, segments_text, uncovered_text, unordered_text};
 
+use crate::area::{matrix_at, names_of, write_area_on, write_form, write_segment};
 use crate::names::{write_axis, write_matrix, write_sizes_of, write_transform};
+use pb_graph::Node;
 use pb_linear::{Form, Sizes, SymBox};
-use pb_prog::print_form;
-use pb_program::{Decl, Transform};
-use pb_values::Name;
+use pb_program::Transform;
+use pb_syntax::Segments;
 use std::alloc::{AllocError, Global};
-
-fn write_form(
-    alloc: Global,
-    text: &mut Vec<u8>,
-    form: &Form,
-    names: &[Name],
-) -> Result<(), AllocError>
-    requires { length names.now ≤ 8 }
-    ensures { OnOk result (text.new.items ≡ text.old.items ++ form_text form.now names.now) }
-{
-    let printed = print_form(alloc, form, names)?;
-    text.extend_from_slice(&printed)
-}
 
 /// The transform with this number.
 #[tactic(auto, using(crate::proofs::PlaceLemmas::held_at, crate::proofs::PlaceLemmas::held_past))]
@@ -30,21 +17,6 @@ fn transform_at(program: &[Transform], t: u32) -> Option<&Transform>
     ensures none { IfNone result (slice_get (map bare_transform program.now) t ≡ None) }
 {
     program.get(t as usize)
-}
-
-/// The names of its size variables.
-fn names_of(transform: &Transform) -> &[Name]
-    ensures { result.now ≡ transform.now.sizes }
-{
-    &transform.sizes
-}
-
-/// Its matrix with this number.
-fn matrix_at(transform: &Transform, matrix: u32) -> Option<&Decl>
-    ensures found { IfSome result (λ d. slice_get transform.now.matrices matrix ≡ Some d.now) }
-    ensures none { IfNone result (slice_get transform.now.matrices matrix ≡ None) }
-{
-    transform.matrices.get(matrix as usize)
 }
 
 /// A form over the sizes of a transform, if there is one with this number.
@@ -129,57 +101,6 @@ pub(crate) fn write_crossing(
     write_both(alloc, text, program, t, first, second, over, under)
 }
 
-/// The numbers from one form to before another.
-fn write_interval(
-    alloc: Global,
-    text: &mut Vec<u8>,
-    names: &[Name],
-    low: &Form,
-    high: &Form,
-) -> Result<(), AllocError>
-    requires { length names.now ≤ 8 }
-    ensures { OnOk result (text.new.items ≡ text.old.items ++ interval_text names.now low.now high.now) }
-{
-    text.extend_from_slice(b"[")?;
-    write_form(alloc, text, low, names)?;
-    text.extend_from_slice(b",")?;
-    write_form(alloc, text, high, names)?;
-    text.extend_from_slice(b")")
-}
-
-/// An area of a matrix of so many dimensions.
-fn write_area(
-    alloc: Global,
-    text: &mut Vec<u8>,
-    names: &[Name],
-    dims: u8,
-    area: &SymBox,
-) -> Result<(), AllocError>
-    requires { length names.now ≤ 8 }
-    ensures { OnOk result (text.new.items ≡ text.old.items ++ area_by dims names.now area.now) }
-{
-    write_interval(alloc, text, names, &area.x0, &area.x1)?;
-    if dims == 1 {
-        return Ok(());
-    }
-    text.extend_from_slice(b"x")?;
-    write_interval(alloc, text, names, &area.y0, &area.y1)
-}
-
-/// An area of a matrix.
-fn write_area_on(
-    alloc: Global,
-    text: &mut Vec<u8>,
-    names: &[Name],
-    matrix: &Decl,
-    area: &SymBox,
-) -> Result<(), AllocError>
-    requires { length names.now ≤ 8 }
-    ensures { OnOk result (text.new.items ≡ text.old.items ++ area_by matrix.now.dims names.now area.now) }
-{
-    write_area(alloc, text, names, matrix.dims, area)
-}
-
 /// An area of a matrix, if there is one with this number.
 #[tactic(auto, using(crate::proofs::PlaceLemmas::few_at))]
 fn write_area_of(
@@ -232,5 +153,63 @@ pub(crate) fn write_crowded(
 {
     write_transform(text, program, t)?;
     write_matrix(text, program, t, matrix)?;
+    text.extend_from_slice(b"\n")
+}
+
+/// The segment of this number, if there is one, of a transform, if there is one with its number.
+#[tactic(auto, using(crate::proofs::PlaceLemmas::few_at))]
+fn write_segment_of(
+    alloc: Global,
+    text: &mut Vec<u8>,
+    program: &[Transform],
+    nodes: &[Node],
+    t: u32,
+    segment: u32,
+) -> Result<(), AllocError>
+    requires { HaveFewSizes (map bare_transform program.now) }
+    ensures { OnOk result (text.new.items ≡ text.old.items ++ segment_in (slice_get (map bare_transform program.now) t) (slice_get nodes.now segment)) }
+{
+    let Some(t) = transform_at(program, t) else {
+        return Ok(());
+    };
+    match nodes.get(segment as usize) {
+        Some(node) => write_segment(alloc, text, t, node),
+        None => Ok(()),
+    }
+}
+
+/// Segments of a transform, each after a blank.
+fn write_segments(
+    alloc: Global,
+    text: &mut Vec<u8>,
+    program: &[Transform],
+    nodes: &[Node],
+    t: u32,
+    segments: &Segments,
+) -> Result<(), AllocError>
+    requires { HaveFewSizes (map bare_transform program.now) }
+    ensures { OnOk result (text.new.items ≡ text.old.items ++ segments_text (slice_get (map bare_transform program.now) t) nodes.now segments.now) }
+{
+    for segment in &segments.numbers {
+        text.extend_from_slice(b" ")?;
+        write_segment_of(alloc, text, program, nodes, t, *segment)?;
+    }
+    Ok(())
+}
+
+/// Segments of a transform that have no order.
+pub(crate) fn write_unordered(
+    alloc: Global,
+    text: &mut Vec<u8>,
+    program: &[Transform],
+    nodes: &[Node],
+    t: u32,
+    segments: &Segments,
+) -> Result<(), AllocError>
+    requires { HaveFewSizes (map bare_transform program.now) }
+    ensures { OnOk result (text.new.items ≡ text.old.items ++ unordered_text (map bare_transform program.now) nodes.now t segments.now) }
+{
+    write_transform(text, program, t)?;
+    write_segments(alloc, text, program, nodes, t, segments)?;
     text.extend_from_slice(b"\n")
 }

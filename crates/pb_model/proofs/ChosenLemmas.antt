@@ -12,7 +12,7 @@ use Rattle.pb_model.specs.Cells.{Cell}
 use Rattle.pb_model.specs.Chosen.{chosen_rule, instance_size}
 use Rattle.pb_model.specs.Lawful.{IsLawful, lawful}
 use Rattle.pb_model.proofs.LawfulLemmas.{lawful_in}
-use Rattle.pb_model.proofs.ListLemmas.{all_each, filter_in, in_cases, in_head, in_tail, map_in}
+use Rattle.pb_base.proofs.ListLemmas.{all_each, filter_in, in_cases, in_head, in_tail, map_in}
 
 in_set : (set : List ℕ) (k : ℕ) → is_in set k ≡ true → Contains set k
 in_set [] k h = absurd (let e : false ≡ true = h in cc)

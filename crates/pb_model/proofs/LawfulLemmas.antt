@@ -15,7 +15,7 @@ use Rattle.pb_program.specs.Forms.{DeclValue}
 use Rattle.pb_program.specs.Trees.{ProgRule, ProgTransform}
 use Rattle.pb_model.specs.Cells.{Cell}
 use Rattle.pb_model.specs.Lawful.{CanMake, IsLawful, WritesBy, applies, can_make, comes_first, holds, is_lawful, lawful, writes_by}
-use Rattle.pb_model.proofs.ListLemmas.{all_each, all_test, at_in, each_all, filter_in, in_at, in_filter, in_range}
+use Rattle.pb_base.proofs.ListLemmas.{all_each, all_test, at_in, each_all, filter_in, in_at, in_filter, in_range}
 
 le_test : (a b : ℤ) → (int_le a b ≡ true) ↔ (a ≤ℤ b)
 le_test a b = (λ h. grind (arith, ints), λ h. grind (arith, ints))

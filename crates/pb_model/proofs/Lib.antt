@@ -1,4 +1,3 @@
-pub mod ListLemmas
 pub mod LawfulLemmas
 pub mod ReadLemmas
 pub mod ChosenLemmas

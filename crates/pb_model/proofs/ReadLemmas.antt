@@ -9,7 +9,7 @@ use Rattle.pb_program.specs.Areas.{Area, IsIn, Span, area_of}
 use Rattle.pb_program.specs.Forms.{DeclValue}
 use Rattle.pb_program.specs.Trees.{ProgRule}
 use Rattle.pb_model.specs.Cells.{Cell, ReadsCell, Shows, cells_of, cells_of_view, natural, numbers_of, reads}
-use Rattle.pb_model.proofs.ListLemmas.{filter_in, flat_in, in_filter, in_flat, in_map, in_none, in_range, map_in, range_in}
+use Rattle.pb_base.proofs.ListLemmas.{filter_in, flat_in, in_filter, in_flat, in_map, in_none, in_range, map_in, range_in}
 
 below_natural : (z : ℤ) (n : ℕ) → n < natural z → pos n <ℤ z
 below_natural (pos k) n h = omega (arith, ints)

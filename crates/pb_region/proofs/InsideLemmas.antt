@@ -46,7 +46,7 @@ module _ {A : Type 0} (P : A → Type 0) where
 le_of : (a b : ℤ) → int_le a b ≡ true → a ≤ℤ b
 le_of a b h = grind (arith, ints)
 
-unit_bounds : (k : ℤ) → is_unit k ≡ true → (negsuc 0 ≤ℤ k) × (k ≤ℤ pos 1)
+pub unit_bounds : (k : ℤ) → is_unit k ≡ true → (negsuc 0 ≤ℤ k) × (k ≤ℤ pos 1)
 unit_bounds k h = let parts = and_parts (int_le (negsuc 0) k) (int_le k (pos 1)) h in (le_of (negsuc 0) k parts.0, le_of k (pos 1) parts.1)
 
 unit_cases : (k : ℤ) → is_unit k ≡ true → (k ≡ negsuc 0) ⊎ ((k ≡ pos 0) ⊎ (k ≡ pos 1))

@@ -16,3 +16,4 @@ pub mod NegativeLemmas
 pub mod SomeLemmas
 pub mod WithinLemmas
 pub mod LimitLemmas
+pub mod EndLemmas

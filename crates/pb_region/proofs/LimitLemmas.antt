@@ -47,11 +47,11 @@ in_of P (y ∷ xs) x zero h below is = subst P is h.0
 in_of P (y ∷ xs) x (suc k) h below is = in_of P xs x k h.1 (omega arith) is
 
 -- ---- numbers
-all_numbers : (p q : ℤ → Bool) → ((z : ℤ) → p z ≡ true → q z ≡ true) → (xs : List ℤ) → list_all p xs ≡ true → list_all q xs ≡ true
+pub all_numbers : (p q : ℤ → Bool) → ((z : ℤ) → p z ≡ true → q z ≡ true) → (xs : List ℤ) → list_all p xs ≡ true → list_all q xs ≡ true
 all_numbers p q each [] h = refl
 all_numbers p q each (x ∷ xs) h = let parts = and_parts (p x) (list_all p xs) h in rw (each x parts.0, all_numbers p q each xs parts.1) refl
 
-bound_is : (z : ℤ) → unsigned_abs z ≤ 2 ^ 25 → is_bound_number z ≡ true
+bound_is : (z : ℤ) → unsigned_abs z ≤ 2 ^ 24 + 2 → is_bound_number z ≡ true
 bound_is z h = le-leb _ _ h
 
 small_bound : (z : ℤ) → is_small z ≡ true → is_bound_number z ≡ true
@@ -204,11 +204,11 @@ unfolding bounds
 bounds_small s a [] h = tt
 bounds_small s a (g ∷ gs) h = with_bound (bound s a g) (bounds s a gs) (bound_by s a g h.0) (bounds_small s a gs h.1)
 
-record SmallEnds (e : Ends) : Type 0 where
-  x0 : IsSmallBound e.x.low.rest
-  x1 : IsSmallBound e.x.high.rest
-  y0 : IsSmallBound e.y.low.rest
-  y1 : IsSmallBound e.y.high.rest
+pub record SmallEnds (e : Ends) : Type 0 where
+  pub x0 : IsSmallBound e.x.low.rest
+  pub x1 : IsSmallBound e.x.high.rest
+  pub y0 : IsSmallBound e.y.low.rest
+  pub y1 : IsSmallBound e.y.high.rest
 
 record SmallInterval (i : Interval) : Type 0 where
   low : IsSmallBound i.low.rest
@@ -271,7 +271,7 @@ module _ (sizes : ℕ) (ms : List DeclValue) (fit : AllByRecursion (IsDecl sizes
     gaps_collected [] a = tt
     gaps_collected (c ∷ cs) a = (collected c a.0, gaps_collected cs a.1)
 
-    ends_small_by : (o : Option DeclValue) (out : Read) → slice_get ms out.matrix ≡ o → IsView sizes (variables r.outs) matrices out → SmallEnds (ends_in out o)
+    pub ends_small_by : (o : Option DeclValue) (out : Read) → slice_get ms out.matrix ≡ o → IsView sizes (variables r.outs) matrices out → SmallEnds (ends_in out o)
     ends_small_by None out e view = record { x0 = bound_form nothing.rest small_nothing; x1 = bound_form nothing.rest small_nothing; y0 = bound_form nothing.rest small_nothing; y1 = bound_form nothing.rest small_nothing }
     ends_small_by (Some d) out e view = ends_small out.view out d (small_view (variables r.outs) matrices out view) (small_decl d (at_place (IsDecl sizes) ms out.matrix d fit e))
 

@@ -1,5 +1,5 @@
 -- Numbers so small that no sum of them passes the limit of forms.
-use Rattle.std.specs.Prelude.{◌^◌, ◌≤◌, ℤ, Bool, IsTrue, nat_le, unsigned_abs, length}
+use Rattle.std.specs.Prelude.{◌≡◌, ◌+◌, ◌^◌, ◌≤◌, ℤ, Bool, false, IsTrue, nat_le, unsigned_abs, length}
 use Rattle.std.specs.List.{All, AllByRecursion, list_all}
 use Rattle.pb_linear.specs.Numbers.{Numbers}
 use Rattle.pb_linear.specs.Sizes.{IsRanges}
@@ -67,9 +67,9 @@ pub record IsSmallRule (r : ProgRule) : Type 0 where
   pub reads : All IsSmallRead r.reads
   pub conds : All IsSmallCond r.conds
 
--- a number of a bound: at most 2^25 in absolute value
+-- a number of a bound: at most 2^24 + 2 in absolute value
 abbrev pub is_bound_number : ℤ → Bool
-is_bound_number z = nat_le (unsigned_abs z) (2 ^ 25)
+is_bound_number z = nat_le (unsigned_abs z) (2 ^ 24 + 2)
 
 -- a bound of such numbers
 pub record IsSmallBound (n : Numbers) : Type 0 where
@@ -84,3 +84,15 @@ pub record AreSmallLimits (l : Limits) : Type 0 where
   pub upper_x : AllByRecursion IsSmallBound l.upper_x
   pub lower_y : AllByRecursion IsSmallBound l.lower_y
   pub upper_y : AllByRecursion IsSmallBound l.upper_y
+
+-- an end of a read: of the rule variables at most one plays a part, with the coefficient 1 or -1; ends bear no mark of a quotient
+pub record IsSmallEnd (c : CoordinateValue) : Type 0 where
+  pub unmarked : c.quotient ≡ false
+  pub coefficients : unsigned_abs c.x + unsigned_abs c.y ≤ 1
+  pub rest : IsSmallBound c.rest
+
+pub record HaveSmallEnds (e : Ends) : Type 0 where
+  pub x_low : IsSmallEnd e.x.low
+  pub x_high : IsSmallEnd e.x.high
+  pub y_low : IsSmallEnd e.y.low
+  pub y_high : IsSmallEnd e.y.high

@@ -1,4 +1,4 @@
-ghost use Rattle.std.specs.Prelude.{◌≡◌, ◌↔◌, ◌⊎◌, ℕ, ℤ, pos, ◌≤ℤ◌, false, List, Some, slice_get};
+ghost use Rattle.std.specs.Prelude.{◌≡◌, ◌↔◌, ◌⊎◌, ℕ, ℤ, pos, ◌≤ℤ◌, false, List, length, Some, slice_get};
 ghost use Rattle.std.specs.List.{AllByRecursion, Contains};
 ghost use Rattle.pb_linear.specs.Numbers.{exact_value};
 ghost use Rattle.pb_linear.specs.Sizes.{InRange, IsRanges, leasts_of};
@@ -16,7 +16,8 @@ ghost use Rattle.pb_region.specs.Dims as Dims;
 ghost use Rattle.pb_region.specs.Ends.{area_at, ends_of};
 ghost use Rattle.pb_region.specs.Gaps.{gap};
 ghost use Rattle.pb_region.specs.Inside.{bounding, guards, IsInside};
-ghost use Rattle.pb_region.specs.Small.{AreSmallLimits};
+ghost use Rattle.pb_region.specs.Reads.{ReadValue, reads_of};
+ghost use Rattle.pb_region.specs.Small.{AreSmallLimits, HaveSmallEnds};
 ghost use Rattle.pb_region.specs.Within.{IsWithin};
 ghost use Rattle.pb_region.specs.Rules.{HasRefusal, IsAccepted, IsRefused};
 
@@ -68,6 +69,13 @@ pub fn a_read_is_within_its_matrix()
 pub fn bounds_are_small()
     ensures { (sizes inputs count transforms : ℕ) (matrices : List DeclValue) (r : ProgRule) → IsRule sizes inputs count transforms r → AllByRecursion (IsDecl sizes) matrices
         → (leasts : List ℕ) (number : ℕ) (out : Read) → Contains r.outs out → AreSmallLimits (box leasts matrices number r out).limits }
+{}
+
+/// A law: the numbers of the ends of what an accepted rule reads are so small that no sum that is made of them passes the
+/// limit, and of the two rule variables at most one plays a part in an end.
+pub fn ends_of_reads_are_small()
+    ensures { (transforms : ℕ) (t : ProgTransform) (r : ProgRule) → AllByRecursion (IsDecl (length t.sizes)) t.matrices → IsRule (length t.sizes) t.inputs (length t.matrices) transforms r
+        → IsAccepted t r → (number : ℕ) → AllByRecursion (λ (v : ReadValue). HaveSmallEnds v.ends) (reads_of t number r) }
 {}
 
 /// A law: a rule is accepted or refused for one reason, and never both.

@@ -22,7 +22,7 @@ pub use dims::check_dims;
 pub use laws::{
     a_box_is_its_conditions, a_condition_is_its_gap, a_read_is_within_its_matrix,
     a_rule_has_one_answer, a_wide_box_is_its_area, an_unguarded_box_needs_no_guard,
-    bounds_are_small, ends_are_those_of_the_area, sides_have_one_answer,
+    bounds_are_small, ends_are_those_of_the_area, ends_of_reads_are_small, sides_have_one_answer,
 };
 pub use reads::read_boxes;
 pub use rule::conditions;

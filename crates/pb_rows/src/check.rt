@@ -232,14 +232,15 @@ fn shelf_with(alloc: Global, text: &[u8]) -> Result<MemShelf, AllocError> {
     Ok(MemShelf::new(entries, Vec::new(alloc)))
 }
 
-/// The status of `check p` over this text, and what is put on `out` and `err`.
-pub fn checked<R: Threads + Wait + Sync + Abort>(
+/// The status of a command on a file p with this text, and what is put on `out` and `err`.
+pub fn answered<R: Threads + Wait + Sync + Abort>(
     rt: &R,
     alloc: Global,
+    command: &str,
     text: &[u8],
 ) -> Result<(u8, Vec<u8>, Vec<u8>), AllocError> {
     let words = vec![in alloc;
-        String::from_str(alloc, "check")?,
+        String::from_str(alloc, command)?,
         String::from_str(alloc, "p")?,
     ]?;
     let mut files = shelf_with(alloc, text)?;
@@ -249,6 +250,15 @@ pub fn checked<R: Threads + Wait + Sync + Abort>(
     let out = Vec::from_slice(alloc, out.written())?;
     let err = Vec::from_slice(alloc, err.written())?;
     Ok((status, out, err))
+}
+
+/// The status of `check p` over this text, and what is put on `out` and `err`.
+pub fn checked<R: Threads + Wait + Sync + Abort>(
+    rt: &R,
+    alloc: Global,
+    text: &[u8],
+) -> Result<(u8, Vec<u8>, Vec<u8>), AllocError> {
+    answered(rt, alloc, "check", text)
 }
 
 #[test]

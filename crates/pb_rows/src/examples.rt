@@ -1,17 +1,17 @@
 //! The programs of the folder examples.
 
 /// Those that are accepted.
-pub const EXAMPLES: [&str; 12] = [
-    ROLL, DOUBLE, MUL, BLUR2, PAIR, TWOWAY, DIV, BIG, GUARD2, PREFIX, REV, BAD,
-];
+pub const EXAMPLES: [&str; 10] = [ROLL, DOUBLE, MUL, BLUR2, DIV, BIG, GUARD2, PREFIX, REV, BAD];
 
 /// Those that are refused, with the lines that say why.
-pub const REFUSED: [(&str, &str); 2] = [
+pub const REFUSED: [(&str, &str); 4] = [
     (
         BLUR1,
         "P13 Crossing: Blur3.B x: 1 over n-1 at n=1; n-1 over 1 at n=1048576\n",
     ),
     (GUARD1, "P14 Uncovered: Guard.B [0,n)\n"),
+    (PAIR, "P16 NoOrder: Pair U[0,n) V[0,n)\n"),
+    (TWOWAY, "P16 NoOrder: TwoWay B[1,n-1)\n"),
 ];
 
 pub const ROLL: &str = "transform RollingSum from A[n] to B[n] {
@@ -24,11 +24,11 @@ pub const ROLL: &str = "transform RollingSum from A[n] to B[n] {
 }
 ";
 
-const DOUBLE: &str =
+pub const DOUBLE: &str =
     "transform Double from A[n] to B[n] { to (B.cell(i) b) from (A.cell(i) a) { b = a + a; } }
 ";
 
-const MUL: &str = "transform MatrixAdd from A[w,h], B[w,h] to C[w,h] {
+pub const MUL: &str = "transform MatrixAdd from A[w,h], B[w,h] to C[w,h] {
   to (C.cell(x,y) c) from (A.cell(x,y) a, B.cell(x,y) b) { c = a + b; }
 }
 transform MatrixMultiply from A[c,h], B[w,c] to AB[w,h] {
@@ -59,31 +59,31 @@ const BLUR1: &str = "transform Blur3 from A[n] to B[n] {
 }
 ";
 
-const BLUR2: &str = "transform Blur3 where n >= 2 from A[n] to B[n] {
+pub const BLUR2: &str = "transform Blur3 where n >= 2 from A[n] to B[n] {
   to (B.cell(i) b) from (A.region(i-1, i+2) a) { b = sum(a) / 3; }
   secondary to (B.cell(i) b) from (A.cell(i) a) { b = a; }
 }
 ";
 
-const PAIR: &str = "transform Pair from A[n] to U[n], V[n] {
+pub const PAIR: &str = "transform Pair from A[n] to U[n], V[n] {
   to (U.cell(i) u) from (V.cell(i) v) { u = v; }
   to (V.cell(i) v) from (U.cell(i) u) { v = u; }
 }
 ";
 
-const TWOWAY: &str = "transform TwoWay where n >= 2 from A[n] to B[n] {
+pub const TWOWAY: &str = "transform TwoWay where n >= 2 from A[n] to B[n] {
   to (B.cell(i) b) from (B.cell(i-1) p) where i < n-1 { b = p; }
   to (B.cell(i) b) from (B.cell(i+1) q) where i >= 1 { b = q; }
   secondary to (B.cell(i) b) from (A.cell(i) a) { b = a; }
 }
 ";
 
-const DIV: &str = "transform Div from A[n], D[n] to Q[n] {
+pub const DIV: &str = "transform Div from A[n], D[n] to Q[n] {
   to (Q.cell(i) q) from (A.cell(i) a, D.cell(i) d) { q = a / d; }
 }
 ";
 
-const BIG: &str = "transform Big from A[n] through T[2*n] to B[n] {
+pub const BIG: &str = "transform Big from A[n] through T[2*n] to B[n] {
   to (T.cell(i) t) from () { t = 1; }
   to (B.cell(i) b) from (A.cell(i) a, T.cell(i) t) { b = a + t; }
 }
@@ -98,25 +98,25 @@ const GUARD1: &str = "transform Guard from A[n] to B[n] {
 }
 ";
 
-const GUARD2: &str = "transform Guard from A[n] to B[n] {
+pub const GUARD2: &str = "transform Guard from A[n] to B[n] {
   to (B.cell(i) b) from (A.cell(i) a) where n >= 2 { b = a; }
   secondary to (B.cell(i) b) from () { b = 0; }
 }
 ";
 
-const PREFIX: &str = "transform Prefix2 from A[w,h] to S[w,h] {
+pub const PREFIX: &str = "transform Prefix2 from A[w,h] to S[w,h] {
   to (S.cell(x,y) s) from (A.cell(x,y) a, S.cell(x-1,y) l, S.cell(x,y-1) u,
                            S.cell(x-1,y-1) d) { s = a + l + u - d; }
   secondary to (S.cell(x,y) s) from (A.region(0,0,x+1,y+1) r) { s = sum(r); }
 }
 ";
 
-const REV: &str = "transform Rev from A[n] to B[n] {
+pub const REV: &str = "transform Rev from A[n] to B[n] {
   to (B b) from (A a) { for (k = 0 .. n) { b.cell(k) = a.cell(n - 1 - k); } }
 }
 ";
 
-const BAD: &str =
+pub const BAD: &str =
     "transform Copy from A[m] to C[m] { to (C.cell(i) c) from (A.cell(i) a) { c = a; } }
 transform Bad from A[n] to B[n] { to (B b) from (A.region(0, n/2) a) { b = Copy(a); } }
 ";

@@ -7,6 +7,8 @@ mod alone;
 #[cfg(test)]
 mod check;
 #[cfg(test)]
+mod choices;
+#[cfg(test)]
 mod devices;
 #[cfg(test)]
 mod examples;

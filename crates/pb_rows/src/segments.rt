@@ -5,7 +5,7 @@ use crate::run::{Row, holds};
 use std::test::Fail;
 
 #[test]
-fn examples_with_faulty_segments_are_refused(rt: HostRuntime) -> Result<(), Fail> {
+fn examples_that_are_refused_are_told_why(rt: HostRuntime) -> Result<(), Fail> {
     for (example, line) in &REFUSED {
         let (status, out, err) = checked(&rt, rt.alloc(), example.as_bytes())?;
         assert_eq!(rt; (status, out.len()), (3, 0), "{example}");

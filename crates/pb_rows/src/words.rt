@@ -46,7 +46,7 @@ fn words_outside_the_grammar_get_the_usage(rt: HostRuntime) -> Result<(), Fail> 
 fn unbuilt_rows() -> [Row; 6] {
     let line = "N1 NotBuilt\n";
     [
-        without_files("choices p", 12, line),
+        without_files("tune p Double", 12, line),
         without_files("demo 1 96 4", 12, line),
         without_files("run --pool locked p - Double a", 12, line),
         without_files("run --pool serial p c Double a", 12, line),

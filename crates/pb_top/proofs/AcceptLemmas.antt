@@ -16,81 +16,92 @@ use Rattle.pb_names.proofs.LawLemmas.{some_answer, no_two, same_program, same_re
 use Rattle.pb_names.proofs.TransformsFit.{well_formed}
 use Rattle.pb_names.proofs.UnplacedPrograms.{faultless_again, same_program as same_again}
 use Rattle.pb_check.specs.Phases.{IsSound, IsRefused as IsUnsound}
+use Rattle.pb_check.specs.Orders.{AnalysisValue, AreNamed}
+use Rattle.pb_check.proofs.NamedLemmas.{one_named, some_named}
+use Rattle.pb_check.proofs.OrderedLemmas.{one_found, some_found}
 use Rattle.pb_check.proofs.PhaseLemmas.{sound_or_refused, one_refusal as one_cause, not_both as sound_and_refused}
 use Rattle.pb_check.proofs.PlaceLemmas.{sound_again}
 use Rattle.pb_lines.specs.Lines.{refusal_line}
 use Rattle.pb_top.specs.declared.reply.Status.TheVariants.{Program}
 use Rattle.pb_top.specs.Reply.{Reply, done_reply, refusal_reply}
-use Rattle.pb_top.specs.Steps.{Refuses, Reads, Resolves, Accepts}
-use Rattle.pb_top.specs.Check.{CheckAnswers, PrintsAccepted, PrintsResolved}
+use Rattle.pb_top.specs.Steps.{Refuses, RefusesProgram, Reads, Resolves, Accepts}
+use Rattle.pb_top.specs.Check.{CheckAnswers, Prints, PrintsAccepted, PrintsResolved, Text}
 use Rattle.pb_top.proofs.LineLemmas.{read_within}
 use Rattle.pb_top.proofs.StepLemmas.{then_given, then_one, then_some}
 
 -- one refusal has one line
-refuses_one : (p : List ProgTransform) (IsWhy : Refusal → Type 0) → ((e f : Refusal) → IsWhy e → IsWhy f → e ≡ f) → (x y : Reply) → Refuses p IsWhy x → Refuses p IsWhy y → x ≡ y
-refuses_one p IsWhy one x y (why, causes, is) (more, again, other) = is ∙ ap (λ w. refusal_reply Program (refusal_line p w)) (one why more causes again) ∙ sym other
+refuses_one : (IsWhy : Refusal → Type 0) → ((e f : Refusal) → IsWhy e → IsWhy f → e ≡ f) → (x y : Reply) → Refuses IsWhy x → Refuses IsWhy y → x ≡ y
+refuses_one IsWhy one x y (why, causes, is) (more, again, other) = is ∙ ap (λ w. refusal_reply Program (refusal_line [] [] w)) (one why more causes again) ∙ sym other
 
-refusal_some : (p : List ProgTransform) (IsWhy : Refusal → Type 0) (e : Refusal) → IsWhy e → (reply : Reply) × Refuses p IsWhy reply
-refusal_some p IsWhy e causes = (refusal_reply Program (refusal_line p e), (e, causes, refl))
+refusal_some : (IsWhy : Refusal → Type 0) (e : Refusal) → IsWhy e → (reply : Reply) × Refuses IsWhy reply
+refusal_some IsWhy e causes = (refusal_reply Program (refusal_line [] [] e), (e, causes, refl))
+
+program_one : (p : List ProgTransform) (x y : Reply) → RefusesProgram p x → RefusesProgram p y → x ≡ y
+program_one p x y (why, nodes, causes, named, is) (more, others, again, also, other) =
+    let same = one_cause p why more causes again in
+    let segments = one_named p more nodes others (subst (λ e. AreNamed p e nodes) same named) also in
+    is ∙ (λ i. refusal_reply Program (refusal_line p (segments i) (same i))) ∙ sym other
 
 -- each step has one outcome
 reads_one : (text : List ℕ) (x y : Result (List TransformTree) Reply) → Reads text x → Reads text y → x ≡ y
 reads_one text (Ok tree) (Ok other) read again = ap Ok (one_tree text tree other read again)
 reads_one text (Ok tree) (Err reply) read (why, causes, is) = absurd (not_both text tree why read causes)
 reads_one text (Err reply) (Ok tree) (why, causes, is) read = absurd (not_both text tree why read causes)
-reads_one text (Err reply) (Err other) x y = ap Err (refuses_one [] (IsRefused text) (one_refusal text) reply other x y)
+reads_one text (Err reply) (Err other) x y = ap Err (refuses_one (IsRefused text) (one_refusal text) reply other x y)
 
 resolves_one : (tree : List TransformTree) (x y : Result (List ProgTransform) Reply) → Resolves tree x → Resolves tree y → x ≡ y
 resolves_one tree (Ok p) (Ok q) made again = ap Ok (same_program tree p q made again)
 resolves_one tree (Ok p) (Err reply) made (why, causes, is) = absurd (no_two tree p why made causes)
 resolves_one tree (Err reply) (Ok p) (why, causes, is) made = absurd (no_two tree p why made causes)
-resolves_one tree (Err reply) (Err other) x y = ap Err (refuses_one [] (HasBadNames tree) (same_refusal tree) reply other x y)
+resolves_one tree (Err reply) (Err other) x y = ap Err (refuses_one (HasBadNames tree) (same_refusal tree) reply other x y)
 
-accepts_one : (p : List ProgTransform) (x y : Result (Unit {0}) Reply) → Accepts p x → Accepts p y → x ≡ y
-accepts_one p (Ok a) (Ok b) sound again = refl
-accepts_one p (Ok a) (Err reply) sound (why, causes, is) = absurd (sound_and_refused p why sound causes)
-accepts_one p (Err reply) (Ok a) (why, causes, is) sound = absurd (sound_and_refused p why sound causes)
-accepts_one p (Err reply) (Err other) x y = ap Err (refuses_one p (IsUnsound p) (one_cause p) reply other x y)
+accepts_one : (p : List ProgTransform) (x y : Result (List AnalysisValue) Reply) → Accepts p x → Accepts p y → x ≡ y
+accepts_one p (Ok a) (Ok b) sound again = ap Ok (one_found p a b sound.1 again.1)
+accepts_one p (Ok a) (Err reply) sound (why, nodes, causes, named, is) = absurd (sound_and_refused p why sound.0 causes)
+accepts_one p (Err reply) (Ok a) (why, nodes, causes, named, is) sound = absurd (sound_and_refused p why sound.0 causes)
+accepts_one p (Err reply) (Err other) x y = ap Err (program_one p reply other x y)
 
-accepted_one : (tree : List TransformTree) (p : List ProgTransform) (x y : Reply) → PrintsAccepted tree p x → PrintsAccepted tree p y → x ≡ y
-accepted_one tree p = then_one (Accepts p) (λ a reply. reply ≡ done_reply (canonical tree)) (accepts_one p) (λ a x y is other. is ∙ sym other)
+module _ (text : Text) where
+  accepted_one : (tree : List TransformTree) (p : List ProgTransform) (x y : Reply) → PrintsAccepted text tree p x → PrintsAccepted text tree p y → x ≡ y
+  accepted_one tree p = then_one (Accepts p) (λ found reply. reply ≡ done_reply (text tree p found)) (accepts_one p) (λ found x y is other. is ∙ sym other)
 
-resolved_one : (tree : List TransformTree) (x y : Reply) → PrintsResolved tree x → PrintsResolved tree y → x ≡ y
-resolved_one tree = then_one (Resolves tree) (PrintsAccepted tree) (resolves_one tree) (accepted_one tree)
+  resolved_one : (tree : List TransformTree) (x y : Reply) → PrintsResolved text tree x → PrintsResolved text tree y → x ≡ y
+  resolved_one tree = then_one (Resolves tree) (PrintsAccepted text tree) (resolves_one tree) (accepted_one tree)
 
-pub check_one : (text : List ℕ) (x y : Reply) → CheckAnswers text x → CheckAnswers text y → x ≡ y
-check_one text = then_one (Reads text) PrintsResolved (reads_one text) resolved_one
+  pub prints_one : (program : List ℕ) (x y : Reply) → Prints text program x → Prints text program y → x ≡ y
+  prints_one program = then_one (Reads program) (PrintsResolved text) (reads_one program) resolved_one
 
 -- and some outcome
 read_by : (text : List ℕ) → ((tree : List TransformTree) × IsRead text tree) ⊎ ((why : Refusal) × IsRefused text why) → (outcome : Result (List TransformTree) Reply) × Reads text outcome
 read_by text (inl (tree, read)) = (Ok tree, read)
-read_by text (inr (why, causes)) = let some = refusal_some [] (IsRefused text) why causes in (Err some.0, some.1)
+read_by text (inr (why, causes)) = let some = refusal_some (IsRefused text) why causes in (Err some.0, some.1)
 
 resolved_by : (tree : List TransformTree) → IsResolved tree (program_of tree) ⊎ HasRefusal tree → (outcome : Result (List ProgTransform) Reply) × Resolves tree outcome
 resolved_by tree (inl made) = (Ok (program_of tree), made)
-resolved_by tree (inr bad) = let some = refusal_some [] (HasBadNames tree) bad.why bad.told in (Err some.0, some.1)
+resolved_by tree (inr bad) = let some = refusal_some (HasBadNames tree) bad.why bad.told in (Err some.0, some.1)
 
-accepted_by : (p : List ProgTransform) → IsSound p ⊎ ((e : Refusal) × IsUnsound p e) → (outcome : Result (Unit {0}) Reply) × Accepts p outcome
-accepted_by p (inl sound) = (Ok tt, sound)
-accepted_by p (inr (why, causes)) = let some = refusal_some p (IsUnsound p) why causes in (Err some.0, some.1)
-
-accepted_some : (tree : List TransformTree) (p : List ProgTransform) → IsWellFormed p → (reply : Reply) × PrintsAccepted tree p reply
-accepted_some tree p well =
-    then_some (Accepts p) (λ a reply. reply ≡ done_reply (canonical tree)) (accepted_by p (sound_or_refused p well)) (λ a. (done_reply (canonical tree), refl))
+accepted_by : (p : List ProgTransform) → IsSound p ⊎ ((e : Refusal) × IsUnsound p e) → (outcome : Result (List AnalysisValue) Reply) × Accepts p outcome
+accepted_by p (inl sound) = let found = some_found p sound.ordered in (Ok found.0, (sound, found.1))
+accepted_by p (inr (why, causes)) = let nodes = some_named p why causes in (Err (refusal_reply Program (refusal_line p nodes.0 why)), (why, nodes.0, causes, nodes.1, refl))
 
 resolved_well : (tree : List TransformTree) (p : List ProgTransform) → IsWithinLimits tree → IsResolved tree p → IsWellFormed p
 resolved_well tree p within made = subst IsWellFormed (sym made.program) (well_formed tree within made.faultless)
 
-resolved_some : (tree : List TransformTree) → IsWithinLimits tree → (reply : Reply) × PrintsResolved tree reply
-resolved_some tree within =
-    then_given (Resolves tree) (PrintsAccepted tree) (resolved_by tree (some_answer tree)) (λ p made. accepted_some tree p (resolved_well tree p within made))
+module _ (text : Text) where
+  accepted_some : (tree : List TransformTree) (p : List ProgTransform) → IsWellFormed p → (reply : Reply) × PrintsAccepted text tree p reply
+  accepted_some tree p well =
+      then_some (Accepts p) (λ found reply. reply ≡ done_reply (text tree p found)) (accepted_by p (sound_or_refused p well)) (λ found. (done_reply (text tree p found), refl))
 
-pub check_some : (text : List ℕ) → (reply : Reply) × CheckAnswers text reply
-check_some text = then_given (Reads text) PrintsResolved (read_by text (some_reading text)) (λ tree read. resolved_some tree (read_within text tree read))
+  resolved_some : (tree : List TransformTree) → IsWithinLimits tree → (reply : Reply) × PrintsResolved text tree reply
+  resolved_some tree within =
+      then_given (Resolves tree) (PrintsAccepted text tree) (resolved_by tree (some_answer tree)) (λ p made. accepted_some tree p (resolved_well tree p within made))
+
+  pub prints_some : (program : List ℕ) → (reply : Reply) × Prints text program reply
+  prints_some program = then_given (Reads program) (PrintsResolved text) (read_by program (some_reading program)) (λ tree read. resolved_some tree (read_within program tree read))
 
 -- what is written of a program is written of itself
-no_refusal : {P : Type 0} (p : List ProgTransform) (IsWhy : Refusal → Type 0) (text : List ℕ) → Refuses p IsWhy (done_reply text) → P
-no_refusal p IsWhy text (why, causes, is) = absurd (omega (arith, ap (λ (r : Reply). r.status) is))
+not_done : (line text : List ℕ) → done_reply text ≡ refusal_reply Program line → ⊥
+not_done line text is = omega (arith, ap (λ (r : Reply). r.status) is)
 
 stays : (program text : List ℕ) (tree : List TransformTree) (p : List ProgTransform) → IsRead program tree → IsResolved tree p → IsSound p → done_reply text ≡ done_reply (canonical tree)
     → length text ≤ MOST_BYTES → CheckAnswers text (done_reply text)
@@ -99,10 +110,12 @@ stays program text tree p read made sound is short =
     let a = read_again program tree read (subst (λ t. length t ≤ MOST_BYTES) (sym same) short) in
     let again : IsResolved a.0 (program_of a.0) = record { faultless = faultless_again a.0 tree a.2 made.faultless; program = refl } in
     let unplaced_is : unplaced_prog (program_of a.0) ≡ unplaced_prog p = same_again a.0 tree a.2 ∙ ap unplaced_prog (sym made.program) in
-    inl (a.0, subst (λ t. IsRead t a.0) same a.1, inl (program_of a.0, again, inl (tt, sound_again (program_of a.0) p unplaced_is sound, is ∙ ap done_reply (sym (its_own program tree a.0 read a.1)))))
+    let good = sound_again (program_of a.0) p unplaced_is sound in
+    let found = some_found (program_of a.0) good.ordered in
+    inl (a.0, subst (λ t. IsRead t a.0) same a.1, inl (program_of a.0, again, inl (found.0, (good, found.1), is ∙ ap done_reply (sym (its_own program tree a.0 read a.1)))))
 
 pub checked_stays : (program text : List ℕ) → CheckAnswers program (done_reply text) → length text ≤ MOST_BYTES → CheckAnswers text (done_reply text)
-checked_stays program text (inr refuses) short = no_refusal [] (IsRefused program) text refuses
-checked_stays program text (inl (tree, read, inr refuses)) short = no_refusal [] (HasBadNames tree) text refuses
-checked_stays program text (inl (tree, read, inl (p, made, inr refuses))) short = no_refusal p (IsUnsound p) text refuses
-checked_stays program text (inl (tree, read, inl (p, made, inl (a, sound, is)))) short = stays program text tree p read made sound is short
+checked_stays program text (inr (why, causes, is)) short = absurd (not_done (refusal_line [] [] why) text is)
+checked_stays program text (inl (tree, read, inr (why, causes, is))) short = absurd (not_done (refusal_line [] [] why) text is)
+checked_stays program text (inl (tree, read, inl (p, made, inr (why, nodes, causes, named, is)))) short = absurd (not_done (refusal_line p nodes why) text is)
+checked_stays program text (inl (tree, read, inl (p, made, inl (found, sound, is)))) short = stays program text tree p read made sound.0 is short

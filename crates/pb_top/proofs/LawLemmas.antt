@@ -1,5 +1,5 @@
 -- Words and files have one answer.
-use Rattle.std.proofs.Common.{◌≡◌, ℕ, ◌≤◌, length, arith, List, [], ◌∷◌, map, drop, ℤ, Option, Some, None, Result, Ok, Err, ◌⊎◌, inl, inr, sym, ap, subst, ◌∙◌, refl}
+use Rattle.std.proofs.Common.{◌≡◌, ℕ, arith, List, [], ◌∷◌, map, drop, ℤ, Option, Some, None, Result, Ok, Err, ◌⊎◌, inl, inr, sym, ap, subst, ◌∙◌, refl}
 use Rattle.std.proofs.lemmas.Bool.{cases_lt}
 use Rattle.pb_outside.specs.Shelf.{Files}
 use Rattle.pb_values.specs.declared.outcome.Kind.{Kind}
@@ -11,17 +11,18 @@ use Rattle.pb_matrix.specs.Value.{MatrixValue}
 use Rattle.pb_matrix.specs.Reading.{matrix_read}
 use Rattle.pb_matrix.specs.declared.matrix.MatrixRefusal.{MatrixRefusal}
 use Rattle.pb_matrix.specs.declared.matrix.MatrixRefusal.TheVariants.{BadHeader, BadNumber, TooFew, TooMany, Memory}
-use Rattle.pb_top.specs.Reply.{Reply, IsFaultyInput, done_reply, refusal_reply}
+use Rattle.pb_top.specs.Reply.{Reply, IsFaultyInput, done_reply}
 use Rattle.pb_top.specs.Steps.{Takes}
 use Rattle.pb_top.specs.OneRule.{WritesSums, InputAnswers, RunsOneRule}
 use Rattle.pb_top.specs.Tokens.{tokens_of}
+use Rattle.pb_top.specs.Check.{its_canonical, its_report}
 use Rattle.pb_top.specs.Answer.{RunLine, built_run, taken_words, limited, RunAnswers, content_at, WorkAnswers, AskAnswers, Answers}
 use Rattle.pb_top.specs.Sinks.{ShelfChange, SinkChange}
 use Rattle.pb_top.specs.Ends.{Shows, IsAnswered, IsAnswerStatus, OutBreaks, ErrBreaks, Ends, IsFaultless, IsComplete}
 use Rattle.pb_top.specs.declared.program.Sign.{Sign}
 use Rattle.pb_top.proofs.FrameLemmas.{one_form}
 use Rattle.pb_top.proofs.StepLemmas.{then_one, takes_one}
-use Rattle.pb_top.proofs.AcceptLemmas.{check_one}
+use Rattle.pb_top.proofs.AcceptLemmas.{prints_one}
 use Rattle.pb_top.proofs.EndLemmas.{other_status}
 
 abbrev as_sum : ℤ → Result ℤ Kind
@@ -70,8 +71,8 @@ one_line (Some line) contents first second left right =
 one_line None contents first second left right = left ∙ sym right
 
 one_work : (ask : Ask) (place : ℕ) (others contents : List (List ℕ)) (first second : Reply) → WorkAnswers ask place others contents first → WorkAnswers ask place others contents second → first ≡ second
-one_work Check place others contents first second left right = check_one (content_at contents 0) first second left right
-one_work Choices place others contents first second left right = left ∙ sym right
+one_work Check place others contents first second left right = prints_one its_canonical (content_at contents 0) first second left right
+one_work Choices place others contents first second left right = prints_one its_report (content_at contents 0) first second left right
 one_work (Run workers depth grain pool trace) place others contents first second left right = one_line (built_run place pool trace others) contents first second left right
 one_work (Tune up_to) place others contents first second left right = left ∙ sym right
 one_work (Demo seed size workers) place others contents first second left right = left ∙ sym right

@@ -75,10 +75,11 @@ cut_refusal t matrix grid.Memory m told = absurd told
 
 pub phase_refusal : (p : List ProgTransform) (e : Refusal) → IsUnsound p e → HasLine e
 phase_refusal p e (inl causes) = type_refusal p e causes
-phase_refusal p e (inr (inl (right, bad))) = bound_refusal bad.place bad.item e bad.fails
-phase_refusal p e (inr (inr (right, bounded, bad))) =
+phase_refusal p e (inr (right, inl bad)) = bound_refusal bad.place bad.item e bad.fails
+phase_refusal p e (inr (right, inr (bounded, inl bad))) =
     let uncut = bad.fails.fails in
     subst HasLine (sym uncut.told) (cut_refusal bad.place bad.fails.item uncut.why uncut.of uncut.refused)
+phase_refusal p e (inr (right, inr (bounded, inr (cut, bad)))) = subst HasLine (sym bad.fails.told) tt
 
 each : (p : List ProgTransform) (n : ℕ) → AllByRecursion (IsTransform n) p → AllByRecursion (λ t. length t.sizes ≤ 8) p
 each [] n h = tt

@@ -9,11 +9,6 @@ use Rattle.std.proofs.lemmas.Slice.Eq.{slice_eq-Decides, bytes_eq-Decides}
 use Rattle.pb_outside.specs.Shelf.{Files}
 use Rattle.pb_values.specs.declared.outcome.Kind.{Kind}
 use Rattle.pb_values.specs.declared.shape.Shape.{Shape}
-use Rattle.pb_prog.specs.Canonical.{canonical}
-use Rattle.pb_syntax.specs.Trees.{TransformTree}
-use Rattle.pb_syntax.specs.declared.refusal.Refusal.{Refusal}
-use Rattle.pb_front.specs.Reading.{IsRead, IsRefused}
-use Rattle.pb_front.proofs.ReadLemmas.{some_reading}
 use Rattle.pb_words.specs.declared.ask.Ask.{Ask}
 use Rattle.pb_words.specs.declared.ask.Ask.TheVariants.{Check, Choices, Run, Tune, Demo}
 use Rattle.pb_words.specs.Line.{IsInside}
@@ -25,20 +20,20 @@ use Rattle.pb_matrix.specs.Value.{MatrixValue}
 use Rattle.pb_matrix.specs.Reading.{judged, after_header, lines_read, matrix_read}
 use Rattle.pb_matrix.specs.declared.matrix.MatrixRefusal.{MatrixRefusal}
 use Rattle.pb_matrix.specs.declared.matrix.MatrixRefusal.TheVariants.{BadHeader, BadNumber, TooFew, TooMany, Memory}
-use Rattle.pb_top.specs.declared.reply.Status.TheVariants.{Program}
-use Rattle.pb_top.specs.Reply.{Reply, IsFaultyInput, done_reply, refusal_reply, not_built, usage}
+use Rattle.pb_top.specs.Reply.{Reply, IsFaultyInput, done_reply, not_built, usage}
 use Rattle.pb_top.specs.Steps.{Takes}
 use Rattle.pb_top.specs.Program.{Names, head_of, tail_tokens, are_free, sign_token, IsOneRule}
 use Rattle.pb_top.specs.Found.{AreTerms, named_at, middle_of, IsFramed}
 use Rattle.pb_top.specs.OneRule.{sum_at, IsRow, WritesSums, InputAnswers, RunsOneRule}
 use Rattle.pb_top.specs.Tokens.{tokens_of}
+use Rattle.pb_top.specs.Check.{its_canonical, its_report}
 use Rattle.pb_top.specs.Answer.{RunLine, built_run, taken_words, limited, RunAnswers, content_at, WorkAnswers, Answers}
 use Rattle.pb_top.specs.declared.program.Sign.{Sign}
 use Rattle.pb_top.specs.declared.program.Sign.TheVariants.{Plus, Minus}
 use Rattle.pb_top.proofs.ProgramLemmas.{terms_begin}
 use Rattle.pb_top.proofs.FrameLemmas.{tokens_framed, rule_spelled, one_form}
 use Rattle.pb_top.proofs.StepLemmas.{then_some, takes_some}
-use Rattle.pb_top.proofs.AcceptLemmas.{check_some}
+use Rattle.pb_top.proofs.AcceptLemmas.{prints_some}
 
 abbrev as_sum : ℤ → Result ℤ Kind
 as_sum z = Ok z
@@ -224,8 +219,8 @@ line_some (Some line) contents =
 line_some None contents = (not_built, refl)
 
 work_some : (ask : Ask) (place : ℕ) (others contents : List (List ℕ)) → (reply : Reply) × WorkAnswers ask place others contents reply
-work_some Check place others contents = check_some (content_at contents 0)
-work_some Choices place others contents = (not_built, refl)
+work_some Check place others contents = prints_some its_canonical (content_at contents 0)
+work_some Choices place others contents = prints_some its_report (content_at contents 0)
 work_some (Run workers depth grain pool trace) place others contents = line_some (built_run place pool trace others) contents
 work_some (Tune up_to) place others contents = (not_built, refl)
 work_some (Demo seed size workers) place others contents = (not_built, refl)

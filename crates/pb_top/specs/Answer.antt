@@ -10,7 +10,7 @@ use Rattle.pb_words.specs.declared.ask.Ask.{Ask}
 use Rattle.pb_words.specs.declared.ask.Ask.TheVariants.{Check, Choices, Run, Tune, Demo}
 use Rattle.pb_top.specs.Reply.{Reply, not_built, usage}
 use Rattle.pb_top.specs.Steps.{Then, Takes}
-use Rattle.pb_top.specs.Check.{CheckAnswers}
+use Rattle.pb_top.specs.Check.{CheckAnswers, ChoicesAnswers}
 use Rattle.pb_top.specs.OneRule.{RunsOneRule}
 
 -- the words of a run on one thread, without a configuration and over one input
@@ -28,7 +28,7 @@ built_run place pool trace others = None
 
 abbrev pub is_built : Ask → ℕ → List (List ℕ) → Bool
 is_built Check place others = true
-is_built Choices place others = false
+is_built Choices place others = true
 is_built (Run workers depth grain pool trace) place others = is_some (built_run place pool trace others)
 is_built (Tune up_to) place others = false
 is_built (Demo seed size workers) place others = false
@@ -54,7 +54,7 @@ RunAnswers None contents reply = reply ≡ not_built
 -- takes
 abbrev pub WorkAnswers : Ask → ℕ → List (List ℕ) → List (List ℕ) → Reply → Type 0
 WorkAnswers Check place others contents reply = CheckAnswers (content_at contents 0) reply
-WorkAnswers Choices place others contents reply = reply ≡ not_built
+WorkAnswers Choices place others contents reply = ChoicesAnswers (content_at contents 0) reply
 WorkAnswers (Run workers depth grain pool trace) place others contents reply = RunAnswers (built_run place pool trace others) contents reply
 WorkAnswers (Tune up_to) place others contents reply = reply ≡ not_built
 WorkAnswers (Demo seed size workers) place others contents reply = reply ≡ not_built

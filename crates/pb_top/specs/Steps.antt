@@ -6,6 +6,8 @@ use Rattle.pb_syntax.specs.Trees.{TransformTree}
 use Rattle.pb_program.specs.Trees.{ProgTransform}
 use Rattle.pb_front.specs.Reading.{IsRead, IsRefused}
 use Rattle.pb_names.specs.Transforms.{IsResolved, IsRefused as HasBadNames}
+use Rattle.pb_graph.specs.Nodes.{NodeValue}
+use Rattle.pb_check.specs.Orders.{AnalysisValue, AreFound, AreNamed}
 use Rattle.pb_check.specs.Phases.{IsSound, IsRefused as IsUnsound}
 use Rattle.pb_lines.specs.Lines.{refusal_line}
 use Rattle.pb_top.specs.declared.reply.Status.TheVariants.{Program}
@@ -32,21 +34,25 @@ Takes told (file ∷ files) (Err reply) =
     TakesFile told file.0 file.1 (Err reply)
     ⊎ ((bytes : List ℕ) × TakesFile told file.0 file.1 (Ok bytes) × Takes told files (Err reply))
 
--- the line of a refusal of a program with these transforms
-abbrev pub Refuses : List ProgTransform → (Refusal → Type 0) → Reply → Type 0
-Refuses p IsWhy reply = (why : Refusal) × IsWhy why × (reply ≡ refusal_reply Program (refusal_line p why))
+-- the line of a refusal that comes before a program's names are resolved
+abbrev pub Refuses : (Refusal → Type 0) → Reply → Type 0
+Refuses IsWhy reply = (why : Refusal) × IsWhy why × (reply ≡ refusal_reply Program (refusal_line [] [] why))
+
+-- the line of a refusal of a program, with the segments that it names
+abbrev pub RefusesProgram : List ProgTransform → Reply → Type 0
+RefusesProgram p reply = (why : Refusal) × (nodes : List NodeValue) × IsUnsound p why × AreNamed p why nodes × (reply ≡ refusal_reply Program (refusal_line p nodes why))
 
 -- the tree of a program's text, or the line of its refusal
 abbrev pub Reads : List ℕ → Result (List TransformTree) Reply → Type 0
 Reads text (Ok tree) = IsRead text tree
-Reads text (Err reply) = Refuses [] (IsRefused text) reply
+Reads text (Err reply) = Refuses (IsRefused text) reply
 
 -- the program that a tree is, with each name resolved, or the line of its refusal
 abbrev pub Resolves : List TransformTree → Result (List ProgTransform) Reply → Type 0
 Resolves tree (Ok p) = IsResolved tree p
-Resolves tree (Err reply) = Refuses [] (HasBadNames tree) reply
+Resolves tree (Err reply) = Refuses (HasBadNames tree) reply
 
--- a program that every further phase accepts, or the line of its refusal
-abbrev pub Accepts : List ProgTransform → Result (Unit {0}) Reply → Type 0
-Accepts p (Ok accepted) = IsSound p
-Accepts p (Err reply) = Refuses p (IsUnsound p) reply
+-- what is found of each transform of a program that every further phase accepts, or the line of its refusal
+abbrev pub Accepts : List ProgTransform → Result (List AnalysisValue) Reply → Type 0
+Accepts p (Ok found) = IsSound p × AreFound p found
+Accepts p (Err reply) = RefusesProgram p reply

@@ -5,7 +5,7 @@ ghost use Rattle.pb_top.specs.Tokens.{texts_of};
 ghost use Rattle.pb_top.specs.Answer.{built_run, taken_words, RunAnswers, WorkAnswers, AskAnswers};
 ghost use Rattle.pb_top.specs.Working.{Replies, ShelfReplies, contents_of, line_files};
 
-use crate::check::check;
+use crate::check::{check, choices};
 use crate::files::fetch_all;
 use crate::reply::{Stop, not_built};
 use crate::run::{RunLine, read_run, run_rule};
@@ -43,9 +43,9 @@ fn file_names<'a>(
     ensures { IfOk result (λ names. texts_of names.items ≡ taken_words ask place (map string_bytes others.now)) }
 {
     match ask {
-        Ask::Check => first_name(alloc, others),
+        Ask::Check | Ask::Choices => first_name(alloc, others),
         Ask::Run { pool, trace, .. } => run_names(alloc, &read_run(place, pool, trace, others)),
-        Ask::Choices | Ask::Tune { .. } | Ask::Demo { .. } => Ok(Vec::new(alloc)),
+        Ask::Tune { .. } | Ask::Demo { .. } => Ok(Vec::new(alloc)),
     }
 }
 
@@ -80,8 +80,9 @@ fn answer(
 {
     match ask {
         Ask::Check => check(alloc, &contents[0]),
+        Ask::Choices => choices(alloc, &contents[0]),
         Ask::Run { pool, trace, .. } => run(alloc, &read_run(place, pool, trace, others), contents),
-        Ask::Choices | Ask::Tune { .. } | Ask::Demo { .. } => Err(not_built(alloc)?),
+        Ask::Tune { .. } | Ask::Demo { .. } => Err(not_built(alloc)?),
     }
 }
 

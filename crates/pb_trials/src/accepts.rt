@@ -8,8 +8,8 @@ use std::str;
 use std::test::Fail;
 
 // A text that is refused by each phase, and what its refusal carries: numbers of the transform and of the matrix with a
-// dot between them, forms over the first size, and sizes.
-const REFUSED: [(&str, &str); 16] = [
+// dot between them, forms over the first size, and sizes; or numbers of the transform and of segments.
+const REFUSED: [(&str, &str); 17] = [
     ("transform @", "bad token at 10"),
     ("", "bad syntax at 0"),
     ("transform T from A[1048577]", "over limit: number at 19"),
@@ -64,6 +64,10 @@ const REFUSED: [(&str, &str); 16] = [
     (
         "transform S from A[n] to B[n] { to (B b) from () { } } transform T from A[n] through M[n, n] to B[n] { to (B b) from () { } to (M.region(0, 0, n, 1) c) from () { } }",
         "uncovered 1.1: 0n+0 1n+0 0n+1 1n+0 ",
+    ),
+    (
+        "transform S from A[n] to B[n] { to (B b) from () { } } transform Pair from A[n] through M[n] to U[n], V[n] { to (M m) from () { } to (U.cell(i) u) from (V.cell(i) v) { u = v; } to (V.cell(i) v) from (U.cell(i) u) { v = u; } }",
+        "no order 1: 1 2 ",
     ),
 ];
 
@@ -144,6 +148,15 @@ fn told_bounds(alloc: Global, refusal: &Refusal) -> Result<String, AllocError> {
     }
 }
 
+// Numbers, each with a blank after it.
+fn add_numbers(alloc: Global, text: &mut Vec<u8>, numbers: &[u32]) -> Result<(), AllocError> {
+    for number in numbers {
+        let shown = format!(in alloc; "{number} ")?;
+        text.extend_from_slice(shown.as_bytes())?;
+    }
+    Ok(())
+}
+
 // What any refusal carries.
 fn carried(alloc: Global, refusal: &Refusal) -> Result<Vec<u8>, AllocError> {
     match refusal {
@@ -180,6 +193,14 @@ fn carried(alloc: Global, refusal: &Refusal) -> Result<Vec<u8>, AllocError> {
         Refusal::TooManySegments { transform, matrix } => {
             let shown = format!(in alloc; "too many segments {transform}.{matrix}")?;
             Ok(shown.into_bytes())
+        }
+        Refusal::NoOrder {
+            transform,
+            segments,
+        } => {
+            let mut text = format!(in alloc; "no order {transform}: ")?.into_bytes();
+            add_numbers(alloc, &mut text, &segments.numbers)?;
+            Ok(text)
         }
         _ => Ok(told_bounds(alloc, refusal)?.into_bytes()),
     }

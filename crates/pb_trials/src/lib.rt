@@ -22,6 +22,8 @@ mod names;
 #[cfg(test)]
 mod programs;
 #[cfg(test)]
+mod ranks;
+#[cfg(test)]
 mod tokens;
 #[cfg(test)]
 mod values;

@@ -1,0 +1,13 @@
+pub mod ListLemmas
+pub mod NumberedLemmas
+pub mod NearLemmas
+pub mod WorstLemmas
+pub mod SeenLemmas
+pub mod EdgeLemmas
+pub mod CutLemmas
+pub mod ChoiceLemmas
+pub mod OrderLemmas
+pub mod HandledLemmas
+pub mod RankLemmas
+pub mod LayeringLemmas
+pub mod CachedLemmas
