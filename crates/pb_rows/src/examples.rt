@@ -53,7 +53,7 @@ transform MatrixMultiply from A[c,h], B[w,c] to AB[w,h] {
 }
 ";
 
-const BLUR1: &str = "transform Blur3 from A[n] to B[n] {
+pub(crate) const BLUR1: &str = "transform Blur3 from A[n] to B[n] {
   to (B.cell(i) b) from (A.region(i-1, i+2) a) { b = sum(a) / 3; }
   secondary to (B.cell(i) b) from (A.cell(i) a) { b = a; }
 }
