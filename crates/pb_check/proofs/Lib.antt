@@ -17,3 +17,4 @@ pub mod AcceptedLemmas
 pub mod NamedLemmas
 pub mod EachLemmas
 pub mod SiteLemmas
+pub mod WaitLemmas

@@ -2,15 +2,20 @@ ghost use Rattle.std.specs.Prelude.{◌≡◌, ◌≢◌, ◌≤◌, ◌⊎◌, 
 ghost use Rattle.std.specs.List.{All, Contains};
 ghost use Rattle.pb_grid.specs.Places.{is_at};
 ghost use Rattle.pb_grid.specs.Segments.{SegmentValue};
-ghost use Rattle.pb_model.specs.Cells.{Cell, IsCell};
+ghost use Rattle.pb_graph.specs.Ranks.{IsBelow, Rank};
+ghost use Rattle.pb_model.specs.Cells.{Cell, IsCell, ReadsCell};
+ghost use Rattle.pb_model.specs.Chosen.{chosen_rule};
 ghost use Rattle.pb_model.specs.Lawful.{lawful};
 ghost use Rattle.pb_syntax.specs.declared.refusal.Refusal.{Refusal};
 ghost use Rattle.pb_program.specs.Places.{unplaced_prog};
-ghost use Rattle.pb_program.specs.Trees.{ProgTransform};
+ghost use Rattle.pb_program.specs.Configs.{ConfigValue, IsValid};
+ghost use Rattle.pb_program.specs.Trees.{ProgRule, ProgTransform};
 ghost use Rattle.pb_program.specs.WellFormed.{IsWellFormed};
 ghost use Rattle.pb_check.specs.Accepting.{IsTextAccepted, IsTextRefused};
 ghost use Rattle.pb_check.specs.Cuts.{IsCut};
+ghost use Rattle.pb_check.specs.Orders.{AnalysisValue, IsAnalysis};
 ghost use Rattle.pb_check.specs.Phases.{IsSound, IsRefused};
+ghost use Rattle.pb_check.specs.Ranked.{HasRank, IsMadeCell, StandsBelow};
 
 /// A law: each well-formed program is sound or refused for one reason, and never both.
 pub fn a_program_is_sound_or_refused()
@@ -37,6 +42,16 @@ pub fn the_segment_of_a_cell_has_its_lawful_rules()
 pub fn each_cell_has_a_lawful_rule()
     ensures { (p : List ProgTransform) (number : ℕ) (t : ProgTransform) (c : Cell) (sizes : List ℕ) → IsWellFormed p → IsSound p → slice_get p number ≡ Some t → IsCell t sizes c → t.inputs ≤ c.matrix
         → lawful t sizes c ≢ [] }
+{}
+
+/// A law: a cell that the rule reads which a valid configuration chooses for another has a smaller rank than that one, if rules
+/// make its matrix. No rank is below itself, and what is below is so over any number of steps. So no cell waits for itself.
+pub fn no_cell_waits_for_itself()
+    ensures falls { (p : List ProgTransform) (number : ℕ) (t : ProgTransform) (a : AnalysisValue) (sizes : List ℕ) (config : ConfigValue) → IsWellFormed p → IsSound p → slice_get p number ≡ Some t → IsAnalysis t a → IsValid p config
+        → (c : Cell) (rule : ProgRule) → IsMadeCell t sizes c → slice_get t.rules (chosen_rule config number t sizes c) ≡ Some rule
+        → (rank : Rank) (shown : Cell) → HasRank t a sizes c rank → ReadsCell t.matrices sizes c rule shown → IsMadeCell t sizes shown → StandsBelow t a sizes rank shown }
+    ensures irreflexive { (r : Rank) → IsBelow r r → ⊥ }
+    ensures transitive { (q r s : Rank) → IsBelow q r → IsBelow r s → IsBelow q s }
 {}
 
 /// A law: a text is accepted as one program or refused for one reason, and never both.

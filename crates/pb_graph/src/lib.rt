@@ -2,7 +2,8 @@
 //!
 //! Comes in: the segments of all matrices that rules make, what the rules read of these matrices, and the ranges of sizes.
 //! Goes out: layers of segments, with a direction for each, such that every cell that a rule may read for a cell is in a
-//! lower layer or comes before it in the layer's direction; or the first segments that wait for each other in every order.
+//! lower layer or comes before it in the layer's direction; or the first segments that lead to each other, by reading or by
+//! a rule that makes cells of both, where no direction serves what they read of each other.
 //!
 //! The theorem is `order`: it answers layers exactly where an order exists, memory aside.
 #![tactic(auto)]

@@ -65,14 +65,14 @@ pub fn a_read_is_within_its_matrix()
         → (sizes : List ℕ) → InRange (leasts_of t.ranges) sizes → (x y : ℤ) → Applies t.matrices r sizes x y → IsWithin (area_of sizes x y read d) (exact_value d.w sizes) (exact_value d.h sizes) }
 {}
 
-/// A law: no number of a bound of a box passes 2^25 in absolute value.
+/// A law: no number of a bound of a box passes 2^24 + 2 in absolute value.
 pub fn bounds_are_small()
     ensures { (sizes inputs count transforms : ℕ) (matrices : List DeclValue) (r : ProgRule) → IsRule sizes inputs count transforms r → AllByRecursion (IsDecl sizes) matrices
         → (leasts : List ℕ) (number : ℕ) (out : Read) → Contains r.outs out → AreSmallLimits (box leasts matrices number r out).limits }
 {}
 
-/// A law: the numbers of the ends of what an accepted rule reads are so small that no sum that is made of them passes the
-/// limit, and of the two rule variables at most one plays a part in an end.
+/// A law: no number of an end of what an accepted rule reads passes 2^24 + 2 in absolute value, and of the two rule variables
+/// at most one plays a part in an end, with the coefficient 1 or -1.
 pub fn ends_of_reads_are_small()
     ensures { (transforms : ℕ) (t : ProgTransform) (r : ProgRule) → AllByRecursion (IsDecl (length t.sizes)) t.matrices → IsRule (length t.sizes) t.inputs (length t.matrices) transforms r
         → IsAccepted t r → (number : ℕ) → AllByRecursion (λ (v : ReadValue). HaveSmallEnds v.ends) (reads_of t number r) }
