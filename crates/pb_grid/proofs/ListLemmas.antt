@@ -82,7 +82,7 @@ module _ {A : Type 0} (same : A → A → Bool) (trans : (a b c : A) → same a 
   any_kept x y [] n = refl
   any_kept x y (z ∷ zs) n = any_step x y z zs n _ (any_kept x y zs n) (same x z) refl
 
-  -- one more element stands behind, unless it is known
+  -- one more element stands at the end, unless it is known
   last : List A → A → List A
   last fs y = cond (list_any (λ z. same z y) fs) [] (y ∷ [])
 

@@ -21,7 +21,7 @@ fn is_inner(ranges: &Ranges, side: &Form, bound: &Form) -> bool
     !is_at_most(ranges, bound, &zero()) && !is_at_most(ranges, side, bound)
 }
 
-/// Puts the inner ones of these bounds behind a list.
+/// Adds the inner ones of these bounds at the end of a list.
 fn push_inner(
     ranges: &Ranges,
     side: &Form,

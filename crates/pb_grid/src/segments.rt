@@ -86,7 +86,7 @@ fn holders(alloc: Global, boxes: &[RuleBox], x: &Gap, y: &Gap) -> Result<Vec<Hol
     Ok(holders)
 }
 
-/// Puts the segments of a row behind a list.
+/// Adds the segments of a row at the end of a list.
 fn push_row(
     alloc: Global,
     segments: &mut Vec<Held>,

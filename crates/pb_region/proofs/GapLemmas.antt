@@ -24,7 +24,7 @@ module _ (c : Condition) (x y : ℤ) (rest : Numbers) (quotient : Bool) where
   unfolding gap
   same_gap ex ey er eq = λ i. record { x = ex i; y = ey i; rest = er i; quotient = eq i }
 
--- one more item: what it gives is put behind
+-- one more item: what it gives is added at the end
 pub more_pieces : {A B C : Type 0} (g : B → C) (f : A → List B) (xs : List A) (i : ℕ) (d : A) → i < length xs →
     map g (flat_map f (take (i + 1) xs)) ≡ map g (flat_map f (take i xs)) ++ map g (f (get_or xs i d))
 more_pieces g f xs i d h =

@@ -17,7 +17,7 @@ level_sort level.Sum = Number
 level_sort level.Conjunction = Truth
 level_sort level.Disjunction = Truth
 
--- the sort of an operand behind its sign, and of the operand itself
+-- the sort of an operand after its sign, and of the operand itself
 abbrev pub sign_sort : UnarySign → Sort
 sign_sort sign.Minus = Number
 sign_sort sign.Not = Truth

@@ -24,7 +24,7 @@ pub(crate) fn level_sort(level: Level) -> Sort
     }
 }
 
-/// The sort of an operand behind its sign, and of the operand itself.
+/// The sort of an operand after its sign, and of the operand itself.
 pub(crate) fn sign_sort(sign: UnarySign) -> Sort
     ensures { result ≡ sign_sort sign }
 {

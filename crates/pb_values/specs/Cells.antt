@@ -1,11 +1,10 @@
-use Rattle.std.specs.Prelude.{ℕ, ◌==◌, List, Option}
-use Rattle.std.specs.Map.{lookup}
+-- What a reader of cells tells.
+use Rattle.std.specs.Prelude.{ℕ, List, Option}
 use Rattle.pb_values.specs.declared.outcome.Outcome.{Outcome}
 
--- a finite map from cells to their outcomes, as the list of its entries: of equal cells the first counts
-abbrev pub Cells : Type 0
-Cells = List (ℕ × Outcome)
-
--- the outcome of a cell, if the map has it
-abbrev pub outcome_of : Cells → ℕ → Option Outcome
-outcome_of cells cell = lookup (λ c. c == cell) cells
+-- The outcomes of the cells that may be read, as a map from their numbers. Who makes cells also tells the task whose turn
+-- it is, and the cells that it is still to write, in order, with their outcomes.
+pub record Turn : Type 0 where
+  pub task : ℕ
+  pub outcomes : ℕ → Option Outcome
+  pub left : List (ℕ × Outcome)
