@@ -3,6 +3,7 @@ pub mod NumberedLemmas
 pub mod NearLemmas
 pub mod WorstLemmas
 pub mod SeenLemmas
+pub mod SourceLemmas
 pub mod EdgeLemmas
 pub mod CutLemmas
 pub mod ChoiceLemmas

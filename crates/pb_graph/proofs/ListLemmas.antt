@@ -3,7 +3,7 @@ use Rattle.std.proofs.Common.{◌≡◌, ◌∙◌, refl, sym, ap, ℕ, ◌+◌,
 use Rattle.std.specs.Prelude.{filter}
 use Rattle.std.specs.List.{flat_map, list_all, list_any}
 use Rattle.std.proofs.Math.Bool.{cond}
-use Rattle.std.proofs.lemmas.List.{map-append, take_more}
+use Rattle.std.proofs.lemmas.List.{take_more}
 
 pub and_true : (b : Bool) → (b && true) ≡ b
 and_true true = refl
@@ -62,14 +62,6 @@ any_mapped f p q same (x ∷ xs) = rw (same x, any_mapped f p q same xs) refl
 pub map_filtered : {A B : Type 0} (f : A → B) (p : A → Bool) (x : A) (xs : List A) (b : Bool) → map f (cond b (x ∷ filter p xs) (filter p xs)) ≡ cond b (f x ∷ map f (filter p xs)) (map f (filter p xs))
 map_filtered f p x xs true = refl
 map_filtered f p x xs false = refl
-
-pub flat_mapped : {A B C : Type 0} (f : A → List B) (g : B → C) (xs : List A) → map g (flat_map f xs) ≡ flat_map (λ x. map g (f x)) xs
-flat_mapped f g [] = refl
-flat_mapped f g (x ∷ xs) = map-append g (f x) (flat_map f xs) ∙ ap (λ l. map g (f x) ++ l) (flat_mapped f g xs)
-
-pub same_flat : {A B C : Type 0} (h : A → B) (f : B → List C) (g : A → List C) → ((x : A) → f (h x) ≡ g x) → (xs : List A) → flat_map f (map h xs) ≡ flat_map g xs
-same_flat h f g same [] = refl
-same_flat h f g same (x ∷ xs) = rw (same x, same_flat h f g same xs) refl
 
 pub same_map : {A B : Type 0} (f g : A → B) → ((x : A) → f x ≡ g x) → (xs : List A) → map f xs ≡ map g xs
 same_map f g same [] = refl

@@ -32,15 +32,8 @@ module _ {A B : Type 0} (f : A → B) (p : A → Bool) (xs ys : List A) (x : A) 
   one_dropped : (old l : List B) → l ≡ old ++ map f (filter p xs) → p x ≡ false → l ≡ old ++ map f (filter p ys)
   one_dropped old l inv e = inv ∙ ap (λ z. old ++ z) (sym (append-nil (map f (filter p xs))) ∙ sym (one_more false e))
 
-range_next : (k : ℕ) → range_with_len 0 (k + 1) ≡ range_with_len 0 k ++ k ∷ []
+pub range_next : (k : ℕ) → range_with_len 0 (k + 1) ≡ range_with_len 0 k ++ k ∷ []
 range_next k = let here : 0 + k ≡ k = omega arith in range_more 0 k ∙ ap (λ n. range_with_len 0 k ++ n ∷ []) here
-
-module _ {B : Type 0} (f : ℕ → B) (p : ℕ → Bool) (k : ℕ) (old l : List B) (inv : l ≡ old ++ map f (filter p (range_with_len 0 k))) where
-  pub kept : (m : List B) → p k ≡ true → m ≡ l ++ f k ∷ [] → m ≡ old ++ map f (filter p (range_with_len 0 (k + 1)))
-  kept m = one_kept f p (range_with_len 0 k) (range_with_len 0 (k + 1)) k (range_next k) old l m inv
-
-  pub dropped : p k ≡ false → l ≡ old ++ map f (filter p (range_with_len 0 (k + 1)))
-  dropped = one_dropped f p (range_with_len 0 k) (range_with_len 0 (k + 1)) k (range_next k) old l inv
 
 -- numbers below another, and elements with their numbers
 module _ {A B : Type 0} (p : ℕ → Bool) (f : ℕ → B) (q : ℕ × A → Bool) (g : ℕ × A → B) where
@@ -55,11 +48,6 @@ module _ {A B : Type 0} (p : ℕ → Bool) (f : ℕ → B) (q : ℕ × A → Boo
       by_test : (b : Bool) → p s ≡ b → p s ≡ q (s, x) → f s ≡ g (s, x) → map f (filter p (range_with_len (s + 1) (length xs))) ≡ map g (filter q (enumerate_from (s + 1) xs)) → map f (filter p (s ∷ range_with_len (s + 1) (length xs))) ≡ map g (filter q ((s, x) ∷ enumerate_from (s + 1) xs))
       by_test true e same made rest = rw (e, sym same ∙ e, made) (ap (λ l. g (s, x) ∷ l) rest)
       by_test false e same made rest = rw (e, sym same ∙ e) rest
-
-pub row_at : {A : Type 0} (f : A → Bool) (xs : List A) (k : ℕ) (x : A) → slice_get xs k ≡ Some x → get_or (map f xs) k false ≡ f x
-row_at f [] k x e = absurd (let none : None ≡ Some x = e in cc)
-row_at f (y ∷ ys) zero x e = let some : Some y ≡ Some x = e in ap f (cc)
-row_at f (y ∷ ys) (suc k) x e = row_at f ys k x e
 
 -- one more reader
 numbered_more : {A : Type 0} (s : ℕ) (xs : List A) (k : ℕ) (x : A) → slice_get xs k ≡ Some x → take (k + 1) (enumerate_from s xs) ≡ take k (enumerate_from s xs) ++ (s + k, x) ∷ []

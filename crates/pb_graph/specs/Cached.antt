@@ -1,5 +1,5 @@
 -- Rows of tests that are made once for all readers that they fit.
-use Rattle.std.specs.Prelude.{◌≡◌, ◌⊎◌, ◌<◌, ℕ, ◌==◌, pos, Bool, ◌&&◌, not, List, [], ◌∷◌, length, map, slice_get, slice_index, Some}
+use Rattle.std.specs.Prelude.{◌≡◌, ◌⊎◌, ◌<◌, ◌≤◌, ◌-◌, take, drop, ℕ, ◌==◌, pos, Bool, ◌&&◌, not, List, [], ◌∷◌, length, map, slice_get, slice_index, Some}
 use Rattle.std.specs.List.{All}
 use Rattle.pb_linear.specs.declared.boxes.ReadBox.{ReadBox}
 use Rattle.pb_linear.specs.declared.vform.SymBox.{SymBox}
@@ -34,14 +34,26 @@ pub record RowValue : Type 0 where
 abbrev pub IsRow : List ℕ → List NodeValue → ReadBox → ℕ → RowValue → Type 0
 IsRow leasts nodes r axis w = w.near ≡ map (near_on leasts r axis w.area) nodes
 
--- the rows of a read
+-- from the first to before the end there are all segments of a matrix
+pub record IsSpan (nodes : List NodeValue) (matrix first end : ℕ) : Type 0 where
+  pub order : first ≤ end
+  pub inside : end ≤ length nodes
+  pub whole : (k : ℕ) (v : NodeValue) → slice_get nodes k ≡ Some v → matrix ≡ v.matrix → (first ≤ k) × (k < end)
+
+abbrev pub part : List NodeValue → ℕ → ℕ → List NodeValue
+part nodes first end = take (end - first) (drop first nodes)
+
+-- the rows of a read, over a part of the segments
 pub record RowsValue : Type 0 where
+  pub first : ℕ
+  pub end : ℕ
   pub x : List RowValue
   pub y : List RowValue
 
 pub record AreRowsOf (leasts : List ℕ) (nodes : List NodeValue) (r : ReadBox) (rows : RowsValue) : Type 0 where
-  pub on_x : All (IsRow leasts nodes r 0) rows.x
-  pub on_y : All (IsRow leasts nodes r 1) rows.y
+  pub span : IsSpan nodes r.matrix rows.first rows.end
+  pub on_x : All (IsRow leasts (part nodes rows.first rows.end) r 0) rows.x
+  pub on_y : All (IsRow leasts (part nodes rows.first rows.end) r 1) rows.y
 
 -- the rows of each read
 abbrev pub AreRows : List ℕ → List NodeValue → List ReadBox → List RowsValue → Type 0

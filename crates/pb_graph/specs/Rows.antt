@@ -1,5 +1,5 @@
 -- The reads of a segment by its rules, each with the segments of which it may show a cell.
-use Rattle.std.specs.Prelude.{ℕ, ◌==◌, Bool, false, ◌&&◌, not, List, [], ◌∷◌, map, filter, slice_index_or}
+use Rattle.std.specs.Prelude.{◌≡◌, ℕ, ◌==◌, ◌-◌, nat_le, Bool, false, ◌&&◌, not, List, [], ◌∷◌, map, filter, Some, slice_get, slice_index_or}
 use Rattle.std.specs.List.{enumerate_from, flat_map, list_any, range_with_len}
 use Rattle.pb_linear.specs.declared.boxes.ReadBox.{ReadBox}
 use Rattle.pb_linear.specs.declared.boxes.Sign.TheVariants.{Plus, Minus}
@@ -14,9 +14,10 @@ use Rattle.pb_graph.specs.Edges.{Choices, EdgeValue, all_at, apart, choices, is_
 use Rattle.pb_graph.specs.Nodes.{NodeValue}
 use Rattle.pb_graph.specs.Seen.{all_at_by, is_wide_by, mark_by, seen_at, serves_by}
 
--- a read by a segment: what is known of it, and for each segment whether it may show a cell of that one
+-- a read by a segment: what is known of it, and for each segment from a first on whether it may show a cell of that one
 pub record OwnValue : Type 0 where
   pub seen : Seen
+  pub first : ℕ
   pub touched : List Bool
 
 -- the reads of a rule
@@ -28,23 +29,37 @@ pub record GroupValue : Type 0 where
 abbrev pub may_touch : List ℕ → SymBox → NodeValue → ReadBox → Bool
 may_touch leasts area source r = (r.matrix == source.matrix) && (not (apart leasts area r source.area 0) && not (apart leasts area r source.area 1))
 
+abbrev pub row : List ℕ → List NodeValue → SymBox → ReadBox → List Bool
+row leasts sources area r = map (λ source. may_touch leasts area source r) sources
+
+-- it may show a cell of the segment with this number
+unfoldable pub is_touched : ℕ → OwnValue → Bool
+is_touched source o = nat_le o.first source && slice_index_or o.touched (source - o.first) false
+
+-- what is known of a read is right of each segment
+pub record IsOwn (leasts : List ℕ) (nodes : List NodeValue) (area : SymBox) (r : ReadBox) (o : OwnValue) : Type 0 where
+  pub seen : o.seen ≡ seen_at leasts area r
+  pub touched : (k : ℕ) (source : NodeValue) → slice_get nodes k ≡ Some source → is_touched k o ≡ may_touch leasts area source r
+
 module _ (leasts : List ℕ) (nodes : List NodeValue) (area : SymBox) where
-  abbrev pub row : ReadBox → List Bool
-  row r = map (λ source. may_touch leasts area source r) nodes
+  abbrev pub AreOwn : List ReadBox → List OwnValue → Type 0
+  AreOwn [] [] = Unit {0}
+  AreOwn [] (_ ∷ _) = ⊥
+  AreOwn (_ ∷ _) [] = ⊥
+  AreOwn (r ∷ reads) (o ∷ own) = IsOwn leasts nodes area r o × AreOwn reads own
 
-  abbrev pub own_read : ReadBox → OwnValue
-  own_read r = record { seen = seen_at leasts area r; touched = row r }
+  -- the reads of a rule, each once
+  pub record IsGroup (reads : List ReadBox) (k : ℕ) (g : GroupValue) : Type 0 where
+    pub rule : g.rule ≡ k
+    pub own : AreOwn (filter (λ r. r.rule == k) reads) g.reads
 
-  abbrev pub group : List ReadBox → ℕ → GroupValue
-  group reads rule = record { rule = rule; reads = map own_read (filter (λ r. r.rule == rule) reads) }
-
-unfoldable pub groups : List ℕ → List NodeValue → List ReadBox → NodeValue → List GroupValue
-groups leasts nodes reads reader = map (group leasts nodes reader.area reads) reader.rules
+  abbrev pub AreGroups : List ReadBox → List ℕ → List GroupValue → Type 0
+  AreGroups reads [] [] = Unit {0}
+  AreGroups reads [] (_ ∷ _) = ⊥
+  AreGroups reads (_ ∷ _) [] = ⊥
+  AreGroups reads (rule ∷ rules) (g ∷ gs) = IsGroup reads rule g × AreGroups reads rules gs
 
 -- ---- what a segment reads of the segment with a number
-abbrev pub is_touched : ℕ → OwnValue → Bool
-is_touched source o = slice_index_or o.touched source false
-
 abbrev pub met_by : ℕ → GroupValue → List Seen
 met_by source g = map (λ o. o.seen) (filter (is_touched source) g.reads)
 

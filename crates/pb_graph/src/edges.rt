@@ -1,4 +1,4 @@
-ghost use Rattle.std.specs.Prelude.{◌≡◌, ◌++◌, ◌∷◌, ◌<◌, ◌^◌, [], IfErr, IfOk, OnOk, map, length};
+ghost use Rattle.std.specs.Prelude.{◌≡◌, ◌++◌, ◌∷◌, ◌<◌, ◌≤◌, ◌^◌, ℕ, false, [], IfErr, IfOk, OnOk, map, filter, length};
 ghost use Rattle.std.specs.List.{All};
 ghost use Rattle.pb_linear.specs.Sizes.{IsRanges, leasts_of};
 ghost use Rattle.pb_graph.specs.Edges.{edges, is_some, links};
@@ -24,13 +24,59 @@ pub(crate) struct Found {
     pub(crate) sides: Vec<EdgeSides>,
 }
 
+#[tactic(auto, unfolding(crate::specs::Rows::is_touched))]
 fn is_touched(source: usize, read: &OwnRead) -> bool
     ensures { result ≡ is_touched source read.now }
 {
-    source < read.touched.len() && read.touched[source]
+    if source < read.first {
+        return false;
+    }
+    let number = source - read.first;
+    number < read.touched.len() && read.touched[number]
 }
 
-/// Puts behind a list what is known of the reads of a rule by which a segment reads another.
+/// The first number from `source` on that is among those of a read, or the end.
+#[tactic(auto, unfolding(crate::specs::Rows::is_touched))]
+fn next_by(read: &OwnRead, source: usize, end: usize) -> usize
+    requires { source ≤ end }
+    ensures order { (source ≤ result) × (result ≤ end) }
+    ensures none { (k : ℕ) → source ≤ k → k < result → is_touched k read.now ≡ false }
+{
+    if source < read.first {
+        return read.first.min(end);
+    }
+    if source - read.first < read.touched.len() {
+        return source;
+    }
+    end
+}
+
+fn next_in(group: &Group, source: usize, end: usize) -> usize
+    requires { source ≤ end }
+    ensures order { (source ≤ result) × (result ≤ end) }
+    ensures none { (k : ℕ) → source ≤ k → k < result → met_by k group.now ≡ [] }
+{
+    let mut next = end;
+    for read in &group.reads {
+        next = next_by(read, source, next);
+    }
+    next
+}
+
+/// The first number from `source` on that is among those of any read, or the end.
+fn next_source(groups: &[Group], source: usize, end: usize) -> usize
+    requires { source ≤ end }
+    ensures order { (source ≤ result) × (result ≤ end) }
+    ensures none { (k : ℕ) → source ≤ k → k < result → met_reads k groups.now ≡ [] }
+{
+    let mut next = end;
+    for group in groups {
+        next = next_in(group, source, next);
+    }
+    next
+}
+
+/// Adds at the end of a list what is known of the reads of a rule by which a segment reads another.
 fn push_met(met: &mut Vec<Seen>, source: usize, group: &Group) -> Result<(), GraphRefusal>
     ensures found { OnOk result (met.new.items ≡ met.old.items ++ met_by source group.now) }
     ensures refused { IfErr result (λ e. e ≡ Memory) }
@@ -89,7 +135,7 @@ fn are_some(reads: &[Seen]) -> bool
     !reads.is_empty()
 }
 
-/// Puts an edge behind the others.
+/// Adds an edge at the end.
 fn push_edge(
     alloc: Global,
     found: &mut Found,
@@ -126,8 +172,27 @@ fn push_edge(
     Ok(())
 }
 
-/// Puts the edges of a reader behind the others.
-#[tactic(auto, using(crate::proofs::NumberedLemmas::kept, crate::proofs::NumberedLemmas::dropped))]
+/// Adds an edge at the end, if there is one.
+fn push_if_met(
+    alloc: Global,
+    found: &mut Found,
+    reader: u32,
+    groups: &[Group],
+    source: u32,
+) -> Result<(), GraphRefusal>
+    ensures edges { OnOk result (found.new.edges.items ≡ found.old.edges.items ++ map (edge_by reader groups.now) (filter (λ s. is_some (met_reads s groups.now)) (source ∷ []))) }
+    ensures links { OnOk result (found.new.links.items ≡ found.old.links.items ++ map (link_by reader groups.now) (filter (λ s. is_some (met_reads s groups.now)) (source ∷ []))) }
+    ensures sides { OnOk result (found.new.sides.items ≡ found.old.sides.items ++ map (side_by reader groups.now) (filter (λ s. is_some (met_reads s groups.now)) (source ∷ []))) }
+    ensures refused { IfErr result (λ e. e ≡ Memory) }
+{
+    let reads = met_reads(alloc, source as usize, groups)?;
+    if !are_some(&reads) {
+        return Ok(());
+    }
+    push_edge(alloc, found, reader, groups, source, &reads)
+}
+
+/// Adds the edges of a reader at the end.
 fn push_edges(
     alloc: Global,
     found: &mut Found,
@@ -140,12 +205,11 @@ fn push_edges(
     ensures sides { OnOk result (found.new.sides.items ≡ found.old.sides.items ++ map (side_by reader groups.now) (sources_by groups.now count)) }
     ensures refused { IfErr result (λ e. e ≡ Memory) }
 {
-    for source in 0..count {
-        let reads = met_reads(alloc, source as usize, groups)?;
-        if !are_some(&reads) {
-            continue;
-        }
-        push_edge(alloc, found, reader, groups, source, &reads)?;
+    let end = count as usize;
+    let mut source = next_source(groups, 0, end);
+    while source < end {
+        push_if_met(alloc, found, reader, groups, source as u32)?;
+        source = next_source(groups, source + 1, end);
     }
     Ok(())
 }

@@ -30,7 +30,7 @@ fn makers(alloc: Global, nodes: &[Node], rule: u32) -> Result<Vec<u32>, GraphRef
     Ok(makers)
 }
 
-/// Puts behind a list the first of these segments with each other.
+/// Adds at the end of a list the first of these segments with each other.
 fn push_joined(joined: &mut Vec<Link>, segments: &[u32]) -> Result<(), GraphRefusal>
     ensures found { OnOk result (joined.new.items ≡ joined.old.items ++ with_others segments.now) }
     ensures refused { IfErr result (λ e. e ≡ Memory) }

@@ -29,7 +29,8 @@ fn refused(refusal: LayersRefusal) -> GraphRefusal
 
 /// The order in which segments can be made whatever rules are chosen among theirs: strong components of the segments that
 /// read each other, one layer each. `reads` are what the rules read of matrices that rules make; `wide_rules` are the rules
-/// that aren't for single cells. The time is near the tests of distinct bounds, and the pairs of segments.
+/// that aren't for single cells. The time grows with the segments and the edges, and for each segment and
+/// read with the segments of the matrix that is read.
 pub fn order(
     alloc: Global,
     nodes: &[Node],

@@ -2,7 +2,7 @@ ghost use Rattle.std.specs.Prelude.{◌≡◌, IfErr, IfOk};
 ghost use Rattle.std.specs.List.{All};
 ghost use Rattle.pb_linear.specs.Sizes.{IsRanges, leasts_of};
 ghost use Rattle.pb_graph.specs.Cached.{AreRows};
-ghost use Rattle.pb_graph.specs.Rows.{group, groups};
+ghost use Rattle.pb_graph.specs.Rows.{AreGroups, IsGroup};
 ghost use Rattle.pb_graph.specs.Small.{IsSmallArea, IsSmallRead};
 ghost use Rattle.pb_graph.specs.declared.refusal.GraphRefusal.TheVariants.{Memory};
 
@@ -14,10 +14,11 @@ use pb_linear::{Ranges, ReadBox, SymBox};
 use std::alloc::Global;
 use std::marker::Model;
 
-/// A read by a segment, and for each segment whether a cell of the reader may read a cell of it.
+/// A read by a segment, and for each segment from `first` on whether a cell of the reader may read a cell of it.
 #[derive(Drop)]
 pub(crate) struct OwnRead {
     pub(crate) seen: Seen,
+    pub(crate) first: usize,
     pub(crate) touched: Vec<bool>,
 }
 
@@ -26,7 +27,7 @@ impl Model for OwnRead {
 
     ghost Value = { OwnValue };
 
-    ghost view = { λ o. record { seen = o.seen; touched = o.touched.items } };
+    ghost view = { λ o. record { seen = o.seen; first = o.first; touched = o.touched.items } };
 }
 
 /// The reads of a rule of a segment.
@@ -59,7 +60,7 @@ fn group_of(
     requires area { IsSmallArea area.now }
     requires reads { All IsSmallRead reads.now }
     requires rows { AreRows (leasts_of ranges.now) nodes.now reads.now rows.now }
-    ensures found { IfOk result (λ g. g ≡ group (leasts_of ranges.now) nodes.now area.now reads.now rule) }
+    ensures found { IfOk result (λ g. IsGroup (leasts_of ranges.now) nodes.now area.now reads.now rule g) }
     ensures refused { IfErr result (λ e. e ≡ Memory) }
 {
     let mut own = Vec::new(alloc);
@@ -67,16 +68,17 @@ fn group_of(
         if read.rule != rule {
             continue;
         }
+        let known: &Rows = &rows[number];
         own.push(OwnRead {
             seen: seen_at(ranges, area, read),
-            touched: touched_row(alloc, nodes, ranges, &rows[number], read, area)?,
+            first: known.first,
+            touched: touched_row(alloc, nodes, ranges, known, read, area)?,
         })?;
     }
     Ok(Group { rule, reads: own })
 }
 
 /// The reads of each rule of a segment.
-#[tactic(auto, unfolding(crate::specs::Rows::groups))]
 pub(crate) fn groups(
     alloc: Global,
     nodes: &[Node],
@@ -90,7 +92,7 @@ pub(crate) fn groups(
     requires reader { IsSmallArea reader.now.area }
     requires reads { All IsSmallRead reads.now }
     requires rows { AreRows (leasts_of ranges.now) nodes.now reads.now rows.now }
-    ensures found { IfOk result (λ gs. gs.items ≡ groups (leasts_of ranges.now) nodes.now reads.now reader.now) }
+    ensures found { IfOk result (λ gs. AreGroups (leasts_of ranges.now) nodes.now reader.now.area reads.now reader.now.rules gs.items) }
     ensures refused { IfErr result (λ e. e ≡ Memory) }
 {
     let mut groups = Vec::new(alloc);

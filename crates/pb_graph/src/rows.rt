@@ -1,7 +1,7 @@
 ghost use Rattle.std.specs.Prelude.{◌≡◌, ◌<◌, ◌^◌, ◌&&◌, ℕ, false, IfErr, IfOk, IfSome, List, length, map, slice_index_or};
 ghost use Rattle.std.specs.List.{All};
 ghost use Rattle.pb_linear.specs.Sizes.{IsRanges, leasts_of};
-ghost use Rattle.pb_graph.specs.Cached.{AreFirsts, AreRows, AreRowsOf, IsRow, both, near_on};
+ghost use Rattle.pb_graph.specs.Cached.{AreFirsts, AreRows, AreRowsOf, IsRow, IsSpan, both, near_on, part};
 ghost use Rattle.pb_graph.specs.Nodes.{NodeValue};
 ghost use Rattle.pb_graph.specs.Rows.{may_touch, row};
 ghost use Rattle.pb_graph.specs.Small.{IsSmallArea, IsSmallRead};
@@ -31,9 +31,11 @@ impl Model for Row {
     ghost view = { λ r. record { area = r.area; near = r.near.items } };
 }
 
-/// The rows of a read on both axes.
+/// The rows of a read on both axes, over the segments from `first` to before `end`: all of the matrix that is read.
 #[derive(Drop)]
 pub(crate) struct Rows {
+    pub(crate) first: usize,
+    pub(crate) end: usize,
     pub(crate) x: Vec<Row>,
     pub(crate) y: Vec<Row>,
 }
@@ -43,7 +45,7 @@ impl Model for Rows {
 
     ghost Value = { RowsValue };
 
-    ghost view = { λ r. record { x = r.x.items; y = r.y.items } };
+    ghost view = { λ r. record { first = r.first; end = r.end; x = r.x.items; y = r.y.items } };
 }
 
 /// Whether a cell of an area may read a cell of a segment on an axis.
@@ -105,6 +107,7 @@ fn find_row<'a>(rows: &'a [Row], read: &ReadBox, axis: u8, area: &SymBox) -> Opt
 fn axis_rows(
     alloc: Global,
     nodes: &[Node],
+    sources: &[Node],
     ranges: &Ranges,
     firsts: &[u32],
     read: &ReadBox,
@@ -112,10 +115,11 @@ fn axis_rows(
 ) -> Result<Vec<Row>, GraphRefusal>
     requires ranges { IsRanges ranges.now }
     requires areas { All (λ n. IsSmallArea n.area) nodes.now }
-    requires room { length firsts.now ≡ length nodes.now }
-    requires firsts { AreFirsts axis nodes.now firsts.now }
+    requires sources { All (λ n. IsSmallArea n.area) sources.now }
+    requires room { length firsts.now ≡ length sources.now }
+    requires firsts { AreFirsts axis sources.now firsts.now }
     requires read { IsSmallRead read.now }
-    ensures found { IfOk result (λ rs. All (IsRow (leasts_of ranges.now) nodes.now read.now axis) rs.items) }
+    ensures found { IfOk result (λ rs. All (IsRow (leasts_of ranges.now) sources.now read.now axis) rs.items) }
     ensures refused { IfErr result (λ e. e ≡ Memory) }
 {
     let mut rows = Vec::new(alloc);
@@ -125,34 +129,53 @@ fn axis_rows(
         }
         rows.push(Row {
             area: node.area,
-            near: near_row(alloc, nodes, ranges, firsts, read, axis, &node.area)?,
+            near: near_row(alloc, sources, ranges, firsts, read, axis, &node.area)?,
         })?;
     }
     Ok(rows)
 }
 
-/// The tests of a read on both axes.
+/// Where the segments of a matrix stand: from the first to after the last, or nowhere.
+fn span_of(nodes: &[Node], matrix: u32) -> (usize, usize)
+    ensures { IsSpan nodes.now matrix result.0 result.1 }
+{
+    let mut first = 0usize;
+    let mut end = 0usize;
+    for (number, node) in nodes.iter().enumerate() {
+        if matrix != node.matrix {
+            continue;
+        }
+        if end == 0 {
+            first = number;
+        }
+        end = number + 1;
+    }
+    (first, end)
+}
+
+/// The tests of a read on both axes, for the segments of the matrix that is read.
 fn rows_of(
     alloc: Global,
     nodes: &[Node],
     ranges: &Ranges,
-    firsts_x: &[u32],
-    firsts_y: &[u32],
     read: &ReadBox,
 ) -> Result<Rows, GraphRefusal>
     requires ranges { IsRanges ranges.now }
+    requires few { length nodes.now < 2 ^ 32 }
     requires areas { All (λ n. IsSmallArea n.area) nodes.now }
-    requires room_x { length firsts_x.now ≡ length nodes.now }
-    requires firsts_x { AreFirsts 0 nodes.now firsts_x.now }
-    requires room_y { length firsts_y.now ≡ length nodes.now }
-    requires firsts_y { AreFirsts 1 nodes.now firsts_y.now }
     requires read { IsSmallRead read.now }
     ensures found { IfOk result (AreRowsOf (leasts_of ranges.now) nodes.now read.now) }
     ensures refused { IfErr result (λ e. e ≡ Memory) }
 {
+    let (first, end) = span_of(nodes, read.matrix);
+    let sources = &nodes[first..end];
+    let firsts_x = firsts(alloc, sources, 0)?;
+    let firsts_y = firsts(alloc, sources, 1)?;
     Ok(Rows {
-        x: axis_rows(alloc, nodes, ranges, firsts_x, read, 0)?,
-        y: axis_rows(alloc, nodes, ranges, firsts_y, read, 1)?,
+        first,
+        end,
+        x: axis_rows(alloc, nodes, sources, ranges, &firsts_x, read, 0)?,
+        y: axis_rows(alloc, nodes, sources, ranges, &firsts_y, read, 1)?,
     })
 }
 
@@ -170,11 +193,9 @@ pub(crate) fn all_rows(
     ensures found { IfOk result (λ rs. AreRows (leasts_of ranges.now) nodes.now reads.now rs.items) }
     ensures refused { IfErr result (λ e. e ≡ Memory) }
 {
-    let firsts_x = firsts(alloc, nodes, 0)?;
-    let firsts_y = firsts(alloc, nodes, 1)?;
     let mut rows = Vec::new(alloc);
     for read in reads {
-        rows.push(rows_of(alloc, nodes, ranges, &firsts_x, &firsts_y, read)?)?;
+        rows.push(rows_of(alloc, nodes, ranges, read)?)?;
     }
     Ok(rows)
 }
@@ -235,7 +256,8 @@ fn tested_row(
     Ok(row)
 }
 
-/// For each segment whether a cell of an area may read a cell of it: by the tests that are known, else by tests of its own.
+/// For each segment of the part that has rows whether a cell of an area may read a cell of it: by the tests that are known,
+/// else by tests of its own.
 pub(crate) fn touched_row(
     alloc: Global,
     nodes: &[Node],
@@ -249,7 +271,7 @@ pub(crate) fn touched_row(
     requires rows { AreRowsOf (leasts_of ranges.now) nodes.now read.now rows.now }
     requires area { IsSmallArea area.now }
     requires read { IsSmallRead read.now }
-    ensures found { IfOk result (λ bs. bs.items ≡ row (leasts_of ranges.now) nodes.now area.now read.now) }
+    ensures found { IfOk result (λ bs. bs.items ≡ row (leasts_of ranges.now) (part nodes.now rows.now.first rows.now.end) area.now read.now) }
     ensures refused { IfErr result (λ e. e ≡ Memory) }
 {
     if let Some(x) = find_row(&rows.x, read, 0, area) {
@@ -257,5 +279,5 @@ pub(crate) fn touched_row(
             return both(alloc, x, y);
         }
     }
-    tested_row(alloc, nodes, ranges, area, read)
+    tested_row(alloc, &nodes[rows.first..rows.end], ranges, area, read)
 }

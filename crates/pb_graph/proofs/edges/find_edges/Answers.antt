@@ -1,6 +1,6 @@
-use Rattle.std.proofs.Common.{◌≡◌, ◌∙◌, map, arith}
+use Rattle.std.proofs.Common.{map, subst, sym, arith}
 use Rattle.pb_graph.specs.Edges.{edge, edges, link, links, sources}
-use Rattle.pb_graph.specs.Rows.{groups, plain, sides, sides_of}
+use Rattle.pb_graph.specs.Rows.{AreGroups, plain, sides, sides_of}
 use Rattle.pb_graph.proofs.EdgeLemmas.{edges_are, links_are, sides_are}
 use Rattle.pb_graph.proofs.NumberedLemmas.{at_index, flat_end, flat_more}
 use Rattle.pb_graph.proofs.edges.find_edges.Goals as goal
@@ -12,7 +12,7 @@ loop-reader-preserved c =
     let nodes = c.args.nodes.now in
     let x = c.index-nodes-reader.result in
     let at = at_index nodes u x (omega arith) c.index-nodes-reader.is in
-    let gs : c.deref-in-loop-reader.result.now ≡ groups p.leasts p.nodes p.reads x = c.deref-in-loop-reader.ensures.value ∙ c.in_ok-groups.ensures.found in
+    let gs = subst (AreGroups p.leasts p.nodes x.area p.reads x.rules) (sym c.deref-in-loop-reader.ensures.value) c.in_ok-groups.ensures.found in
     let done = c.in_ok-push_edges.ensures in
     record {
       edges = flat_more (λ u. map (edge p u) (sources p u)) nodes u x _ _ _ at c.loop-reader.invariant.edges done.edges (edges_are p u x _ _ gs (omega arith));

@@ -1,7 +1,7 @@
-use Rattle.std.proofs.Common.{◌≡◌, map, take}
+use Rattle.std.proofs.Common.{take}
 use Rattle.pb_linear.specs.Sizes.{leasts_of}
-use Rattle.pb_graph.specs.Rows.{group}
+use Rattle.pb_graph.specs.Rows.{AreGroups}
 use Rattle.pb_graph.proofs.readers.groups.Given as goal
 
 abbrev pub invariant-loop-rule : goal.invariant-loop-rule
-invariant-loop-rule l = l.groups.items ≡ map (group (leasts_of l.ranges) l.nodes l.reader.area l.reads) (take l.rule-index l.reader.rules)
+invariant-loop-rule l = AreGroups (leasts_of l.ranges) l.nodes l.reader.area l.reads (take l.rule-index l.reader.rules) l.groups.items

@@ -1,14 +1,8 @@
-use Rattle.std.proofs.Common.{subst, sym}
+use Rattle.std.proofs.Common.{subst}
 use Rattle.pb_linear.specs.Sizes.{leasts_of}
-use Rattle.pb_graph.specs.Cached.{AreFirsts, AreRowsOf}
+use Rattle.pb_graph.specs.Cached.{AreRowsOf}
 use Rattle.pb_graph.proofs.CachedLemmas.{rows_next}
 use Rattle.pb_graph.proofs.rows.all_rows.Goals as goal
-
-pub rows_of-requires-clause-firsts_x : goal.rows_of-requires-clause-firsts_x
-rows_of-requires-clause-firsts_x c = subst (AreFirsts 0 c.args.nodes.now) (sym c.deref.ensures.value) c.in_ok-firsts_x.ensures.found
-
-pub rows_of-requires-clause-firsts_y : goal.rows_of-requires-clause-firsts_y
-rows_of-requires-clause-firsts_y c = subst (AreFirsts 1 c.args.nodes.now) (sym c.deref-in-loop-read.ensures.value) c.in_ok-firsts_y.ensures.found
 
 pub loop-read-preserved : goal.loop-read-preserved
 loop-read-preserved c =
