@@ -184,25 +184,42 @@ module _ (p : List ProgTransform) (number : ℕ) (t : ProgTransform) (c : Cell) 
     guards_hold : (o : Read) → (box (leasts_of t.ranges) t.matrices k r o).guarded ≡ false → AllByRecursion (Holds sizes (pos c.x) (pos c.y)) (guards t.matrices r)
     guards_hold o free = (unguarded_is (leasts_of t.ranges) (conditions t.matrices r)).0 free sizes cell.in_range (pos c.x) (pos c.y)
 
-    free_applies : (o : Read) → AllByRecursion IsFree r.outs → (box (leasts_of t.ranges) t.matrices k r o).guarded ≡ false → Applies t.matrices r sizes (pos c.x) (pos c.y)
-    free_applies o free unguarded =
-        subst (AllByRecursion (Holds sizes (pos c.x) (pos c.y))) (all_guards (length t.sizes) t.inputs (length t.matrices) (length p) t.matrices r (rule_fits k r there) free) (guards_hold o unguarded)
+    free_applies : AllByRecursion IsFree r.outs → AllByRecursion (Holds sizes (pos c.x) (pos c.y)) (guards t.matrices r) → Applies t.matrices r sizes (pos c.x) (pos c.y)
+    free_applies free held =
+        subst (AllByRecursion (Holds sizes (pos c.x) (pos c.y))) (all_guards (length t.sizes) t.inputs (length t.matrices) (length p) t.matrices r (rule_fits k r there) free) held
+
+    free_guards : AllByRecursion IsFree r.outs → Applies t.matrices r sizes (pos c.x) (pos c.y) → AllByRecursion (Holds sizes (pos c.x) (pos c.y)) (guards t.matrices r)
+    free_guards free applies =
+        subst (AllByRecursion (Holds sizes (pos c.x) (pos c.y))) (sym (all_guards (length t.sizes) t.inputs (length t.matrices) (length p) t.matrices r (rule_fits k r there) free)) applies
 
     wide_writes : (o : Read) → (r.kind ≡ kind.Cell → ⊥) → Contains r.outs o → o.matrix ≡ c.matrix → Inside (limits k r o) → IsTrue (list_any (output_holds t.matrices sizes c) r.outs)
     wide_writes o wide among on inside =
         output_some (output_holds t.matrices sizes c) r.outs o among (in_holds o on ((wide_inside r.kind wide (gaps_of t.matrices r) t.matrices o cell.decl (output_decl o on) sizes (pos c.x) (pos c.y)).0 inside))
 
-    can_by : (e : RuleKind) → r.kind ≡ e → (o : Read) → Contains r.outs o → (o.matrix == c.matrix) ≡ true → Inside (limits k r o) → (box (leasts_of t.ranges) t.matrices k r o).guarded ≡ false
+    -- where a box holds the cell and the guards are true the rule can make it
+    can_by : (e : RuleKind) → r.kind ≡ e → (o : Read) → Contains r.outs o → (o.matrix == c.matrix) ≡ true → Inside (limits k r o) → AllByRecursion (Holds sizes (pos c.x) (pos c.y)) (guards t.matrices r)
         → WritesBy t.matrices sizes c e r × Applies t.matrices r sizes (pos c.x) (pos c.y)
-    can_by kind.Cell e o among on inside free =
-        (output_some (λ (o : Read). o.matrix == c.matrix) r.outs o among on, (cell_applies t r k o (accepted k r there) e sizes (pos c.x) (pos c.y)).1 (inside, guards_hold o free))
-    can_by kind.Wide e o among on inside free =
-        (wide_writes o (λ is. not_cell (sym e ∙ is)) among (eqb-true o.matrix c.matrix on) inside, free_applies o (subst (λ x. KindFits x r.outs) e (rule_fits k r there).kind) free)
-    can_by kind.Plan e o among on inside free =
-        (wide_writes o (λ is. plan_not_cell (sym e ∙ is)) among (eqb-true o.matrix c.matrix on) inside, free_applies o (plan_free k r there e) free)
+    can_by kind.Cell e o among on inside held =
+        (output_some (λ (o : Read). o.matrix == c.matrix) r.outs o among on, (cell_applies t r k o (accepted k r there) e sizes (pos c.x) (pos c.y)).1 (inside, held))
+    can_by kind.Wide e o among on inside held =
+        (wide_writes o (λ is. not_cell (sym e ∙ is)) among (eqb-true o.matrix c.matrix on) inside, free_applies (subst (λ x. KindFits x r.outs) e (rule_fits k r there).kind) held)
+    can_by kind.Plan e o among on inside held =
+        (wide_writes o (λ is. plan_not_cell (sym e ∙ is)) among (eqb-true o.matrix c.matrix on) inside, free_applies (plan_free k r there e) held)
+
+    can_with : (o : Read) → Contains r.outs o → (o.matrix == c.matrix) ≡ true → Inside (limits k r o) → AllByRecursion (Holds sizes (pos c.x) (pos c.y)) (guards t.matrices r) → CanMake t.matrices sizes c r
+    can_with o among on inside held = let parts = can_by r.kind refl o among on inside held in record { writes = parts.0; applies = parts.1 }
 
     can_make : (o : Read) → Contains r.outs o → (o.matrix == c.matrix) ≡ true → Inside (limits k r o) → (box (leasts_of t.ranges) t.matrices k r o).guarded ≡ false → CanMake t.matrices sizes c r
-    can_make o among on inside free = let parts = can_by r.kind refl o among on inside free in record { writes = parts.0; applies = parts.1 }
+    can_make o among on inside free = can_with o among on inside (guards_hold o free)
+
+    guards_by : (e : RuleKind) → r.kind ≡ e → (o : Read) → Applies t.matrices r sizes (pos c.x) (pos c.y) → AllByRecursion (Holds sizes (pos c.x) (pos c.y)) (guards t.matrices r)
+    guards_by kind.Cell e o applies = ((cell_applies t r k o (accepted k r there) e sizes (pos c.x) (pos c.y)).0 applies).1
+    guards_by kind.Wide e o applies = free_guards (subst (λ x. KindFits x r.outs) e (rule_fits k r there).kind) applies
+    guards_by kind.Plan e o applies = free_guards (plan_free k r there e) applies
+
+    -- where the rule can make the cell its guards are true
+    pub can_guards : CanMake t.matrices sizes c r → AllByRecursion (Holds sizes (pos c.x) (pos c.y)) (guards t.matrices r)
+    can_guards can = guards_by r.kind refl (holding_by r.kind refl can.writes can.applies).out can.applies
 
   -- ---- the boxes of the matrix
   module _ (m : Matrix) (is : IsMatrix t c.matrix m) where
@@ -271,6 +288,19 @@ module _ (p : List ProgTransform) (number : ℕ) (t : ProgTransform) (c : Cell) 
         let in_made = subst (λ (v : BoxValue). Inside v.limits) (sym made.same) ((in_box sizes b (pos c.x) (pos c.y)).0 inside) in
         (made.place, made.rule, made.there, can_make made.place made.rule made.there made.out made.among made.on in_made (ap (λ (v : BoxValue). v.guarded) made.same ∙ free))
 
+    -- a rule that may make the cell by the boxes can make it where its guards are true
+    pub may_can : (k : ℕ) (r : ProgRule) → slice_get t.rules k ≡ Some r → MayMake m.boxes sizes (pos c.x) (pos c.y) k → AllByRecursion (Holds sizes (pos c.x) (pos c.y)) (guards t.matrices r) → CanMake t.matrices sizes c r
+    may_can k r there may held =
+        let made = made_by may.box may.there in
+        let number : made.place ≡ k = ap (λ (v : BoxValue). v.rule) made.same ∙ may.numbered in
+        let rule : made.rule ≡ r = some_rule made.rule r (sym made.there ∙ ap (slice_get t.rules) number ∙ there) in
+        let inside = subst (λ (v : BoxValue). Inside v.limits) (sym made.same) ((in_box sizes may.box (pos c.x) (pos c.y)).0 may.inside) in
+        subst (CanMake t.matrices sizes c) rule
+        (can_with made.place made.rule made.there made.out made.among made.on inside (subst (λ q. AllByRecursion (Holds sizes (pos c.x) (pos c.y)) (guards t.matrices q)) (sym rule) held))
+      where
+        some_rule : (a b : ProgRule) → Some a ≡ Some b → a ≡ b
+        some_rule a b e = cc
+
     in_x : pos c.x <ℤ value m.width sizes
     in_x = subst (λ n. pos c.x <ℤ exact_value n sizes) (sym (is.width ∙ ap (λ (d : DeclValue). d.w) (same_decl is.decl cell.decl (sym is.there ∙ cell.there)))) cell.before_x
 
@@ -292,3 +322,9 @@ module _ (p : List ProgTransform) (number : ℕ) (t : ProgTransform) (c : Cell) 
     lawful_at k d below holds r h =
         let rules = rules_at cut.matrix ss cut.grid sizes (ranges cut.matrix cut.is) (pos c.x) (pos c.y) (zero_at c.x) (in_x cut.matrix cut.is) (zero_at c.y) (in_y cut.matrix cut.is) k d below holds in
         subst (λ l. Contains l r) (sym rules) ((may_make_at cut.matrix.boxes sizes (pos c.x) (pos c.y) r).1 (may_make cut.matrix cut.is r (lawful_in t sizes c r h)))
+
+    -- the rules of the segment that holds the cell may make it
+    pub rules_may : All (λ s. IsTrue (is_at sizes (pos c.x) (pos c.y) s) → (r : ℕ) → Contains s.rules r → MayMake cut.matrix.boxes sizes (pos c.x) (pos c.y) r) ss
+    rules_may k d below holds r h =
+        let rules = rules_at cut.matrix ss cut.grid sizes (ranges cut.matrix cut.is) (pos c.x) (pos c.y) (zero_at c.x) (in_x cut.matrix cut.is) (zero_at c.y) (in_y cut.matrix cut.is) k d below holds in
+        (may_make_at cut.matrix.boxes sizes (pos c.x) (pos c.y) r).0 (subst (λ l. Contains l r) rules h)

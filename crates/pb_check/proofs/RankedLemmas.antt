@@ -1,7 +1,7 @@
 -- The one segment of a cell, and the ranks of what its rules read.
 use Rattle.std.proofs.Common.{◌≡◌, ◌∙◌, refl, sym, ap, subst, inl, inr, ◌⊎◌, ℕ, zero, suc, ◌+◌, ◌-◌, ◌<◌, ◌≤◌, ℤ, pos, Bool, true, false, ◌&&◌, List, [], ◌∷◌, ◌++◌, length, map, slice_get, Some, None, arith}
 use Rattle.std.specs.Prelude.{◌==◌, filter}
-use Rattle.std.specs.List.{Contains, enumerate_from, range_with_len}
+use Rattle.std.specs.List.{AllByRecursion, Contains, enumerate_from, range_with_len}
 use Rattle.std.proofs.Math.Bool.{cond}
 use Rattle.std.proofs.lemmas.Bool.{and_parts, eq-eqb, eqb-true, le-leb}
 use Rattle.std.proofs.lemmas.List.Elements.{Contains-append_cases}
@@ -18,15 +18,17 @@ use Rattle.pb_graph.specs.Ranks.{IsRead, IsReadOf, rank_in}
 use Rattle.pb_graph.proofs.RankLemmas.{falls}
 use Rattle.pb_program.specs.declared.view.Read.{Read}
 use Rattle.pb_program.specs.Areas.{Area, IsIn as IsInPlaces, area_of}
+use Rattle.pb_program.specs.Conditions.{Holds}
 use Rattle.pb_program.specs.Forms.{DeclValue}
 use Rattle.pb_program.specs.Trees.{ProgRule, ProgTransform}
 use Rattle.pb_program.specs.WellFormed.{IsWellFormed}
 use Rattle.pb_region.specs.Boxes.{is_wide}
 use Rattle.pb_region.specs.Ends.{area_at}
+use Rattle.pb_region.specs.Inside.{guards}
 use Rattle.pb_region.specs.Reads.{ReadValue, is_made, read_of, read_value, reads_of}
 use Rattle.pb_region.proofs.AreaLemmas.{ends_area}
 use Rattle.pb_model.specs.Cells.{Cell, IsCell, ReadsCell}
-use Rattle.pb_model.specs.Lawful.{lawful}
+use Rattle.pb_model.specs.Lawful.{CanMake, lawful}
 use Rattle.pb_base.proofs.ListLemmas.{at_in, in_at, in_filter, in_flat, in_map, map_in}
 use Rattle.pb_check.specs.Cuts.{AreNodes, AreNodesOf, IsCut, made_matrices, node}
 use Rattle.pb_check.specs.Orders.{AnalysisValue, IsAnalysis, made_reads}
@@ -34,7 +36,7 @@ use Rattle.pb_check.specs.Phases.{IsSound}
 use Rattle.pb_check.specs.Ranked.{IsCovered, IsIn, IsMadeCell, IsRanked, StandsBelow}
 use Rattle.pb_check.proofs.CoverLemmas.{some_of}
 use Rattle.pb_check.proofs.FirstLemmas.{some_same}
-use Rattle.pb_check.proofs.LawfulLemmas.{at_numbered, both, le_true, lt_true, lawful_at, one_at}
+use Rattle.pb_check.proofs.LawfulLemmas.{at_numbered, both, le_true, lt_true, lawful_at, may_can, one_at, rules_may}
 
 -- ---- one element that passes a test
 module _ {A : Type 0} (p : A → Bool) where
@@ -187,9 +189,21 @@ module _ (p : List ProgTransform) (number : ℕ) (t : ProgTransform) (sizes : Li
         let place = place_of h.node.area sizes (pos c.x) (pos c.y) h.node.rules h.inside in
         subst (λ (s : SegmentValue). Contains s.rules r) same (all (subst (λ (s : SegmentValue). is_at sizes (pos c.x) (pos c.y) s ≡ true) (sym same) place) r may)
 
+    -- a rule of the segment that holds the cell can make it where its guards are true
+    pub among_can : (ns : List NodeValue) → AreNodes t ns → (u : ℕ) (h : IsIn ns sizes c u) (k : ℕ) (r : ProgRule) → slice_get t.rules k ≡ Some r → Contains h.node.rules k → AllByRecursion (Holds sizes (pos c.x) (pos c.y)) (guards t.matrices r)
+        → CanMake t.matrices sizes c r
+    among_can ns are u h k r there may held =
+        let (m, ss, cut, among, is) = from_cut (made_matrices t) ns are h.node (in_at ns u h.node h.there) in
+        let here : IsCut t c.matrix ss = subst (λ k. IsCut t k ss) (sym is ∙ h.matrix) cut in
+        let all = rules_may p number t c sizes well sound at cell ss here among.0 (segment h.node) among.1 in
+        let same = among.2 in
+        let place = place_of h.node.area sizes (pos c.x) (pos c.y) h.node.rules h.inside in
+        may_can p number t c sizes well sound at cell here.matrix here.is k r there
+        (all (subst (λ (s : SegmentValue). is_at sizes (pos c.x) (pos c.y) s ≡ true) (sym same) place) k (subst (λ (s : SegmentValue). Contains s.rules k) (sym same) may)) held
+
   -- ---- of what is found of the transform
   module _ (a : AnalysisValue) (found : IsAnalysis t a) where
-    are : AreNodes t a.nodes
+    pub are : AreNodes t a.nodes
     are = subst (AreNodes t) (sym found.nodes) found.are.nodes
 
     pub covered_is : (c : Cell) → IsMadeCell t sizes c → (u : ℕ) → IsIn a.nodes sizes c u → IsCovered t a sizes c u
