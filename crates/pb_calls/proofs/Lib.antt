@@ -1,0 +1,5 @@
+pub mod SameLemmas
+pub mod InsideLemmas
+pub mod BeforeLemmas
+pub mod SettledLemmas
+pub mod SideLemmas
