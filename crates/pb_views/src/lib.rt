@@ -1,0 +1,15 @@
+//! The views of a rule at fixed sizes, as views of the cells of a run.
+//!
+//! In: a view as a rule declares it, the sizes of an instance, and the matrix that it is of, as a view of cells. Out: for each
+//! value of the rule variables the cells that it shows. The theorem is `Window::show`: just the cells that the meaning of the
+//! rule reads, in their order.
+#![tactic(auto)]
+
+mod coordinate;
+mod laws;
+mod line;
+mod window;
+
+pub use laws::a_window_shows_what_is_read;
+pub use line::Line;
+pub use window::Window;
