@@ -1,0 +1,35 @@
+-- The order in which a task writes its cells.
+use Rattle.std.proofs.Common.{◌≡◌, subst, ℕ, ◌<◌, ◌≤◌, ◌+◌, ◌^◌, List, length, drop, get_or, Some, slice_get, eqb, arith}
+use Rattle.std.specs.List.{Contains}
+use Rattle.std.proofs.lemmas.Bool.{eqb-true}
+use Rattle.std.proofs.lemmas.Bool.Decides.{nat_tests}
+use Rattle.std.proofs.lemmas.List.{get_or_default}
+use Rattle.std.proofs.lemmas.List.Elements.{Contains-get_or}
+use Rattle.std.proofs.lemmas.Map.Keys.{IsDistinct-from_apart}
+use Rattle.std.proofs.lemmas.Map.Steps.{length-le_from_distinct_below}
+use Rattle.std.proofs.lemmas.Map.Views.{Contains-from_any}
+use Rattle.pb_values.specs.declared.outcome.Outcome.{Outcome}
+use Rattle.pb_taskgraph.specs.Graphs.{EachOnce}
+use Rattle.pb_taskgraph.specs.Plans.{IsPlan, Plan}
+use Rattle.pb_taskgraph.specs.Turns.{entries_of}
+use Rattle.pb_taskgraph.proofs.TurnLemmas.{next-is}
+
+-- numbers below another, each once, are at most so many
+few : (xs : List ℕ) (n : ℕ) → EachOnce xs → ((x : ℕ) → Contains xs x → x < n) → length xs ≤ n
+few xs n once below = length-le_from_distinct_below xs n
+    (IsDistinct-from_apart eqb xs (λ i j d before inside. grind (arith, nat_tests, once i j (omega arith) inside, get_or_default xs i 0 d (omega arith), get_or_default xs j 0 d inside)))
+    (λ q h. below q (Contains-from_any eqb-true q xs h))
+
+-- a task's own order has cells alone, and few
+module _ (p : Plan) (is : IsPlan p) (t : ℕ) (task : t < length p.graph.tasks) where
+  pub own-below : (c : ℕ) → Contains (p.order t) c → c < p.graph.cells
+  own-below c h = (is.graph.partition.past t c ((is.listed t c task).0 h)).1
+
+  pub own-few : length (p.order t) < 2 ^ 23
+  own-few = let most = few (p.order t) p.graph.cells (is.once t task) own-below in omega (arith, is.graph.few_cells)
+
+  -- the next cell to be written
+  pub next-below : (k c : ℕ) (v : Outcome) → slice_get (drop k (entries_of p.solution (p.order t))) 0 ≡ Some (c, v) → (c < p.graph.cells) × (k + 1 < 2 ^ 64)
+  next-below k c v at =
+      let next = next-is p.solution (p.order t) k c v at in
+      (subst (λ d. d < p.graph.cells) next.1 (own-below (get_or (p.order t) k 0) (Contains-get_or (p.order t) k 0 next.0)), omega (arith, own-few, next.0))

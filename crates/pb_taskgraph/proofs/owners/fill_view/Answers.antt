@@ -1,0 +1,16 @@
+use Rattle.std.proofs.Common.{ap, sym}
+use Rattle.std.specs.List.{range_with_len}
+use Rattle.pb_base.proofs.ListLemmas.{in_range}
+use Rattle.pb_values.specs.Views.{row_cells}
+use Rattle.pb_taskgraph.specs.Owners.{filled}
+use Rattle.pb_taskgraph.proofs.OwnerLemmas.{piece-inside, piece-more, range-more, room, view-none}
+use Rattle.pb_taskgraph.proofs.owners.fill_view.Goals as goal
+
+pub returns-then-view-eq0 : goal.returns-then-view-eq0
+returns-then-view-eq0 c = ap (λ l. filled c.args.owners.now.items l c.args.task) (sym (view-none c.args.view.now c.if-view-eq0.true))
+
+pub fill_row-requires-clause-inside : goal.fill_row-requires-clause-inside
+fill_row-requires-clause-inside c = piece-inside (row_cells c.args.view.now) _ c.loop-y.y _ _ (room c.args.task (row_cells c.args.view.now) (range_with_len 0 c.loop-y.y) _ _ c.loop-y.invariant) c.requires (in_range c.args.view.now.shape.h c.loop-y.y c.loop-y-test.true)
+
+pub loop-y-preserved : goal.loop-y-preserved
+loop-y-preserved c = piece-more c.args.task (row_cells c.args.view.now) _ _ c.loop-y.y _ _ _ c.loop-y.invariant c.fill_row.ensures (range-more c.loop-y.y)
