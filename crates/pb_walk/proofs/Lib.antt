@@ -1,0 +1,6 @@
+pub mod OrderLemmas
+pub mod PairLemmas
+pub mod PlaceLemmas
+pub mod SortLemmas
+pub mod SweepLemmas
+pub mod WalkLemmas

@@ -1,0 +1,62 @@
+-- How far each piece has been gone through.
+use Rattle.std.specs.Prelude.{◌≡◌, ℕ, Bool, false, not, ◌||◌, List, [], ◌∷◌, map, filter, Option, Some, None, slice_get}
+use Rattle.std.specs.Ordering.{is_le, is_lt}
+use Rattle.pb_linear.specs.declared.boxes.Step.{Step}
+use Rattle.pb_values.specs.declared.rect.Rect.{Rect}
+use Rattle.pb_values.specs.Views.{HasPlace}
+use Rattle.pb_walk.specs.declared.course.Course.{Course}
+use Rattle.pb_walk.specs.declared.course.Course.TheVariants.{Any, One, Two}
+use Rattle.pb_walk.specs.declared.cursor.Cursor.{Cursor}
+use Rattle.pb_walk.specs.declared.spot.Spot.{Spot}
+use Rattle.pb_walk.specs.Orders.{compare}
+use Rattle.pb_walk.specs.Walks.{walk_of}
+
+abbrev pub steps_of : Course → List Step
+steps_of Any = []
+steps_of (One s) = s ∷ []
+steps_of (Two s t) = s ∷ t ∷ []
+
+-- the next place of a piece
+abbrev pub head : ℕ → Cursor → Spot
+head piece c = record { piece = piece; x = c.x; y = c.y }
+
+-- a piece has been gone through past a place of its own
+abbrev pub has_passed : List Step → Cursor → Spot → Bool
+has_passed steps c s = c.done || is_lt (compare steps s (head s.piece c))
+
+abbrev pub is_ahead_of : List Step → Option Cursor → Spot → Bool
+is_ahead_of steps None s = false
+is_ahead_of steps (Some c) s = not (has_passed steps c s)
+
+abbrev pub is_ahead : List Step → List Cursor → Spot → Bool
+is_ahead steps cursors s = is_ahead_of steps (slice_get cursors s.piece) s
+
+-- the whole walk, and what is left of it
+abbrev pub rects : List Cursor → List Rect
+rects cursors = map (λ c. c.rect) cursors
+
+abbrev pub whole : Course → List Cursor → List Spot
+whole course cursors = walk_of (steps_of course) (rects cursors)
+
+unfoldable pub left_of : Course → List Cursor → List Spot
+left_of course cursors = filter (is_ahead (steps_of course) cursors) (whole course cursors)
+
+-- a piece has been gone through up to the next place of another and with it, in the order of their own places
+abbrev pub spot : ℕ → ℕ → ℕ → Spot
+spot piece x y = record { piece = piece; x = x; y = y }
+
+-- a cursor stands where a piece begins
+abbrev pub IsBegun : List Step → Cursor → Type 0
+IsBegun steps c = (piece x y : ℕ) → HasPlace c.rect x y → has_passed steps c (spot piece x y) ≡ false
+
+-- a cursor has just passed the next place of another
+pub record IsMoved (steps : List Step) (old new : Cursor) : Type 0 where
+  pub rect : new.rect ≡ old.rect
+  pub passed : (piece x y : ℕ) → HasPlace old.rect x y → has_passed steps new (spot piece x y) ≡ is_le (compare steps (spot piece x y) (head piece old))
+
+-- of the pieces that aren't done, the next place of this one comes first
+pub record IsFirstCursor (course : Course) (cursors : List Cursor) (k : ℕ) : Type 0 where
+  pub cursor : Cursor
+  pub there : slice_get cursors k ≡ Some cursor
+  pub left : cursor.done ≡ false
+  pub first : (j : ℕ) (c : Cursor) → slice_get cursors j ≡ Some c → c.done ≡ false → is_lt (compare (steps_of course) (head j c) (head k cursor)) ≡ false

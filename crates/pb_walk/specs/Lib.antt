@@ -1,0 +1,4 @@
+pub mod Cursors
+pub mod Orders
+pub mod Sweeps
+pub mod Walks

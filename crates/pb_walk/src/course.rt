@@ -1,0 +1,98 @@
+ghost use Rattle.std.specs.Prelude.{◌≡◌, ℕ, List};
+ghost use Rattle.pb_values.specs.declared.rect.Rect.{Rect};
+ghost use Rattle.pb_walk.specs.Cursors.{head, spot, steps_of};
+ghost use Rattle.pb_walk.specs.Orders.{by_list, by_step, compare, number_on};
+ghost use Rattle.pb_walk.specs.Sweeps.{by_sweep, sign_across};
+ghost use Rattle.pb_walk.specs.Walks.{walk_of};
+
+use crate::cursor::Cursor;
+use pb_linear::{Sign, Step};
+use std::cmp::Ordering;
+
+/// The first two steps of a list, as far as they are there.
+#[derive(Clone, Copy)]
+pub(crate) enum Course {
+    Any,
+    One(Step),
+    Two(Step, Step),
+}
+
+/// How the places of one rectangle are gone through: column by column or row by row, and in which directions.
+#[derive(Clone, Copy)]
+pub(crate) struct Sweep {
+    pub(crate) columns: bool,
+    pub(crate) outer: Sign,
+    pub(crate) inner: Sign,
+}
+
+fn number_on(axis: u8, cursor: &Cursor) -> u64
+    ensures { result ≡ number_on axis (head 0 cursor.now) }
+{
+    if axis == 0 { cursor.x } else { cursor.y }
+}
+
+fn by_step(step: Step, a: &Cursor, b: &Cursor) -> Ordering
+    ensures { result ≡ by_step step (head 0 a.now) (head 0 b.now) }
+{
+    let (first, second) = (number_on(step.axis, a), number_on(step.axis, b));
+    match step.sign {
+        Sign::Plus => first.cmp(&second),
+        Sign::Minus => second.cmp(&first),
+    }
+}
+
+/// The direction on the other axis than that of the first step.
+fn sign_across(first: Step, second: Step) -> Sign
+    ensures { result ≡ sign_across first second }
+{
+    match (first.axis == 0, second.axis == 0) {
+        (true, false) | (false, true) => second.sign,
+        _ => Sign::Plus,
+    }
+}
+
+impl Course {
+    /// The course of a list of steps.
+    pub(crate) fn of(steps: &[Step]) -> Course
+        ensures { (pieces : List Rect) → walk_of (steps_of result) pieces ≡ walk_of steps.now pieces }
+    {
+        match steps {
+            [] => Course::Any,
+            [first] => Course::One(*first),
+            [first, second, ..] => Course::Two(*first, *second),
+        }
+    }
+
+    /// How the next places of two rectangles stand in the order of the steps.
+    pub(crate) fn compare(self, a: &Cursor, b: &Cursor) -> Ordering
+        ensures { result ≡ by_list (steps_of self) (head 0 a.now) (head 0 b.now) }
+    {
+        match self {
+            Course::Any => Ordering::Equal,
+            Course::One(step) => by_step(step, a, b),
+            Course::Two(first, second) => by_step(first, a, b).then(by_step(second, a, b)),
+        }
+    }
+
+    pub(crate) fn sweep(self) -> Sweep
+        ensures { (piece x y a b : ℕ) → compare (steps_of self) (spot piece x y) (spot piece a b) ≡ by_sweep result x y a b }
+    {
+        match self {
+            Course::Any => Sweep {
+                columns: false,
+                outer: Sign::Plus,
+                inner: Sign::Plus,
+            },
+            Course::One(step) => Sweep {
+                columns: step.axis == 0,
+                outer: step.sign,
+                inner: Sign::Plus,
+            },
+            Course::Two(first, second) => Sweep {
+                columns: first.axis == 0,
+                outer: first.sign,
+                inner: sign_across(first, second),
+            },
+        }
+    }
+}

@@ -1,0 +1,15 @@
+//! The places of a task in its own order.
+//!
+//! In: a list of steps, and the rectangles of the task's parts. Out: their places, one after another, in the order of the list. The
+//! theorem: a `Walk` gives the places of the definition, and the laws say what these are.
+#![tactic(auto)]
+
+mod course;
+mod cursor;
+mod laws;
+mod numbers;
+mod places;
+mod spot;
+
+pub use laws::{a_walk_rises, each_place_is_walked_once, there_is_one_walk};
+pub use spot::Spot;

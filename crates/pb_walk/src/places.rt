@@ -1,0 +1,102 @@
+ghost use Rattle.std.specs.Prelude.{◌≡◌, ◌<◌, false, IfNone, IfSome};
+ghost use Rattle.pb_values.specs.Views.{HasPlace};
+ghost use Rattle.pb_walk.specs.Cursors.{IsBegun, IsMoved, steps_of};
+ghost use Rattle.pb_walk.specs.Sweeps.{IsFirstPlace, IsLastPlace, IsNextPlace};
+
+use crate::course::{Course, Sweep};
+use crate::cursor::Cursor;
+use crate::numbers::{Span, first_number, next_pair};
+use pb_values::Rect;
+
+fn next_place(sweep: Sweep, rect: Rect, x: u64, y: u64) -> Option<(u64, u64)>
+    requires { HasPlace rect x y }
+    ensures found { IfSome result (λ next. IsNextPlace sweep rect x y next) }
+    ensures none { IfNone result (IsLastPlace sweep rect x y) }
+{
+    let columns = Span {
+        low: rect.x0,
+        high: rect.x1,
+    };
+    let rows = Span {
+        low: rect.y0,
+        high: rect.y1,
+    };
+    if sweep.columns {
+        return next_pair(sweep.outer, sweep.inner, columns, rows, x, y);
+    }
+    match next_pair(sweep.outer, sweep.inner, rows, columns, y, x) {
+        Some((y, x)) => Some((x, y)),
+        None => None,
+    }
+}
+
+fn first_place(sweep: Sweep, rect: Rect) -> (u64, u64)
+    requires across { rect.x0 < rect.x1 }
+    requires down { rect.y0 < rect.y1 }
+    ensures { IsFirstPlace sweep rect result }
+{
+    let columns = Span {
+        low: rect.x0,
+        high: rect.x1,
+    };
+    let rows = Span {
+        low: rect.y0,
+        high: rect.y1,
+    };
+    if sweep.columns {
+        (
+            first_number(sweep.outer, columns),
+            first_number(sweep.inner, rows),
+        )
+    } else {
+        (
+            first_number(sweep.inner, columns),
+            first_number(sweep.outer, rows),
+        )
+    }
+}
+
+impl Cursor {
+    /// A rectangle before its first place.
+    pub(crate) fn begin(course: Course, rect: Rect) -> Cursor
+        ensures rect { result.rect ≡ rect }
+        ensures begun { IsBegun (steps_of course) result }
+    {
+        if rect.x0 >= rect.x1 || rect.y0 >= rect.y1 {
+            return Cursor {
+                rect,
+                x: 0,
+                y: 0,
+                done: true,
+            };
+        }
+        let (x, y) = first_place(course.sweep(), rect);
+        Cursor {
+            rect,
+            x,
+            y,
+            done: false,
+        }
+    }
+
+    /// The same rectangle after its next place, which is there.
+    pub(crate) fn after(self, course: Course) -> Cursor
+        requires { self.done ≡ false }
+        ensures { IsMoved (steps_of course) self result }
+    {
+        match next_place(course.sweep(), self.rect, self.x, self.y) {
+            Some((x, y)) => Cursor {
+                rect: self.rect,
+                x,
+                y,
+                done: false,
+            },
+            None => Cursor {
+                rect: self.rect,
+                x: self.x,
+                y: self.y,
+                done: true,
+            },
+        }
+    }
+}
