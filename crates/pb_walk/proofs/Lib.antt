@@ -1,3 +1,5 @@
+pub mod BestLemmas
+pub mod NextLemmas
 pub mod OrderLemmas
 pub mod PairLemmas
 pub mod PlaceLemmas

@@ -1,5 +1,5 @@
 -- How far each piece has been gone through.
-use Rattle.std.specs.Prelude.{◌≡◌, ℕ, Bool, false, not, ◌||◌, List, [], ◌∷◌, map, filter, Option, Some, None, slice_get}
+use Rattle.std.specs.Prelude.{◌≡◌, ℕ, ◌<◌, Bool, true, false, not, ◌||◌, List, [], ◌∷◌, map, filter, Option, Some, None, slice_get}
 use Rattle.std.specs.Ordering.{is_le, is_lt}
 use Rattle.pb_linear.specs.declared.boxes.Step.{Step}
 use Rattle.pb_values.specs.declared.rect.Rect.{Rect}
@@ -54,9 +54,15 @@ pub record IsMoved (steps : List Step) (old new : Cursor) : Type 0 where
   pub rect : new.rect ≡ old.rect
   pub passed : (piece x y : ℕ) → HasPlace old.rect x y → has_passed steps new (spot piece x y) ≡ is_le (compare steps (spot piece x y) (head piece old))
 
--- of the pieces that aren't done, the next place of this one comes first
-pub record IsFirstCursor (course : Course) (cursors : List Cursor) (k : ℕ) : Type 0 where
+-- of the first pieces, the next place of this one stands before those of the others that aren't done
+pub record IsFirstOf (course : Course) (cursors : List Cursor) (n k : ℕ) : Type 0 where
+  pub below : k < n
   pub cursor : Cursor
   pub there : slice_get cursors k ≡ Some cursor
   pub left : cursor.done ≡ false
-  pub first : (j : ℕ) (c : Cursor) → slice_get cursors j ≡ Some c → c.done ≡ false → is_lt (compare (steps_of course) (head j c) (head k cursor)) ≡ false
+  pub first : (j : ℕ) (c : Cursor) → j < n → slice_get cursors j ≡ Some c → c.done ≡ false → is_lt (compare (steps_of course) (head j c) (head k cursor)) ≡ false
+
+-- the number of the piece whose next place stands first, unless all are done
+abbrev pub IsBest : Course → List Cursor → ℕ → Option ℕ → Type 0
+IsBest course cursors n None = (j : ℕ) (c : Cursor) → j < n → slice_get cursors j ≡ Some c → c.done ≡ true
+IsBest course cursors n (Some k) = IsFirstOf course cursors n k

@@ -10,6 +10,8 @@ mod laws;
 mod numbers;
 mod places;
 mod spot;
+mod walk;
 
 pub use laws::{a_walk_rises, each_place_is_walked_once, there_is_one_walk};
 pub use spot::Spot;
+pub use walk::Walk;
