@@ -1,5 +1,5 @@
 -- The piece whose next place stands first.
-use Rattle.std.proofs.Common.{◌≡◌, ◌∙◌, refl, sym, ap, subst, inl, inr, ◌⊎◌, ℕ, ◌+◌, ◌<◌, ◌==◌, Bool, true, false, List, [], ◌∷◌, length, get_or, slice_get, Option, Some, None, eqb-true, arith}
+use Rattle.std.proofs.Common.{◌≡◌, ◌∙◌, refl, sym, ap, inl, inr, ◌⊎◌, ℕ, ◌+◌, ◌<◌, ◌==◌, Bool, true, false, List, [], ◌∷◌, length, get_or, slice_get, Option, Some, None, eqb-true, arith}
 use Rattle.std.proofs.lemmas.Bool.{eqb-false}
 use Rattle.std.specs.Cmp.{IsTotalOrder, nat_cmp_is}
 use Rattle.std.specs.Ordering.{is_lt, nat_cmp, ordering_reverse, ordering_then}
@@ -78,9 +78,9 @@ module _ (course : Course) (cs : List Cursor) (k : ℕ) (x : Cursor) (there : sl
     left = f.left;
     first = λ j c h at left. elim (below_or_same j k h) [
       | inl same ↦
-        let item : c ≡ x = same_item cs j k c x same at there in
-        let same_head : head j c ≡ head k x = λ i. head (same i) (item i) in
-        ap (λ (s : Spot). is_lt (compare (steps_of course) s (head b f.cursor))) same_head ∙ g (sym (ap (λ (y : Cursor). y.done) item) ∙ left)
+          let item : c ≡ x = same_item cs j k c x same at there in
+          let same_head : head j c ≡ head k x = λ i. head (same i) (item i) in
+          ap (λ (s : Spot). is_lt (compare (steps_of course) s (head b f.cursor))) same_head ∙ g (sym (ap (λ (y : Cursor). y.done) item) ∙ left)
       | inr less ↦ f.first j c less at left
     ];
   }
@@ -93,9 +93,9 @@ module _ (course : Course) (cs : List Cursor) (k : ℕ) (x : Cursor) (there : sl
     left = left;
     first = λ j c h at open_. elim (below_or_same j k h) [
       | inl same ↦
-        let item : c ≡ x = same_item cs j k c x same at there in
-        let same_head : head j c ≡ head k x = λ i. head (same i) (item i) in
-        ap (λ (s : Spot). is_lt (compare (steps_of course) s (head k x))) same_head ∙ not_itself (compare_total (steps_of course)) (head k x)
+          let item : c ≡ x = same_item cs j k c x same at there in
+          let same_head : head j c ≡ head k x = λ i. head (same i) (item i) in
+          ap (λ (s : Spot). is_lt (compare (steps_of course) s (head k x))) same_head ∙ not_itself (compare_total (steps_of course)) (head k x)
       | inr less ↦ before j c less at open_
     ];
   }

@@ -1,12 +1,11 @@
 -- What is left of a walk, before its first place and after each.
-use Rattle.std.proofs.Common.{◌≡◌, ◌∙◌, refl, sym, ap, subst, inl, inr, ◌⊎◌, ℕ, zero, suc, ◌+◌, ◌<◌, ◌==◌, Bool, true, false, not, ◌||◌, List, [], ◌∷◌, ◌++◌, drop, length, get_or, map, slice_get, Option, Some, None, eqb-true, arith}
+use Rattle.std.proofs.Common.{◌≡◌, ◌∙◌, refl, sym, ap, subst, inl, inr, ◌⊎◌, ℕ, zero, suc, ◌+◌, ◌<◌, ◌==◌, Bool, true, false, not, ◌||◌, List, [], ◌∷◌, ◌++◌, drop, length, get_or, slice_get, Option, Some, None, eqb-true, arith}
 use Rattle.std.proofs.lemmas.Bool.{eqb-false}
 use Rattle.std.proofs.Math.ListN.{set}
 use Rattle.std.proofs.Math.Seq.{map-set_same}
 use Rattle.std.specs.Prelude.{filter}
 use Rattle.std.specs.List.{All, Contains}
 use Rattle.std.specs.Ordering.{is_le, is_lt, ordering_reverse}
-use Rattle.std.specs.declared.cmp.Ordering.{Ordering}
 use Rattle.std.specs.declared.cmp.Ordering.TheVariants.{Less, Equal, Greater}
 use Rattle.std.proofs.lemmas.Cmp.{tied_itself}
 use Rattle.std.proofs.lemmas.List.{append_assoc, drop_more, get_or-set_other, get_or-set_same, length-map, map-append}
@@ -18,7 +17,7 @@ use Rattle.pb_values.specs.Views.{HasPlace}
 use Rattle.pb_walk.specs.declared.course.Course.{Course}
 use Rattle.pb_walk.specs.declared.cursor.Cursor.{Cursor}
 use Rattle.pb_walk.specs.declared.spot.Spot.{Spot}
-use Rattle.pb_walk.specs.Cursors.{IsBegun, IsBest, IsFirstOf, IsMoved, has_passed, head, is_ahead, is_ahead_of, left_of, rects, spot, steps_of, whole}
+use Rattle.pb_walk.specs.Cursors.{IsBegun, IsBest, IsFirstOf, IsMoved, head, is_ahead, is_ahead_of, left_of, rects, steps_of, whole}
 use Rattle.pb_walk.specs.Orders.{compare}
 use Rattle.pb_walk.specs.Walks.{IsPlace, WalkValue, walk_of}
 use Rattle.pb_walk.proofs.BestLemmas.{before_too, below_or_same}
@@ -194,15 +193,17 @@ pub more_begun : (course : Course) (cs new : List Cursor) (x : Cursor) (pieces :
 more_begun course cs new x pieces i d below is begun n rest all =
     let r : Rect = get_or pieces i d in
     let cut : drop i pieces ≡ r ∷ drop (i + 1) pieces = drop_more pieces i d below in
-    let one : rects (cs ++ x ∷ []) ≡ rects cs ++ r ∷ [] = map-append (λ (c : Cursor). c.rect) cs (x ∷ []) ∙ ap (λ (p : Rect). rects cs ++ p ∷ []) is in
-    (ap (λ (l : List Cursor). rects l ++ drop (i + 1) pieces) n ∙ ap (λ (l : List Rect). l ++ drop (i + 1) pieces) one ∙ append_assoc (rects cs) (r ∷ []) (drop (i + 1) pieces) ∙ ap (λ (l : List Rect). rects cs ++ l) (sym cut) ∙ rest,
-     subst (All (IsBegun (steps_of course))) (sym n) (All-push (IsBegun (steps_of course)) cs x all begun))
+    let one : rects (cs ++ x ∷ []) ≡ rects cs ++ r ∷ [] = map-append (λ (c : Cursor). c.rect) cs (x ∷ []) ∙ ap (λ (p : Rect). rects cs ++ p ∷ []) is in (
+      ap (λ (l : List Cursor). rects l ++ drop (i + 1) pieces) n ∙ ap (λ (l : List Rect). l ++ drop (i + 1) pieces) one ∙ append_assoc (rects cs) (r ∷ []) (drop (i + 1) pieces) ∙ ap (λ (l : List Rect). rects cs ++ l) (sym cut) ∙ rest,
+      subst (All (IsBegun (steps_of course))) (sym n) (All-push (IsBegun (steps_of course)) cs x all begun),
+    )
 
 pub set_begun : (course : Course) (cs : List Cursor) (k : ℕ) (x d : Cursor) → k < length cs → d ≡ get_or cs k d → x.rect ≡ d.rect → IsBegun (steps_of course) x → ((j : ℕ) (e : Cursor) → j < k → IsBegun (steps_of course) (get_or cs j e))
     → (rects (set cs k x) ≡ rects cs) × ((j : ℕ) (e : Cursor) → j < k + 1 → IsBegun (steps_of course) (get_or (set cs k x) j e))
-set_begun course cs k x d below at is begun before =
-    (map-set_same (λ (c : Cursor). c.rect) cs k x d (is ∙ ap (λ (c : Cursor). c.rect) at),
-     λ j e h. elim (below_or_same j k h) [
-       | inl same ↦ subst (IsBegun (steps_of course)) (sym (ap (λ (i : ℕ). get_or (set cs k x) i e) same ∙ get_or-set_same cs k x e below)) begun
-       | inr less ↦ let apart : j ≡ k → ⊥ = λ z. omega arith in subst (IsBegun (steps_of course)) (sym (get_or-set_other cs k j x e apart)) (before j e less)
-     ])
+set_begun course cs k x d below at is begun before = (
+  map-set_same (λ (c : Cursor). c.rect) cs k x d (is ∙ ap (λ (c : Cursor). c.rect) at),
+  λ j e h. elim (below_or_same j k h) [
+    | inl same ↦ subst (IsBegun (steps_of course)) (sym (ap (λ (i : ℕ). get_or (set cs k x) i e) same ∙ get_or-set_same cs k x e below)) begun
+    | inr less ↦ let apart : j ≡ k → ⊥ = λ z. omega arith in subst (IsBegun (steps_of course)) (sym (get_or-set_other cs k j x e apart)) (before j e less)
+  ],
+)

@@ -1,7 +1,7 @@
 -- The order of places is a total order, and the same as that of ranks.
 use Rattle.std.proofs.Common.{◌≡◌, ◌∙◌, refl, sym, ap, subst, inl, inr, ◌⊎◌, ℕ, ◌<◌, ◌==◌, Bool, true, false, if◌then◌else◌, ℤ, pos, ◌<ℤ◌, ◌-ℤ◌, List, [], ◌∷◌, arith}
 use Rattle.std.specs.Cmp.{IsTotalOrder, int_cmp_is, nat_cmp_is}
-use Rattle.std.specs.Ordering.{MatchOrdering, int_cmp, is_eq, nat_cmp, ordering_reverse, ordering_then}
+use Rattle.std.specs.Ordering.{MatchOrdering, int_cmp, nat_cmp, ordering_then}
 use Rattle.std.specs.declared.cmp.Ordering.{Ordering}
 use Rattle.std.specs.declared.cmp.Ordering.TheVariants.{Less, Equal, Greater}
 use Rattle.std.proofs.lemmas.Cmp.{back_total, int_ranked, nat_cmp_total, on_total, ranked, then_total}
@@ -9,7 +9,7 @@ use Rattle.std.proofs.lemmas.Int.{ints}
 use Rattle.pb_linear.specs.declared.boxes.Sign.{Sign}
 use Rattle.pb_linear.specs.declared.boxes.Sign.TheVariants.{Plus, Minus}
 use Rattle.pb_linear.specs.declared.boxes.Step.{Step}
-use Rattle.pb_graph.specs.Ranks.{IsBelow, Rank, along, coordinate, signed}
+use Rattle.pb_graph.specs.Ranks.{IsBelow, Rank, along, signed}
 use Rattle.pb_walk.specs.declared.spot.Spot.{Spot}
 use Rattle.pb_walk.specs.Orders.{IsEarlier, StandsBefore, by_list, by_sign, by_step, compare, number_on, rank_of}
 
@@ -93,18 +93,18 @@ as_along step a b =
     as_signed step.sign (number_on step.axis a) (number_on step.axis b)
     ∙ (λ i. int_cmp (signed step.sign (picked (step.axis == 0) a.x a.y i)) (signed step.sign (picked (step.axis == 0) b.x b.y i)))
 
-as_rank : (steps : List Step) (a b : Spot) → by_list steps a b ≡ ordering_then (int_cmp (rank_of steps a).first (rank_of steps b).first) (int_cmp (rank_of steps a).second (rank_of steps b).second)
-as_rank [] a b = refl
-as_rank (s ∷ []) a b = as_along s a b ∙ sym (then_nothing (int_cmp (along s (pos a.x) (pos a.y)) (along s (pos b.x) (pos b.y))))
-as_rank (s ∷ t ∷ _) a b = λ i. ordering_then (as_along s a b i) (as_along t a b i)
+as_rank : (layer : ℕ) (steps : List Step) (a b : Spot) → by_list steps a b ≡ ordering_then (int_cmp (rank_of layer steps a).first (rank_of layer steps b).first) (int_cmp (rank_of layer steps a).second (rank_of layer steps b).second)
+as_rank layer [] a b = refl
+as_rank layer (s ∷ []) a b = as_along s a b ∙ sym (then_nothing (int_cmp (along s (pos a.x) (pos a.y)) (along s (pos b.x) (pos b.y))))
+as_rank layer (s ∷ t ∷ _) a b = λ i. ordering_then (as_along s a b i) (as_along t a b i)
 
-zero_layer : (steps : List Step) (a : Spot) → (rank_of steps a).layer ≡ 0
-zero_layer [] a = refl
-zero_layer (s ∷ []) a = refl
-zero_layer (s ∷ t ∷ _) a = refl
+its_layer : (layer : ℕ) (steps : List Step) (a : Spot) → (rank_of layer steps a).layer ≡ layer
+its_layer layer [] a = refl
+its_layer layer (s ∷ []) a = refl
+its_layer layer (s ∷ t ∷ _) a = refl
 
-same_layer : (steps : List Step) (a b : Spot) → (rank_of steps a).layer ≡ (rank_of steps b).layer
-same_layer steps a b = zero_layer steps a ∙ sym (zero_layer steps b)
+same_layer : (layer : ℕ) (steps : List Step) (a b : Spot) → (rank_of layer steps a).layer ≡ (rank_of layer steps b).layer
+same_layer layer steps a b = its_layer layer steps a ∙ sym (its_layer layer steps b)
 
 int_less : (x y : ℤ) → int_cmp x y ≡ Less → x <ℤ y
 int_less x y e = int_ranked x y Less (sym e)
@@ -161,12 +161,12 @@ from_earlier a b (inr (piece, inl row)) = less_then _ _ (inr (equal_number a.pie
 from_earlier a b (inr (piece, inr both)) =
     less_then _ _ (inr (equal_number a.piece b.piece piece, less_then _ _ (inr (equal_number a.y b.y both.0, less_number a.x b.x both.1))))
 
-pub stands_before : (steps : List Step) (a b : Spot) → compare steps a b ≡ Less → StandsBefore steps a b
-stands_before steps a b e = elim (then_less (by_list steps a b) (ordering_then (nat_cmp a.piece b.piece) (ordering_then (nat_cmp a.y b.y) (nat_cmp a.x b.x))) e) [
-  | inl first ↦ inl (below_from (rank_of steps a) (rank_of steps b) (same_layer steps a b) (sym (as_rank steps a b) ∙ first))
-  | inr both ↦ inr (same_rank (rank_of steps a) (rank_of steps b) (same_layer steps a b) (sym (as_rank steps a b) ∙ both.0), earlier_from a b both.1)
+pub stands_before : (layer : ℕ) (steps : List Step) (a b : Spot) → compare steps a b ≡ Less → StandsBefore layer steps a b
+stands_before layer steps a b e = elim (then_less (by_list steps a b) (ordering_then (nat_cmp a.piece b.piece) (ordering_then (nat_cmp a.y b.y) (nat_cmp a.x b.x))) e) [
+  | inl first ↦ inl (below_from (rank_of layer steps a) (rank_of layer steps b) (same_layer layer steps a b) (sym (as_rank layer steps a b) ∙ first))
+  | inr both ↦ inr (same_rank (rank_of layer steps a) (rank_of layer steps b) (same_layer layer steps a b) (sym (as_rank layer steps a b) ∙ both.0), earlier_from a b both.1)
 ]
 
-pub before_stands : (steps : List Step) (a b : Spot) → StandsBefore steps a b → compare steps a b ≡ Less
-before_stands steps a b (inl below) = less_then _ _ (inl (as_rank steps a b ∙ from_below (rank_of steps a) (rank_of steps b) (same_layer steps a b) below))
-before_stands steps a b (inr both) = less_then _ _ (inr (as_rank steps a b ∙ rank_same (rank_of steps a) (rank_of steps b) both.0, from_earlier a b both.1))
+pub before_stands : (layer : ℕ) (steps : List Step) (a b : Spot) → StandsBefore layer steps a b → compare steps a b ≡ Less
+before_stands layer steps a b (inl below) = less_then _ _ (inl (as_rank layer steps a b ∙ from_below (rank_of layer steps a) (rank_of layer steps b) (same_layer layer steps a b) below))
+before_stands layer steps a b (inr both) = less_then _ _ (inr (as_rank layer steps a b ∙ rank_same (rank_of layer steps a) (rank_of layer steps b) both.0, from_earlier a b both.1))

@@ -1,5 +1,5 @@
 -- Lists in a total order, each element once, and what a test keeps of them.
-use Rattle.std.proofs.Common.{◌≡◌, ◌∙◌, refl, sym, ap, subst, inl, inr, ◌⊎◌, ℕ, zero, suc, ◌<◌, Bool, true, false, List, [], ◌∷◌, length, get_or, slice_get, Some, arith}
+use Rattle.std.proofs.Common.{◌≡◌, ◌∙◌, refl, sym, ap, subst, inl, inr, ◌⊎◌, Bool, true, false, List, [], ◌∷◌}
 use Rattle.std.specs.Prelude.{filter}
 use Rattle.std.specs.BTreeSet.{insert_key}
 use Rattle.std.specs.Cmp.{IsTotalOrder}
@@ -153,11 +153,11 @@ module _ {A : Type 0} where
   filter_first R p q h [] s c ph qh before after = absurd (in_none h c)
   filter_first R p q h (x ∷ xs) s c ph qh before after = elim (in_cases x h xs c) [
     | inl same ↦
-      let px : p x ≡ true = ap p same ∙ ph in
-      let qx : q x ≡ false = ap q same ∙ qh in
-      let rest : filter p xs ≡ filter q xs = filter_same p q xs (λ z k. after z (in_tail x z xs k) (subst (λ (w : A). R w z ≡ Less) same (after_at R x z xs (sorted_head R x xs s) k))) in
-      rw (px, qx, rest, same) refl
+        let px : p x ≡ true = ap p same ∙ ph in
+        let qx : q x ≡ false = ap q same ∙ qh in
+        let rest : filter p xs ≡ filter q xs = filter_same p q xs (λ z k. after z (in_tail x z xs k) (subst (λ (w : A). R w z ≡ Less) same (after_at R x z xs (sorted_head R x xs s) k))) in
+        rw (px, qx, rest, same) refl
     | inr later ↦
-      let both = before x (in_head x xs) (after_at R x h xs (sorted_head R x xs s) later) in
-      rw (both.0, both.1) (filter_first R p q h xs (sorted_tail R x xs s) later ph qh (λ z k. before z (in_tail x z xs k)) (λ z k. after z (in_tail x z xs k)))
+        let both = before x (in_head x xs) (after_at R x h xs (sorted_head R x xs s) later) in
+        rw (both.0, both.1) (filter_first R p q h xs (sorted_tail R x xs s) later ph qh (λ z k. before z (in_tail x z xs k)) (λ z k. after z (in_tail x z xs k)))
   ]

@@ -1,6 +1,6 @@
 -- How a piece is gone through line by line, in the order of a list of steps.
 use Rattle.std.proofs.Common.{◌≡◌, ◌∙◌, refl, sym, ap, ℕ, ◌≤◌, ◌==◌, Bool, true, false, if◌then◌else◌, List, [], ◌∷◌, length, get_or, arith}
-use Rattle.std.specs.Ordering.{is_eq, is_le, is_lt, nat_cmp, ordering_reverse, ordering_then}
+use Rattle.std.specs.Ordering.{nat_cmp, ordering_reverse, ordering_then}
 use Rattle.std.specs.declared.cmp.Ordering.{Ordering}
 use Rattle.std.specs.declared.cmp.Ordering.TheVariants.{Less, Equal, Greater}
 use Rattle.std.proofs.lemmas.Cmp.{nat_cmp_total, tied_itself}
@@ -8,7 +8,6 @@ use Rattle.pb_linear.specs.declared.boxes.Sign.{Sign}
 use Rattle.pb_linear.specs.declared.boxes.Sign.TheVariants.{Plus, Minus}
 use Rattle.pb_linear.specs.declared.boxes.Step.{Step}
 use Rattle.pb_values.specs.declared.rect.Rect.{Rect}
-use Rattle.pb_walk.specs.declared.course.Sweep.{Sweep}
 use Rattle.pb_walk.specs.Cursors.{spot}
 use Rattle.pb_walk.specs.Orders.{by_list, by_sign, by_step, compare}
 use Rattle.pb_walk.specs.Sweeps.{by_pair, by_sweep, sign_across}

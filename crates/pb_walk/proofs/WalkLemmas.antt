@@ -1,8 +1,7 @@
 -- Walks: their places, their order, and that there is one.
-use Rattle.std.proofs.Common.{◌≡◌, ◌∙◌, refl, sym, ap, subst, ℕ, ◌+◌, ◌<◌, List, [], ◌∷◌, length, get_or, slice_get, Some, arith}
+use Rattle.std.proofs.Common.{◌≡◌, ◌∙◌, sym, ℕ, ◌+◌, ◌<◌, List, [], ◌∷◌, length, get_or, slice_get, Some, arith}
 use Rattle.std.specs.List.{AllPairs, Contains}
 use Rattle.std.specs.List.Sorted.{IsStrictlySortedBy}
-use Rattle.std.specs.declared.cmp.Ordering.{Ordering}
 use Rattle.std.specs.declared.cmp.Ordering.TheVariants.{Less, Equal}
 use Rattle.std.proofs.lemmas.Cmp.{tied_itself}
 use Rattle.std.proofs.lemmas.Map.Keys.{Less-from_sorted, sorted_from_all_adjacent}
@@ -11,7 +10,7 @@ use Rattle.pb_linear.specs.declared.boxes.Step.{Step}
 use Rattle.pb_values.specs.declared.rect.Rect.{Rect}
 use Rattle.pb_walk.specs.declared.spot.Spot.{Spot}
 use Rattle.pb_walk.specs.Orders.{StandsBefore, compare}
-use Rattle.pb_walk.specs.Walks.{IsPlace, IsWalk, places, sorted, walk_of}
+use Rattle.pb_walk.specs.Walks.{IsPlace, IsWalk, places, walk_of}
 use Rattle.pb_walk.proofs.OrderLemmas.{before_stands, compare_same, compare_total, stands_before}
 use Rattle.pb_walk.proofs.PlaceLemmas.{in_place, place_in}
 use Rattle.pb_walk.proofs.SortLemmas.{in_sorted, is_sorted, one_sorted, sorted_in}
@@ -35,8 +34,8 @@ less_at steps walk i j a b s h e f =
     let second : get_or walk j a ≡ b = get_or_from_slice_get walk j b a f in
     rw (first, second) at (Less-from_sorted (compare steps) walk i j a s h below)
 
-pub walk_rises : (steps : List Step) (pieces : List Rect) (i j : ℕ) (a b : Spot) → i < j → slice_get (walk_of steps pieces) i ≡ Some a → slice_get (walk_of steps pieces) j ≡ Some b → StandsBefore steps a b
-walk_rises steps pieces i j a b h e f = stands_before steps a b (less_at steps (walk_of steps pieces) i j a b (walk_sorted steps pieces) h e f)
+pub walk_rises : (layer : ℕ) (steps : List Step) (pieces : List Rect) (i j : ℕ) (a b : Spot) → i < j → slice_get (walk_of steps pieces) i ≡ Some a → slice_get (walk_of steps pieces) j ≡ Some b → StandsBefore layer steps a b
+walk_rises layer steps pieces i j a b h e f = stands_before layer steps a b (less_at steps (walk_of steps pieces) i j a b (walk_sorted steps pieces) h e f)
 
 never_twice : (steps : List Step) (pieces : List Rect) (i j : ℕ) (s : Spot) → slice_get (walk_of steps pieces) i ≡ Some s → slice_get (walk_of steps pieces) j ≡ Some s → i < j → ⊥
 never_twice steps pieces i j s e f h =
@@ -49,12 +48,12 @@ walked_once steps pieces i j s e f =
     let back : j < i → ⊥ = never_twice steps pieces j i s f e in
     omega arith
 
-walk_ordered : (steps : List Step) (walk : List Spot) → AllPairs (StandsBefore steps) walk → IsStrictlySortedBy (compare steps) walk
+walk_ordered : (steps : List Step) (walk : List Spot) → AllPairs (StandsBefore 0 steps) walk → IsStrictlySortedBy (compare steps) walk
 walk_ordered steps [] rises = sorted_from_all_adjacent (compare_total steps) [] (record { piece = 0; x = 0; y = 0 }) (λ k h. absurd (omega arith))
 walk_ordered steps (s ∷ walk) rises =
-    sorted_from_all_adjacent (compare_total steps) (s ∷ walk) s (λ k h. before_stands steps (get_or (s ∷ walk) k s) (get_or (s ∷ walk) (k + 1) s) (rises k (k + 1) s (omega arith) h))
+    sorted_from_all_adjacent (compare_total steps) (s ∷ walk) s (λ k h. before_stands 0 steps (get_or (s ∷ walk) k s) (get_or (s ∷ walk) (k + 1) s) (rises k (k + 1) s (omega arith) h))
 
 pub one_walk : (steps : List Step) (pieces : List Rect) (walk : List Spot) → IsWalk steps pieces walk → walk ≡ walk_of steps pieces
 one_walk steps pieces walk is =
-    one_sorted (compare steps) (compare_total steps) walk (walk_of steps pieces) (walk_ordered steps walk is.rises) (walk_sorted steps pieces)
+    one_sorted (compare steps) (compare_total steps) walk (walk_of steps pieces) (walk_ordered steps walk (is.rises 0)) (walk_sorted steps pieces)
     (λ z h. in_walk steps pieces z ((is.places z).0 h)) (λ z h. (is.places z).1 (walk_in steps pieces z h))

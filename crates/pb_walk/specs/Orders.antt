@@ -32,13 +32,13 @@ compare steps a b = ordering_then (by_list steps a b) (ordering_then (nat_cmp a.
 
 -- ---- the same as what holds of ranks
 -- the rank of a place in a layer with this list
-abbrev pub rank_of : List Step → Spot → Rank
-rank_of steps s = rank_by 0 steps (pos s.x) (pos s.y)
+abbrev pub rank_of : ℕ → List Step → Spot → Rank
+rank_of layer steps s = rank_by layer steps (pos s.x) (pos s.y)
 
 -- of two places of equal rank: in an earlier piece, or in the same in an earlier row, or in the same row further to the left
 abbrev pub IsEarlier : Spot → Spot → Type 0
 IsEarlier a b = (a.piece < b.piece) ⊎ ((a.piece ≡ b.piece) × ((a.y < b.y) ⊎ ((a.y ≡ b.y) × (a.x < b.x))))
 
--- a place stands before another in a walk
-abbrev pub StandsBefore : List Step → Spot → Spot → Type 0
-StandsBefore steps a b = IsBelow (rank_of steps a) (rank_of steps b) ⊎ ((rank_of steps a ≡ rank_of steps b) × IsEarlier a b)
+-- a place has a smaller rank than another, or the same, and is earlier
+abbrev pub StandsBefore : ℕ → List Step → Spot → Spot → Type 0
+StandsBefore layer steps a b = IsBelow (rank_of layer steps a) (rank_of layer steps b) ⊎ ((rank_of layer steps a ≡ rank_of layer steps b) × IsEarlier a b)

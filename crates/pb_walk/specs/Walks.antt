@@ -35,7 +35,7 @@ walk_of steps pieces = sorted (compare steps) (places pieces)
 -- in words: just the places of the pieces, each before those that come later in the order of the list
 pub record IsWalk (steps : List Step) (pieces : List Rect) (walk : List Spot) : Type 0 where
   pub places : (s : Spot) → Contains walk s ↔ IsPlace pieces s
-  pub rises : AllPairs (StandsBefore steps) walk
+  pub rises : (layer : ℕ) → AllPairs (StandsBefore layer steps) walk
 
 -- a walk: all its places, and those that are left
 pub record WalkValue : Type 0 where

@@ -16,8 +16,8 @@ pub fn each_place_is_walked_once()
 /// A law: a place of a walk has a smaller rank in a layer with this list than those that come later, or the same rank, and then it
 /// is in an earlier piece, or in the same piece before them row by row.
 pub fn a_walk_rises()
-    ensures { (steps : List Step) (pieces : List Rect) (i j : ℕ) (a b : Spot) → i < j
-        → slice_get (walk_of steps pieces) i ≡ Some a → slice_get (walk_of steps pieces) j ≡ Some b → StandsBefore steps a b }
+    ensures { (layer : ℕ) (steps : List Step) (pieces : List Rect) (i j : ℕ) (a b : Spot) → i < j
+        → slice_get (walk_of steps pieces) i ≡ Some a → slice_get (walk_of steps pieces) j ≡ Some b → StandsBefore layer steps a b }
 {}
 
 /// A law: no other list has the places of these pieces in this order.

@@ -1,4 +1,4 @@
-use Rattle.std.proofs.Common.{◌≡◌, ◌<◌, ◌∙◌, length, arith}
+use Rattle.std.proofs.Common.{◌<◌, ◌∙◌, length, arith}
 use Rattle.pb_walk.proofs.NextLemmas.{same_length, set_begun}
 use Rattle.pb_walk.proofs.walk.begin_again.Goals as goal
 

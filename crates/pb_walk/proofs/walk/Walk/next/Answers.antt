@@ -1,4 +1,4 @@
-use Rattle.std.proofs.Common.{◌≡◌, ◌∙◌, List, Some, None, ap, length, subst, sym}
+use Rattle.std.proofs.Common.{◌∙◌, List, None, ap, length, subst, sym}
 use Rattle.pb_walk.specs.declared.cursor.Cursor.{Cursor}
 use Rattle.pb_walk.specs.Cursors.{IsBest, IsFirstOf}
 use Rattle.pb_walk.proofs.NextLemmas.{ended, read_cursor, went_on}
