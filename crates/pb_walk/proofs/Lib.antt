@@ -5,4 +5,5 @@ pub mod PairLemmas
 pub mod PlaceLemmas
 pub mod SortLemmas
 pub mod SweepLemmas
+mod WalkExample
 pub mod WalkLemmas

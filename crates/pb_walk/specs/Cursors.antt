@@ -11,6 +11,7 @@ use Rattle.pb_walk.specs.declared.spot.Spot.{Spot}
 use Rattle.pb_walk.specs.Orders.{compare}
 use Rattle.pb_walk.specs.Walks.{walk_of}
 
+-- the steps that a course stands for
 abbrev pub steps_of : Course → List Step
 steps_of Any = []
 steps_of (One s) = s ∷ []
@@ -24,6 +25,7 @@ head piece c = record { piece = piece; x = c.x; y = c.y }
 abbrev pub has_passed : List Step → Cursor → Spot → Bool
 has_passed steps c s = c.done || is_lt (compare steps s (head s.piece c))
 
+-- a place is still to come: of a piece that may not be there, and of one of these
 abbrev pub is_ahead_of : List Step → Option Cursor → Spot → Bool
 is_ahead_of steps None s = false
 is_ahead_of steps (Some c) s = not (has_passed steps c s)
@@ -41,7 +43,7 @@ whole course cursors = walk_of (steps_of course) (rects cursors)
 unfoldable pub left_of : Course → List Cursor → List Spot
 left_of course cursors = filter (is_ahead (steps_of course) cursors) (whole course cursors)
 
--- a piece has been gone through up to the next place of another and with it, in the order of their own places
+-- a place of a piece
 abbrev pub spot : ℕ → ℕ → ℕ → Spot
 spot piece x y = record { piece = piece; x = x; y = y }
 
@@ -49,7 +51,7 @@ spot piece x y = record { piece = piece; x = x; y = y }
 abbrev pub IsBegun : List Step → Cursor → Type 0
 IsBegun steps c = (piece x y : ℕ) → HasPlace c.rect x y → has_passed steps c (spot piece x y) ≡ false
 
--- a cursor has just passed the next place of another
+-- a cursor has passed just what the other has, and the other's next place
 pub record IsMoved (steps : List Step) (old new : Cursor) : Type 0 where
   pub rect : new.rect ≡ old.rect
   pub passed : (piece x y : ℕ) → HasPlace old.rect x y → has_passed steps new (spot piece x y) ≡ is_le (compare steps (spot piece x y) (head piece old))

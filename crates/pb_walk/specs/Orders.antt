@@ -14,6 +14,7 @@ abbrev pub by_sign : Sign → ℕ → ℕ → Ordering
 by_sign Plus a b = nat_cmp a b
 by_sign Minus a b = nat_cmp b a
 
+-- the coordinate of a place on an axis, and two places by a step
 abbrev pub number_on : ℕ → Spot → ℕ
 number_on axis s = if axis == 0 then s.x else s.y
 
