@@ -1,6 +1,10 @@
-//! Trials of runs: small works whose outcomes are known, run in each way that there is.
+//! Trials of runs: small works whose outcomes are known, run in each way that there is; and what runs stand on.
 #![tactic(auto)]
 
 #[cfg(test)]
 mod serial;
 pub mod sums;
+#[cfg(test)]
+mod traces;
+#[cfg(test)]
+mod walks;
