@@ -1,0 +1,119 @@
+-- Segments with cells, of an instance.
+use Rattle.std.proofs.Common.{◌≡◌, ◌∙◌, refl, sym, ap, subst, inl, inr, ◌⊎◌, ⊎_elim, ℕ, zero, suc, ℤ, pos, negsuc, ◌<◌, ◌≤◌, ◌≤ℤ◌, ◌<ℤ◌, ◌^◌, Bool, true, false, ◌&&◌, List, [], ◌∷◌, length, map, slice_get, slice_index, Option, Some, None, arith, nat_tests}
+use Rattle.std.specs.Prelude.{◌++◌, ◌-◌, IsTrue, filter, nat_lt}
+use Rattle.std.specs.List.{All, Contains, enumerate_from, range_with_len}
+use Rattle.std.proofs.lemmas.Bool.{and_parts}
+use Rattle.std.proofs.lemmas.Int.{ints}
+use Rattle.std.proofs.lemmas.List.Elements.{Contains-append_cases}
+use Rattle.std.proofs.lemmas.Option.{slice_get_within}
+use Rattle.std.proofs.lemmas.List.Maps.{length-map}
+use Rattle.pb_linear.specs.Form.{value}
+use Rattle.pb_linear.specs.Numbers.{exact_value}
+use Rattle.pb_linear.specs.Sizes.{InRange, leasts_of, sizes_of}
+use Rattle.pb_linear.specs.VForm.{InArea}
+use Rattle.pb_linear.specs.declared.sizes.Sizes.{Sizes}
+use Rattle.pb_linear.specs.declared.sizes.TheConstants.{SIZE_TOP}
+use Rattle.pb_linear.proofs.SizesLemmas.{in_range_top}
+use Rattle.pb_syntax.specs.declared.limits.TheConstants.{MOST_RULES}
+use Rattle.pb_graph.specs.Layerings.{layer_of}
+use Rattle.pb_graph.specs.Nodes.{NodeValue}
+use Rattle.pb_graph.proofs.EdgeLemmas.{length-numbered}
+use Rattle.pb_program.specs.Forms.{DeclValue}
+use Rattle.pb_program.specs.Trees.{ProgRule, ProgTransform}
+use Rattle.pb_program.specs.WellFormed.{IsTransform}
+use Rattle.pb_region.specs.Small.{IsSmallRule}
+use Rattle.pb_region.proofs.SmallLemmas.{at_place, small_rule, small_transform}
+use Rattle.pb_model.specs.Cells.{Cell, IsCell, natural}
+use Rattle.pb_base.proofs.ListLemmas.{in_at, map_in, range_in, filter_in}
+use Rattle.pb_check.specs.Cuts.{AreNodes, AreNodesOf, IsCut, made_matrices, node}
+use Rattle.pb_check.specs.Orders.{AnalysisValue, IsAnalysis}
+use Rattle.pb_check.specs.Ranked.{IsIn, IsMadeCell}
+use Rattle.pb_check.proofs.BoundLemmas.{few_rules}
+use Rattle.pb_check.proofs.EndLemmas.{few_nodes}
+use Rattle.pb_check.proofs.RankedLemmas.{are}
+use Rattle.pb_calls.proofs.SideLemmas.{segment_below}
+use Rattle.pb_frame.specs.Choices.{IsInstance}
+use Rattle.pb_frame.specs.Frames.{corner_of, has_place, rect_of}
+
+-- each segment is of a matrix that is cut
+of_matrix : (t : ProgTransform) (ms : List ℕ) (ns : List NodeValue) → AreNodesOf t ms ns → (n : NodeValue) → Contains ns n → Contains ms n.matrix × (d : DeclValue) × (slice_get t.matrices n.matrix ≡ Some d)
+of_matrix t [] ns h n k = absurd (omega (arith, ap length h, k.1))
+of_matrix t (m ∷ ms) ns (ss, rest, cut, more, is) n k = ⊎_elim
+    (λ here.
+    let s = map_in (node m) ss n here in
+    let matrix : m ≡ n.matrix = ap (λ (z : NodeValue). z.matrix) s.2 in
+    (subst (Contains (m ∷ ms)) matrix (in_head m ms), cut.is.decl, subst (λ j. slice_get t.matrices j ≡ Some cut.is.decl) matrix cut.is.there))
+    (λ later. let found = of_matrix t ms rest more n later in (in_tail m n.matrix ms found.0, found.1, found.2))
+    (Contains-append_cases (map (node m) ss) rest n (subst (λ l. Contains l n) is k))
+
+module _ (number : ℕ) (t : ProgTransform) (a : AnalysisValue) (sizes : List ℕ) (i : IsInstance number t a sizes) where
+  abbrev pub nodes_are : AreNodes t a.nodes
+  nodes_are = are i.program number t sizes i.well_formed i.sound i.there a i.found
+
+  fits : IsTransform (length i.program) t
+  fits = at_place (IsTransform (length i.program)) i.program number t i.well_formed.transforms i.there
+
+  pub few : length a.nodes < 2 ^ 32
+  few = few_nodes (length i.program) t fits (small_transform i.program i.well_formed number t i.there).ranges a.nodes nodes_are
+
+  pub rules_few : length t.rules ≤ MOST_RULES
+  rules_few = few_rules i.program number t i.well_formed i.there
+
+  pub node_layer : (u : ℕ) → u < length a.nodes → (u < length a.order.layer) × (slice_index a.order.layer u < length a.order.layers)
+  node_layer u below =
+      let l = i.found.layering in
+      let inside : u < length i.found.choices.nodes = omega (arith, below, ap length i.found.nodes) in
+      let long : length a.order.layers ≡ length l.used.layers = ap length l.layers ∙ length-map (enumerate_from 0 l.used.layers) (layer_of i.found.choices l.used.layer) ∙ length-numbered 0 l.used.layers in
+      (omega (arith, inside, ap length l.layer, l.is_used.room), omega (arith, long, ap (λ ks. slice_index ks u) l.layer, l.is_used.numbered u inside))
+
+  module _ (u : ℕ) (n : NodeValue) (there : slice_get a.nodes u ≡ Some n) where
+    abbrev matrix_of : Contains (made_matrices t) n.matrix × (d : DeclValue) × (slice_get t.matrices n.matrix ≡ Some d)
+    matrix_of = of_matrix t (made_matrices t) a.nodes nodes_are n (in_at a.nodes u n there)
+
+    -- a place of a segment is one of its rectangle
+    natural_low : (z : ℤ) (k : ℕ) → natural z ≤ k → z ≤ℤ pos k
+    natural_low (pos m) k h = omega (arith, ints, h)
+    natural_low (negsuc m) k h = omega (arith, ints)
+
+    natural_high : (z : ℤ) (k : ℕ) → k < natural z → pos k <ℤ z
+    natural_high (pos m) k h = omega (arith, ints, h)
+    natural_high (negsuc m) k h = omega (arith, h)
+
+    low_natural : (z : ℤ) (k : ℕ) → z ≤ℤ pos k → natural z ≤ k
+    low_natural (pos m) k h = omega (arith, ints, h)
+    low_natural (negsuc m) k h = omega arith
+
+    high_natural : (z : ℤ) (k : ℕ) → pos k <ℤ z → k < natural z
+    high_natural (pos m) k h = omega (arith, ints, h)
+    high_natural (negsuc m) k h = omega (arith, ints, h)
+
+    pub in_node : (x y : ℕ) → (rect_of n sizes).x0 ≤ x → x < (rect_of n sizes).x1 → (rect_of n sizes).y0 ≤ y → y < (rect_of n sizes).y1 → InArea n.area sizes (pos x) (pos y)
+    in_node x y left right low high = record {
+      from_x = natural_low (value n.area.x0 sizes) x left;
+      before_x = natural_high (value n.area.x1 sizes) x right;
+      from_y = natural_low (value n.area.y0 sizes) y low;
+      before_y = natural_high (value n.area.y1 sizes) y high;
+    }
+
+    pub made_in : (x y : ℕ) → InArea n.area sizes (pos x) (pos y) → IsMadeCell t sizes (record { matrix = n.matrix; x = x; y = y })
+    made_in x y h =
+        let m = matrix_of in
+        let below = segment_below i.program number t a sizes i.well_formed i.sound i.there i.found i.in_range u n m.1 there m.2 in
+        record {
+          cell = record { in_range = i.in_range; decl = m.1; there = m.2; before_x = omega (arith, ints, h.before_x, below.across); before_y = omega (arith, ints, h.before_y, below.down) };
+          made = (range_from t.inputs (length t.matrices - t.inputs) n.matrix m.0);
+        }
+
+    pub corner_in : has_place (rect_of n sizes) ≡ true → InArea n.area sizes (pos (corner_of n sizes).x) (pos (corner_of n sizes).y)
+    corner_in some =
+        let r = rect_of n sizes in
+        let parts = and_parts (nat_lt r.x0 r.x1) (nat_lt r.y0 r.y1) some in
+        let wide : r.x0 < r.x1 = grind (arith, nat_tests, parts.0) in
+        let tall : r.y0 < r.y1 = grind (arith, nat_tests, parts.1) in
+        in_node r.x0 r.y0 (omega arith) wide (omega arith) tall
+
+    pub corner_made : has_place (rect_of n sizes) ≡ true → IsMadeCell t sizes (corner_of n sizes)
+    corner_made some = made_in (corner_of n sizes).x (corner_of n sizes).y (corner_in some)
+
+    pub corner_is_in : has_place (rect_of n sizes) ≡ true → IsIn a.nodes sizes (corner_of n sizes) u
+    corner_is_in some = record { node = n; there = there; matrix = refl; inside = corner_in some }

@@ -1,0 +1,21 @@
+//! What one instance of a transform makes at its sizes.
+//!
+//! In: an accepted program, a valid configuration, the number of a transform, sizes in range, and the grain. Out: each segment
+//! that has a cell, with the rule that is chosen for its cells; and what is made at once, layer by layer: the rules that make
+//! more than a cell, and the blocks of cells that are made one by one. The theorem is `frame`, with the laws
+//! `a_part_has_one_choice` and `each_cell_lies_in_a_part`.
+#![tactic(auto)]
+
+mod blocks;
+mod choice;
+mod frame;
+mod guard;
+mod job;
+mod layers;
+mod part;
+mod parts;
+mod wides;
+
+pub use frame::{FrameTasks, frame};
+pub use job::Job;
+pub use part::FramePart;
