@@ -1,5 +1,5 @@
 -- The rules that may make a segment's cells are those of its rules that meet their conditions, of least priority.
-use Rattle.std.proofs.Common.{◌≡◌, ◌∙◌, refl, sym, ap, subst, inl, inr, ◌⊎◌, ◌↔◌, ℕ, ℤ, pos, ◌<◌, ◌≤◌, ◌≤ℤ◌, Bool, true, false, ◌&&◌, ◌||◌, not, List, [], ◌∷◌, length, slice_get, Option, Some, None, arith, nat_tests}
+use Rattle.std.proofs.Common.{◌≡◌, ◌∙◌, refl, sym, ap, subst, inl, inr, ◌⊎◌, ◌↔◌, ℕ, ℤ, pos, ◌<◌, ◌≤◌, ◌≤ℤ◌, Bool, true, false, ◌&&◌, ◌||◌, not, List, [], ◌∷◌, length, slice_get, Option, Some, None, arith}
 use Rattle.std.specs.Prelude.{◌==◌, ◌≢◌, IsTrue, filter, int_le, nat_le, nat_lt, ◌+ℤ◌, ◌-ℤ◌, ◌*ℤ◌}
 use Rattle.std.specs.Ordering.{int_eq}
 use Rattle.std.specs.List.{All, AllByRecursion, Contains, list_all, range_with_len}
@@ -7,7 +7,7 @@ use Rattle.std.specs.Option.{option_map_or}
 use Rattle.std.proofs.Math.Bool.{cond}
 use Rattle.std.proofs.Math.IntN.{zero-*ℤ}
 use Rattle.std.proofs.lemmas.Bool.{and_parts, eq-eqb, eqb-true}
-use Rattle.std.proofs.lemmas.Bool.Decides.{Decides-int_eq}
+use Rattle.std.proofs.lemmas.Bool.Decides.{Decides-int_eq, nat_tests}
 use Rattle.std.proofs.lemmas.Option.{slice_get_within}
 use Rattle.std.proofs.lemmas.Int.{ints}
 use Rattle.pb_linear.specs.Form.{value}
@@ -85,13 +85,16 @@ module _ (sizes : List ℕ) (x y : ℤ) where
   meets_of (c ∷ cs) h = both (is_met sizes c) (list_all (is_met sizes) cs) (holds_met c h.0) (meets_of cs h.1)
 
 -- ---- rules by number
+pub met_there : (t : ProgTransform) (sizes : List ℕ) (k : ℕ) (r : ProgRule) → slice_get t.rules k ≡ Some r → meets t.matrices sizes r ≡ meets_at t sizes k
+met_there t sizes k r e = sym (ap (λ o. option_map_or (meets t.matrices sizes) o false) e)
+
 is_in_contains : (set : List ℕ) (k : ℕ) → is_in set k ≡ true → Contains set k
 is_in_contains [] k h = cc
-is_in_contains (s ∷ set) k h = by (s == k) refl h
+is_in_contains (s ∷ set) k h = by (s == k) refl h (is_in_contains set k)
   where
-    by : (b : Bool) → (s == k) ≡ b → (b || is_in set k) ≡ true → Contains (s ∷ set) k
-    by true e h = subst (Contains (s ∷ set)) (eqb-true s k e) (in_head s set)
-    by false e h = in_tail s k set (is_in_contains set k h)
+    by : (b : Bool) → (s == k) ≡ b → (b || is_in set k) ≡ true → (is_in set k ≡ true → Contains set k) → Contains (s ∷ set) k
+    by true e h rest = subst (Contains (s ∷ set)) (eqb-true s k e) (in_head s set)
+    by false e h rest = in_tail s k set (rest h)
 
 contains_is_in : (set : List ℕ) (k : ℕ) → Contains set k → is_in set k ≡ true
 contains_is_in [] k h = absurd (in_none k h)
@@ -111,12 +114,15 @@ at_rule test (Some r) h = (r, refl, h)
 module _ {A : Type 0} (p q : A → Bool) where
   filter_both : (xs : List A) → filter p (filter q xs) ≡ filter (λ x. q x && p x) xs
   filter_both [] = refl
-  filter_both (x ∷ xs) = by (q x) (p x) (filter_both xs)
+  filter_both (x ∷ xs) = by (q x) (filter_both xs)
     where
-      by : (a b : Bool) → filter p (filter q xs) ≡ filter (λ x. q x && p x) xs → cond a (cond b (x ∷ filter p (filter q xs)) (filter p (filter q xs))) (filter p (filter q xs)) ≡ cond (a && b) (x ∷ filter (λ x. q x && p x) xs) (filter (λ x. q x && p x) xs)
-      by true true e = ap (λ l. x ∷ l) e
-      by true false e = e
-      by false b e = e
+      kept : (b : Bool) → filter p (filter q xs) ≡ filter (λ x. q x && p x) xs → cond b (x ∷ filter p (filter q xs)) (filter p (filter q xs)) ≡ cond b (x ∷ filter (λ x. q x && p x) xs) (filter (λ x. q x && p x) xs)
+      kept true e = ap (λ l. x ∷ l) e
+      kept false e = e
+
+      by : (a : Bool) → filter p (filter q xs) ≡ filter (λ x. q x && p x) xs → filter p (cond a (x ∷ filter q xs) (filter q xs)) ≡ cond (a && p x) (x ∷ filter (λ x. q x && p x) xs) (filter (λ x. q x && p x) xs)
+      by true e = kept (p x) e
+      by false e = e
 
 module _ (number : ℕ) (t : ProgTransform) (a : AnalysisValue) (sizes : List ℕ) (i : IsInstance number t a sizes) (c : Cell) (made : IsMadeCell t sizes c) (u : ℕ) (h : IsIn a.nodes sizes c u) where
   abbrev rules : List ℕ
@@ -161,6 +167,7 @@ module _ (number : ℕ) (t : ProgTransform) (a : AnalysisValue) (sizes : List �
   prio k r e = ap (λ o. option_map_or (λ (r : ProgRule). r.priority) o 0) e
 
   one_test : (k : ℕ) → Contains (range_with_len 0 (length t.rules)) k → is_lawful t sizes c k ≡ (is_able k && is_least t able k)
+  unfolding lawful
   one_test k m = same_test (is_lawful t sizes c k) (is_able k && is_least t able k)
       (λ e.
           let l = lawful_in t sizes c k (law_here e) in
@@ -178,15 +185,13 @@ module _ (number : ℕ) (t : ProgTransform) (a : AnalysisValue) (sizes : List �
           lawful_back (record { rule = can.0; there = can.1; can = can.2; least = λ j r there c. omega (arith, below, first.least j r there c) }))
     where
       law_here : is_lawful t sizes c k ≡ true → Contains (lawful t sizes c) k
-      unfolding lawful
       law_here e = in_filter (is_lawful t sizes c) (range_with_len 0 (length t.rules)) k m e
 
       lawful_back : IsLawful t sizes c k → is_lawful t sizes c k ≡ true
-      unfolding lawful
       lawful_back l = (filter_in (is_lawful t sizes c) (range_with_len 0 (length t.rules)) k (in_lawful t sizes c k l)).1
 
   pub lawful_is : lawful t sizes c ≡ least_of t able
-  unfolding lawful, least_of, met_of
+  unfolding lawful least_of met_of
   lawful_is =
       same_filter (is_lawful t sizes c) (λ k. is_able k && is_least t able k) (range_with_len 0 (length t.rules)) one_test
       ∙ sym (filter_both (is_least t able) is_able (range_with_len 0 (length t.rules)))

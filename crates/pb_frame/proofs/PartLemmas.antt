@@ -1,12 +1,14 @@
 -- Segments with cells, of an instance.
-use Rattle.std.proofs.Common.{◌≡◌, ◌∙◌, refl, sym, ap, subst, inl, inr, ◌⊎◌, ⊎_elim, ℕ, zero, suc, ℤ, pos, negsuc, ◌<◌, ◌≤◌, ◌≤ℤ◌, ◌<ℤ◌, ◌^◌, Bool, true, false, ◌&&◌, List, [], ◌∷◌, length, map, slice_get, slice_index, Option, Some, None, arith, nat_tests}
+use Rattle.std.proofs.Common.{◌≡◌, ◌∙◌, refl, sym, ap, subst, inl, inr, ◌⊎◌, ⊎_elim, ℕ, zero, suc, ℤ, pos, negsuc, ◌<◌, ◌≤◌, ◌≤ℤ◌, ◌<ℤ◌, ◌^◌, Bool, true, false, ◌&&◌, List, [], ◌∷◌, length, map, get_or, slice_get, slice_index, Option, Some, None, arith}
 use Rattle.std.specs.Prelude.{◌++◌, ◌-◌, IsTrue, filter, nat_lt}
 use Rattle.std.specs.List.{All, Contains, enumerate_from, range_with_len}
 use Rattle.std.proofs.lemmas.Bool.{and_parts}
 use Rattle.std.proofs.lemmas.Int.{ints}
 use Rattle.std.proofs.lemmas.List.Elements.{Contains-append_cases}
-use Rattle.std.proofs.lemmas.Option.{slice_get_within}
-use Rattle.std.proofs.lemmas.List.Maps.{length-map}
+use Rattle.std.proofs.lemmas.Option.{slice_get-get_or, slice_get_within}
+use Rattle.std.proofs.lemmas.List.{get_or_default, length-map}
+use Rattle.std.proofs.lemmas.Bool.Decides.{nat_tests}
+use Rattle.std.proofs.lemmas.List.FromFn.{get_or-range_with_len, length-enumerate_from, length-range_with_len}
 use Rattle.pb_linear.specs.Form.{value}
 use Rattle.pb_linear.specs.Numbers.{exact_value}
 use Rattle.pb_linear.specs.Sizes.{InRange, leasts_of, sizes_of}
@@ -17,23 +19,34 @@ use Rattle.pb_linear.proofs.SizesLemmas.{in_range_top}
 use Rattle.pb_syntax.specs.declared.limits.TheConstants.{MOST_RULES}
 use Rattle.pb_graph.specs.Layerings.{layer_of}
 use Rattle.pb_graph.specs.Nodes.{NodeValue}
-use Rattle.pb_graph.proofs.EdgeLemmas.{length-numbered}
 use Rattle.pb_program.specs.Forms.{DeclValue}
 use Rattle.pb_program.specs.Trees.{ProgRule, ProgTransform}
 use Rattle.pb_program.specs.WellFormed.{IsTransform}
 use Rattle.pb_region.specs.Small.{IsSmallRule}
 use Rattle.pb_region.proofs.SmallLemmas.{at_place, small_rule, small_transform}
 use Rattle.pb_model.specs.Cells.{Cell, IsCell, natural}
-use Rattle.pb_base.proofs.ListLemmas.{in_at, map_in, range_in, filter_in}
+use Rattle.pb_base.proofs.ListLemmas.{filter_in, in_at, in_head, in_tail, map_in}
 use Rattle.pb_check.specs.Cuts.{AreNodes, AreNodesOf, IsCut, made_matrices, node}
 use Rattle.pb_check.specs.Orders.{AnalysisValue, IsAnalysis}
 use Rattle.pb_check.specs.Ranked.{IsIn, IsMadeCell}
 use Rattle.pb_check.proofs.BoundLemmas.{few_rules}
 use Rattle.pb_check.proofs.EndLemmas.{few_nodes}
+use Rattle.pb_check.proofs.LawfulLemmas.{numbered_at}
 use Rattle.pb_check.proofs.RankedLemmas.{are}
 use Rattle.pb_calls.proofs.SideLemmas.{segment_below}
-use Rattle.pb_frame.specs.Choices.{IsInstance}
-use Rattle.pb_frame.specs.Frames.{corner_of, has_place, rect_of}
+use Rattle.pb_program.specs.Configs.{ConfigValue, chosen, is_in}
+use Rattle.pb_model.specs.Chosen.{chosen_rule, instance_size}
+use Rattle.pb_model.specs.Lawful.{lawful}
+use Rattle.pb_check.specs.Sites.{least_of}
+use Rattle.pb_check.proofs.CoverLemmas.{has_lawful}
+use Rattle.pb_frame.specs.Choices.{IsInstance, met_of}
+use Rattle.pb_frame.proofs.ChoiceLemmas.{lawful_is}
+use Rattle.pb_frame.proofs.ListLemmas.{as_long}
+use Rattle.pb_frame.specs.Frames.{corner_of, has_cell, has_place, part_of, parts_of, rect_of}
+use Rattle.pb_frame.specs.declared.part.FramePart.{FramePart}
+
+range_from : (a n k : ℕ) → Contains (range_with_len a n) k → a ≤ k
+range_from a n k h = let below : h.0 < n = omega (arith, h.1, length-range_with_len a n) in omega (arith, below, h.2, get_or-range_with_len a n h.0 k below)
 
 -- each segment is of a matrix that is cut
 of_matrix : (t : ProgTransform) (ms : List ℕ) (ns : List NodeValue) → AreNodesOf t ms ns → (n : NodeValue) → Contains ns n → Contains ms n.matrix × (d : DeclValue) × (slice_get t.matrices n.matrix ≡ Some d)
@@ -59,12 +72,38 @@ module _ (number : ℕ) (t : ProgTransform) (a : AnalysisValue) (sizes : List �
   pub rules_few : length t.rules ≤ MOST_RULES
   rules_few = few_rules i.program number t i.well_formed i.there
 
+  pub few_layers : length a.order.layers < 2 ^ 32
+  few_layers =
+      let l = i.found.layering in
+      let long : length a.order.layers ≡ length l.used.layers = ap length l.layers ∙ length-map (enumerate_from 0 l.used.layers) (layer_of i.found.choices l.used.layer) ∙ length-enumerate_from 0 l.used.layers in
+      let most : length l.used.layers ≤ length l.used.layer = as_long (length l.used.layers) l.used.layer (λ p below. let u = l.is_used.no_gap p below in let inside : u.0 < length l.used.layer = omega (arith, u.1, l.is_used.room) in (u.0, inside, get_or_default l.used.layer u.0 p 0 inside ∙ u.2)) in
+      omega (arith, long, most, l.is_used.room, ap length i.found.nodes, few)
+
   pub node_layer : (u : ℕ) → u < length a.nodes → (u < length a.order.layer) × (slice_index a.order.layer u < length a.order.layers)
   node_layer u below =
       let l = i.found.layering in
       let inside : u < length i.found.choices.nodes = omega (arith, below, ap length i.found.nodes) in
-      let long : length a.order.layers ≡ length l.used.layers = ap length l.layers ∙ length-map (enumerate_from 0 l.used.layers) (layer_of i.found.choices l.used.layer) ∙ length-numbered 0 l.used.layers in
+      let long : length a.order.layers ≡ length l.used.layers = ap length l.layers ∙ length-map (enumerate_from 0 l.used.layers) (layer_of i.found.choices l.used.layer) ∙ length-enumerate_from 0 l.used.layers in
       (omega (arith, inside, ap length l.layer, l.is_used.room), omega (arith, long, ap (λ ks. slice_index ks u) l.layer, l.is_used.numbered u inside))
+
+  -- each part is of a segment
+  pub of_part : (config : ConfigValue) (part : FramePart) → Contains (parts_of config number t sizes a.nodes) part → (n : NodeValue) × (slice_get a.nodes part.node ≡ Some n) × (has_place (rect_of n sizes) ≡ true) × (part ≡ part_of config number t sizes (part.node, n))
+  of_part config part h =
+      let from = map_in (part_of config number t sizes) (filter (has_cell sizes) (enumerate_from 0 a.nodes)) part h in
+      let kept = filter_in (has_cell sizes) (enumerate_from 0 a.nodes) from.0 from.1 in
+      let at = numbered_at 0 a.nodes from.0 kept.0 in
+      let same : from.0.0 ≡ part.node = ap (λ (p : FramePart). p.node) from.2 in
+      (from.0.1, subst (λ k. slice_get a.nodes k ≡ Some from.0.1) (omega (arith, same, at.1)) at.2, kept.1, sym from.2 ∙ ap (λ k. part_of config number t sizes (k, from.0.1)) same)
+
+  pub part_inside : (config : ConfigValue) (parts : List FramePart) → parts ≡ parts_of config number t sizes a.nodes → All (λ (part : FramePart). part.node < length a.order.layer) parts
+  part_inside config parts e = λ k d below.
+      let p = of_part config (get_or parts k d) (subst (λ l. Contains l (get_or parts k d)) e (in_at parts k (get_or parts k d) (slice_get-get_or parts k d below))) in
+      (node_layer (get_or parts k d).node (slice_get_within a.nodes (get_or parts k d).node p.0 p.1)).0
+
+  pub part_below : (config : ConfigValue) (parts : List FramePart) → parts ≡ parts_of config number t sizes a.nodes → All (λ (part : FramePart). slice_index a.order.layer part.node < length a.order.layers) parts
+  part_below config parts e = λ k d below.
+      let p = of_part config (get_or parts k d) (subst (λ l. Contains l (get_or parts k d)) e (in_at parts k (get_or parts k d) (slice_get-get_or parts k d below))) in
+      (node_layer (get_or parts k d).node (slice_get_within a.nodes (get_or parts k d).node p.0 p.1)).1
 
   module _ (u : ℕ) (n : NodeValue) (there : slice_get a.nodes u ≡ Some n) where
     abbrev matrix_of : Contains (made_matrices t) n.matrix × (d : DeclValue) × (slice_get t.matrices n.matrix ≡ Some d)
@@ -117,3 +156,27 @@ module _ (number : ℕ) (t : ProgTransform) (a : AnalysisValue) (sizes : List �
 
     pub corner_is_in : has_place (rect_of n sizes) ≡ true → IsIn a.nodes sizes (corner_of n sizes) u
     corner_is_in some = record { node = n; there = there; matrix = refl; inside = corner_in some }
+
+  pub rules_small : All IsSmallRule t.rules
+  rules_small = λ k d below. small_rule i.program i.well_formed number t i.there k (get_or t.rules k d) (slice_get-get_or t.rules k d below)
+
+  module _ (u : ℕ) (n : NodeValue) (there : slice_get a.nodes u ≡ Some n) (some : has_place (rect_of n sizes) ≡ true) (met set : List ℕ) (is_met : met ≡ met_of t sizes) (is : set ≡ least_of t (filter (is_in n.rules) met)) where
+    set_is : set ≡ lawful t sizes (corner_of n sizes)
+    unfolding corner_is_in
+    set_is = is ∙ ap (λ m. least_of t (filter (is_in n.rules) m)) is_met ∙ sym (lawful_is number t a sizes i (corner_of n sizes) (corner_made u n there some) u (corner_is_in u n there some))
+
+    pub some_lawful : 0 < length set
+    some_lawful = not_empty set (λ e. has_lawful i.program number t (corner_of n sizes) sizes i.well_formed i.sound i.there (corner_made u n there some).cell (corner_made u n there some).made (sym set_is ∙ e))
+      where
+        not_empty : (xs : List ℕ) → (xs ≡ [] → ⊥) → 0 < length xs
+        not_empty [] other = absurd (other refl)
+        not_empty (x ∷ xs) other = omega arith
+
+    pub chosen_by : (config : ConfigValue) (size : ℕ) → size ≡ instance_size sizes → chosen config (record { transform = number; matrix = n.matrix; set = set }) size ≡ chosen_rule config number t sizes (corner_of n sizes)
+    unfolding chosen_rule
+    chosen_by config size e =
+        ap (λ s. chosen config (record { transform = number; matrix = n.matrix; set = s }) size) set_is
+        ∙ ap (λ k. chosen config (record { transform = number; matrix = n.matrix; set = lawful t sizes (corner_of n sizes) }) k) e
+
+pub top_of : (number : ℕ) (t : ProgTransform) (a : AnalysisValue) (s : Sizes) → IsInstance number t a (sizes_of s) → All (λ size. size ≤ SIZE_TOP) s.of
+top_of number t a s i = in_range_top (leasts_of t.ranges) s i.in_range

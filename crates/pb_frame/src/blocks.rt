@@ -5,6 +5,7 @@ ghost use Rattle.pb_frame.specs.Frames.{block_job, block_parts, blocks, cut_by, 
 ghost use Rattle.pb_frame.specs.declared.part.FramePart.{FramePart};
 
 use crate::job::Job;
+use crate::lists::greater;
 use crate::part::FramePart;
 use crate::parts::has_place;
 use crate::wides::is_wide;
@@ -37,25 +38,25 @@ fn cut_by(square: &Rect, r: &Rect) -> Rect
 }
 
 /// The greatest end on the x axis, 0 where there is none.
-#[tactic(auto, using(crate::proofs::SizeLemmas::greatest_next, crate::proofs::SizeLemmas::greatest_end))]
+#[tactic(auto, using(crate::proofs::SizeLemmas::greatest_step))]
 fn top_x(parts: &[FramePart]) -> u64
     ensures { result ≡ greatest (map (λ (part : FramePart). part.rect.x1) parts.now) }
 {
     let mut top = 0u64;
     for part in parts {
-        top = top.max(part.rect.x1);
+        top = greater(top, part.rect.x1);
     }
     top
 }
 
 /// The greatest end on the y axis, 0 where there is none.
-#[tactic(auto, using(crate::proofs::SizeLemmas::greatest_next, crate::proofs::SizeLemmas::greatest_end))]
+#[tactic(auto, using(crate::proofs::SizeLemmas::greatest_step))]
 fn top_y(parts: &[FramePart]) -> u64
     ensures { result ≡ greatest (map (λ (part : FramePart). part.rect.y1) parts.now) }
 {
     let mut top = 0u64;
     for part in parts {
-        top = top.max(part.rect.y1);
+        top = greater(top, part.rect.y1);
     }
     top
 }
@@ -104,7 +105,7 @@ fn squares(
     let xs = spans(alloc, layer.cut_x, grain, top_x(parts))?;
     let ys = spans(alloc, layer.cut_y, grain, top_y(parts))?;
     let mut found = Vec::new(alloc);
-    for x in &xs {
+    for x in xs.as_slice() {
         add_column(&mut found, x, &ys)?;
     }
     Ok(found)
@@ -144,10 +145,59 @@ fn has_block(transform: &Transform, parts: &[FramePart], square: &Rect) -> bool
     parts.iter().any(|part| is_block_part(transform, square, part))
 }
 
+/// The blocks with a cell whose rule is one for single cells.
+fn blocks(
+    alloc: Global,
+    transform: &Transform,
+    layer: &Layer,
+    grain: u64,
+    parts: &[FramePart],
+) -> Result<Vec<Rect>, AllocError>
+    ensures { IfOk result (λ found. found.items ≡ blocks (bare_transform transform.now) layer.now grain parts.now) }
+{
+    let all = squares(alloc, layer, grain, parts)?;
+    let mut found = Vec::new(alloc);
+    for square in all.as_slice() {
+        if has_block(transform, parts, square) {
+            found.push(*square)?;
+        }
+    }
+    Ok(found)
+}
+
+fn list_blocks(listed: &mut Vec<(u32, Rect)>, layer: u32, found: &[Rect]) -> Result<(), AllocError>
+    ensures { OnOk result (listed.new.items ≡ listed.old.items ++ map (λ b. (layer, b)) found.now) }
+{
+    for square in found {
+        listed.push((layer, *square))?;
+    }
+    Ok(())
+}
+
+fn add_jobs(
+    alloc: Global,
+    jobs: &mut Vec<Job>,
+    transform: &Transform,
+    layer: u32,
+    parts: &[FramePart],
+    found: &[Rect],
+) -> Result<(), AllocError>
+    ensures { OnOk result (jobs.new.items ≡ jobs.old.items ++ map (block_job (bare_transform transform.now) layer parts.now) found.now) }
+{
+    for square in found {
+        jobs.push(Job {
+            layer,
+            rule: None,
+            parts: block_parts(alloc, transform, parts, square)?,
+        })?;
+    }
+    Ok(())
+}
+
 /// Adds the jobs of a layer's blocks, and the blocks.
 pub(crate) fn add_blocks(
     alloc: Global,
-    blocks: &mut Vec<(u32, Rect)>,
+    listed: &mut Vec<(u32, Rect)>,
     jobs: &mut Vec<Job>,
     transform: &Transform,
     number: u32,
@@ -155,19 +205,10 @@ pub(crate) fn add_blocks(
     grain: u64,
     parts: &[FramePart],
 ) -> Result<(), AllocError>
-    ensures blocks { OnOk result (blocks.new.items ≡ blocks.old.items ++ map (λ b. (number, b)) (blocks (bare_transform transform.now) layer.now grain parts.now)) }
+    ensures listed { OnOk result (listed.new.items ≡ listed.old.items ++ map (λ b. (number, b)) (blocks (bare_transform transform.now) layer.now grain parts.now)) }
     ensures jobs { OnOk result (jobs.new.items ≡ jobs.old.items ++ map (block_job (bare_transform transform.now) number parts.now) (blocks (bare_transform transform.now) layer.now grain parts.now)) }
 {
-    let found = squares(alloc, layer, grain, parts)?;
-    for square in &found {
-        if has_block(transform, parts, square) {
-            blocks.push((number, *square))?;
-            jobs.push(Job {
-                layer: number,
-                rule: None,
-                parts: block_parts(alloc, transform, parts, square)?,
-            })?;
-        }
-    }
-    Ok(())
+    let found = blocks(alloc, transform, layer, grain, parts)?;
+    list_blocks(listed, number, &found)?;
+    add_jobs(alloc, jobs, transform, number, parts, &found)
 }

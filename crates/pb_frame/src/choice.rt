@@ -6,15 +6,29 @@ ghost use Rattle.pb_program.specs.Configs.{is_in};
 ghost use Rattle.pb_program.specs.Trees.{bare_rule, bare_transform};
 ghost use Rattle.pb_region.specs.Small.{IsSmallRule};
 ghost use Rattle.pb_check.specs.Sites.{is_least, least_of, priority};
-ghost use Rattle.pb_frame.specs.Choices.{met_of};
+ghost use Rattle.pb_frame.specs.Choices.{meets_at, met_of};
 
 use crate::guard::meets;
+use crate::lists::push_if;
 use pb_linear::{SIZE_TOP, Sizes};
 use pb_program::Transform;
 use std::alloc::{AllocError, Global};
 
-/// The numbers of the rules whose conditions hold as far as no rule variable plays a part, rising.
-#[tactic(auto, unfolding(crate::specs::Choices::met_of))]
+/// Whether the conditions of the rule with this number hold as far as no rule variable plays a part.
+#[tactic(auto, using(crate::proofs::ChoiceLemmas::met_there))]
+fn meets_at(transform: &Transform, s: &Sizes, k: u32) -> bool
+    requires sizes { All (λ size. size ≤ SIZE_TOP) s.now.of }
+    requires small { All IsSmallRule (bare_transform transform.now).rules }
+    ensures { result ≡ meets_at (bare_transform transform.now) (sizes_of s.now) k }
+{
+    match transform.rules.get(k as usize) {
+        Some(rule) => meets(&transform.matrices, rule, s),
+        None => false,
+    }
+}
+
+/// The numbers of the rules whose conditions hold so, rising.
+#[tactic(auto, unfolding(crate::specs::Choices::met_of), using(crate::proofs::ListLemmas::filter_next))]
 pub(crate) fn met_of(
     alloc: Global,
     transform: &Transform,
@@ -26,10 +40,8 @@ pub(crate) fn met_of(
     ensures { IfOk result (λ met. met.items ≡ met_of (bare_transform transform.now) (sizes_of s.now)) }
 {
     let mut met = Vec::new(alloc);
-    for (k, rule) in transform.rules.iter().enumerate() {
-        if meets(&transform.matrices, rule, s) {
-            met.push(k as u32)?;
-        }
+    for k in 0..transform.rules.len() as u32 {
+        push_if(&mut met, k, meets_at(transform, s, k))?;
     }
     Ok(met)
 }

@@ -23,6 +23,16 @@ impl Model for LayerParts {
     ghost view = { λ l. l.parts.items };
 }
 
+impl LayerParts {
+    ghost use Rattle.std.specs.Prelude.{◌≡◌};
+
+    pub(crate) fn parts(&self) -> &[FramePart]
+        ensures { result.now ≡ self.now }
+    {
+        &self.parts
+    }
+}
+
 fn put_part(
     layers: &mut Vec<LayerParts>,
     layer: usize,
@@ -35,7 +45,7 @@ fn put_part(
     Ok(())
 }
 
-#[tactic(auto, using(crate::proofs::LayerLemmas::none_yet))]
+#[tactic(auto, using(crate::proofs::ListLemmas::map_next))]
 fn no_parts(alloc: Global, count: usize) -> Result<Vec<LayerParts>, AllocError>
     ensures { IfOk result (λ layers. layers.items ≡ map (λ layer. []) (range_with_len 0 count)) }
 {

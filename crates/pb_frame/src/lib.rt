@@ -8,14 +8,15 @@
 
 mod blocks;
 mod choice;
-mod frame;
 mod guard;
 mod job;
 mod layers;
+mod lists;
 mod part;
 mod parts;
+mod tasks;
 mod wides;
 
-pub use frame::{FrameTasks, frame};
 pub use job::Job;
 pub use part::FramePart;
+pub use tasks::{FrameTasks, frame};

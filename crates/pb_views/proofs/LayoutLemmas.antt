@@ -1,6 +1,7 @@
 -- Matrices one after the other.
-use Rattle.std.proofs.Common.{◌≡◌, ◌∙◌, refl, sym, ap, subst, ℕ, zero, suc, ◌+◌, ◌*◌, ◌≤◌, ◌<◌, ◌^◌, ℤ, pos, negsuc, List, [], ◌∷◌, ◌++◌, length, map, take, drop, slice_get, get_or, Some, arith}
+use Rattle.std.proofs.Common.{◌≡◌, ◌∙◌, refl, sym, ap, subst, ℕ, zero, suc, ◌+◌, ◌*◌, ◌≤◌, ◌<◌, ◌^◌, ℤ, pos, negsuc, List, [], ◌∷◌, ◌++◌, length, map, take, take_all, drop, slice_get, get_or, Some, arith}
 use Rattle.std.specs.Prelude.{filter, int_le}
+use Rattle.std.proofs.Math.Seq.{take-suc}
 use Rattle.std.specs.List.{All, flat_map, range_with_len}
 use Rattle.std.specs.Option.{option_map_or}
 use Rattle.pb_linear.specs.Numbers.{exact_value}
@@ -27,3 +28,26 @@ module _ (sizes : List ℕ) where
   laid_append first [] vs d v h w = subst (λ l. AreInARow first sizes (d ∷ []) (l ++ v ∷ [])) (sym h) (subst (λ n. IsWhole n sizes d v) (omega arith) w, refl)
   laid_append first (e ∷ ds) [] d v h w = absurd h
   laid_append first (e ∷ ds) (u ∷ vs) d v h w = (h.0, laid_append (first + area_at sizes e) ds vs d v h.1 (subst (λ n. IsWhole n sizes d v) (omega arith) w))
+
+  -- ---- the next of some matrices
+  module _ (first : ℕ) (ds : List DeclValue) (k : ℕ) (d : DeclValue) (below : k < length ds) (is : d ≡ get_or ds k d) where
+    next_taken : take (k + 1) ds ≡ take k ds ++ d ∷ []
+    next_taken = let one : k + 1 ≡ suc k = omega arith in ap (λ n. take n ds) one ∙ take-suc ds k d below ∙ ap (λ e. take k ds ++ e ∷ []) (sym is)
+
+    pub count_next : cell_count sizes (take (k + 1) ds) ≡ cell_count sizes (take k ds) + area_at sizes d
+    count_next = ap (cell_count sizes) next_taken ∙ count_more (take k ds) d
+
+    pub count_within : (j : ℕ) → cell_count sizes (take j ds) ≤ cell_count sizes ds
+    count_within j = within j ds
+      where
+        within : (j : ℕ) (es : List DeclValue) → cell_count sizes (take j es) ≤ cell_count sizes es
+        within zero es = omega arith
+        within (suc j) [] = omega arith
+        within (suc j) (e ∷ es) = omega (arith, within j es)
+
+    pub laid_next : (vs us : List View) (v : View) (next : ℕ) → next ≡ first + cell_count sizes (take k ds) → AreInARow first sizes (take k ds) vs → us ≡ vs ++ v ∷ [] → IsWhole next sizes d v → AreInARow first sizes (take (k + 1) ds) us
+    laid_next vs us v next at h more w =
+        subst (λ l. AreInARow first sizes (take (k + 1) ds) l) (sym more) (subst (λ l. AreInARow first sizes l (vs ++ v ∷ [])) (sym next_taken) (laid_append first (take k ds) vs d v h (subst (λ n. IsWhole n sizes d v) at w)))
+
+  pub laid_all : (first : ℕ) (ds : List DeclValue) (vs : List View) (k : ℕ) → length ds ≤ k → AreInARow first sizes (take k ds) vs → AreInARow first sizes ds vs
+  laid_all first ds vs k end h = subst (λ l. AreInARow first sizes l vs) (take_all k ds end) h

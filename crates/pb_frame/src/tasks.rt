@@ -1,20 +1,22 @@
-ghost use Rattle.std.specs.Prelude.{◌≡◌, ◌≤◌, ◌++◌, IfOk, OnOk, length, map};
+ghost use Rattle.std.specs.Prelude.{◌≡◌, ◌<◌, ◌≤◌, ◌^◌, ◌++◌, IfOk, OnOk, Some, length, map, slice_get};
+ghost use Rattle.std.specs.List.{enumerate_from, flat_map, range_with_len};
+ghost use Rattle.pb_graph.specs.Layerings.{LayerValue};
 ghost use Rattle.pb_linear.specs.Sizes.{InRange, leasts_of, sizes_of};
 ghost use Rattle.pb_syntax.specs.declared.limits.TheConstants.{MOST_RULES};
 ghost use Rattle.pb_program.specs.Configs.{IsValid};
 ghost use Rattle.pb_program.specs.Trees.{bare_prog, bare_transform};
 ghost use Rattle.pb_check.specs.Ranked.{OfTransform};
 ghost use Rattle.pb_frame.specs.Choices.{IsInstance};
-ghost use Rattle.pb_frame.specs.Frames.{IsFrame, blocks, chosen_wides, layer_jobs};
+ghost use Rattle.pb_frame.specs.Frames.{IsFrame, blocks, chosen_wides, in_layer, layer_jobs};
 
 use crate::blocks::add_blocks;
 use crate::job::Job;
-use crate::layers::by_layer;
+use crate::layers::{LayerParts, by_layer};
 use crate::part::FramePart;
 use crate::parts::parts_of;
 use crate::wides::add_wides;
 use pb_check::{Accepted, Analysis};
-use pb_graph::Layer;
+use pb_graph::{Layer, Layering};
 use pb_linear::Sizes;
 use pb_program::{Config, Transform};
 use pb_values::Rect;
@@ -68,6 +70,62 @@ fn add_layer(
     add_blocks(alloc, &mut f.blocks, &mut f.jobs, transform, number, layer, grain, parts)
 }
 
+/// Adds what the layer with this number makes.
+fn add_at(
+    alloc: Global,
+    f: &mut FrameTasks,
+    transform: &Transform,
+    order: &Layering,
+    l: u32,
+    grain: u64,
+    layers: &[LayerParts],
+) -> Result<(), AllocError>
+    requires few { length transform.now.rules ≤ MOST_RULES }
+    requires there { l < length order.now.layers }
+    requires layers { layers.now ≡ map (in_layer order.now f.old.parts) (range_with_len 0 (length order.now.layers)) }
+    ensures sizes { f.new.sizes ≡ f.old.sizes }
+    ensures parts { f.new.parts ≡ f.old.parts }
+    ensures blocks { OnOk result ((layer : LayerValue) → slice_get order.now.layers l ≡ Some layer
+        → f.new.blocks ≡ f.old.blocks ++ map (λ b. (l, b)) (blocks (bare_transform transform.now) layer grain (in_layer order.now f.old.parts l))) }
+    ensures wides { OnOk result (f.new.wides ≡ f.old.wides ++ map (λ k. (l, k)) (chosen_wides (bare_transform transform.now) (in_layer order.now f.old.parts l))) }
+    ensures jobs { OnOk result ((layer : LayerValue) → slice_get order.now.layers l ≡ Some layer
+        → f.new.jobs ≡ f.old.jobs ++ layer_jobs (bare_transform transform.now) grain (in_layer order.now f.old.parts l) (l, layer)) }
+{
+    add_layer(
+        alloc,
+        f,
+        transform,
+        l,
+        &order.layers[l as usize],
+        grain,
+        layers[l as usize].parts(),
+    )
+}
+
+/// Adds what all layers make.
+fn add_layers(
+    alloc: Global,
+    f: &mut FrameTasks,
+    transform: &Transform,
+    order: &Layering,
+    grain: u64,
+    layers: &[LayerParts],
+) -> Result<(), AllocError>
+    requires few { length transform.now.rules ≤ MOST_RULES }
+    requires short { length order.now.layers < 2 ^ 32 }
+    requires layers { layers.now ≡ map (in_layer order.now f.old.parts) (range_with_len 0 (length order.now.layers)) }
+    ensures sizes { f.new.sizes ≡ f.old.sizes }
+    ensures parts { f.new.parts ≡ f.old.parts }
+    ensures blocks { OnOk result (f.new.blocks ≡ f.old.blocks ++ flat_map (λ l. map (λ b. (l.0, b)) (blocks (bare_transform transform.now) l.1 grain (in_layer order.now f.old.parts l.0))) (enumerate_from 0 order.now.layers)) }
+    ensures wides { OnOk result (f.new.wides ≡ f.old.wides ++ flat_map (λ l. map (λ k. (l.0, k)) (chosen_wides (bare_transform transform.now) (in_layer order.now f.old.parts l.0))) (enumerate_from 0 order.now.layers)) }
+    ensures jobs { OnOk result (f.new.jobs ≡ f.old.jobs ++ flat_map (λ l. layer_jobs (bare_transform transform.now) grain (in_layer order.now f.old.parts l.0) l) (enumerate_from 0 order.now.layers)) }
+{
+    for l in 0..order.layers.len() as u32 {
+        add_at(alloc, f, transform, order, l, grain, layers)?;
+    }
+    Ok(())
+}
+
 /// What an instance of a transform makes, of which this was found.
 fn frame_of(
     alloc: Global,
@@ -83,7 +141,8 @@ fn frame_of(
     ensures frame { IfOk result (IsFrame c.now t (bare_transform transform.now) found.now grain) }
 {
     let parts = parts_of(alloc, c, t, transform, found, s)?;
-    let layers = by_layer(alloc, found.order(), &parts)?;
+    let order = found.order();
+    let layers = by_layer(alloc, order, &parts)?;
     let mut f = FrameTasks {
         sizes: *s,
         parts,
@@ -91,9 +150,7 @@ fn frame_of(
         wides: Vec::new(alloc),
         jobs: Vec::new(alloc),
     };
-    for (l, layer) in found.order().layers.iter().enumerate() {
-        add_layer(alloc, &mut f, transform, l as u32, layer, grain, &layers[l].parts)?;
-    }
+    add_layers(alloc, &mut f, transform, order, grain, &layers)?;
     Ok(f)
 }
 

@@ -1,0 +1,6 @@
+use Rattle.std.proofs.Common.{◌≡◌, ◌++◌, map, take, List, []}
+use Rattle.std.specs.Prelude.{◌==◌, filter}
+use Rattle.pb_frame.proofs.blocks.list_blocks.Given as goal
+
+abbrev pub invariant-loop-square : goal.invariant-loop-square
+invariant-loop-square l = l.listed.items ≡ l.initial.listed.items ++ map (λ b. (l.layer, b)) (take l.square-index l.found)

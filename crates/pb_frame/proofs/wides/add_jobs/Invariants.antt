@@ -1,0 +1,7 @@
+use Rattle.std.proofs.Common.{◌≡◌, ◌++◌, map, take, List, []}
+use Rattle.std.specs.Prelude.{◌==◌, filter}
+use Rattle.pb_frame.specs.Frames.{wide_job}
+use Rattle.pb_frame.proofs.wides.add_jobs.Given as goal
+
+abbrev pub invariant-loop-k : goal.invariant-loop-k
+invariant-loop-k l = l.jobs.items ≡ l.initial.jobs.items ++ map (wide_job l.layer l.parts) (take l.k-index l.rules)
