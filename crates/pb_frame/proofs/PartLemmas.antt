@@ -17,6 +17,8 @@ use Rattle.pb_linear.specs.declared.sizes.Sizes.{Sizes}
 use Rattle.pb_linear.specs.declared.sizes.TheConstants.{SIZE_TOP}
 use Rattle.pb_linear.proofs.SizesLemmas.{in_range_top}
 use Rattle.pb_syntax.specs.declared.limits.TheConstants.{MOST_RULES}
+use Rattle.pb_values.specs.Views.{HasPlace}
+use Rattle.pb_values.specs.declared.rect.Rect.{Rect}
 use Rattle.pb_graph.specs.Layerings.{layer_of}
 use Rattle.pb_graph.specs.Nodes.{NodeValue}
 use Rattle.pb_program.specs.Forms.{DeclValue}
@@ -25,14 +27,16 @@ use Rattle.pb_program.specs.WellFormed.{IsTransform}
 use Rattle.pb_region.specs.Small.{IsSmallRule}
 use Rattle.pb_region.proofs.SmallLemmas.{at_place, small_rule, small_transform}
 use Rattle.pb_model.specs.Cells.{Cell, IsCell, natural}
-use Rattle.pb_base.proofs.ListLemmas.{filter_in, in_at, in_head, in_tail, map_in}
+use Rattle.pb_base.proofs.ListLemmas.{filter_in, in_at, in_filter, in_head, in_map, in_tail, map_in}
 use Rattle.pb_check.specs.Cuts.{AreNodes, AreNodesOf, IsCut, made_matrices, node}
 use Rattle.pb_check.specs.Orders.{AnalysisValue, IsAnalysis}
 use Rattle.pb_check.specs.Ranked.{IsIn, IsMadeCell}
 use Rattle.pb_check.proofs.BoundLemmas.{few_rules}
 use Rattle.pb_check.proofs.EndLemmas.{few_nodes}
-use Rattle.pb_check.proofs.LawfulLemmas.{numbered_at}
-use Rattle.pb_check.proofs.RankedLemmas.{are}
+use Rattle.pb_check.proofs.LawfulLemmas.{at_numbered, numbered_at}
+use Rattle.pb_check.proofs.FirstLemmas.{some_same}
+use Rattle.pb_check.proofs.RankedLemmas.{are, one_segment_only, segment_there}
+use Rattle.pb_calls.proofs.SameLemmas.{one_choice}
 use Rattle.pb_calls.proofs.SideLemmas.{segment_below}
 use Rattle.pb_program.specs.Configs.{ConfigValue, chosen, is_in}
 use Rattle.pb_model.specs.Chosen.{chosen_rule, instance_size}
@@ -42,7 +46,7 @@ use Rattle.pb_check.proofs.CoverLemmas.{has_lawful}
 use Rattle.pb_frame.specs.Choices.{IsInstance, met_of}
 use Rattle.pb_frame.proofs.ChoiceLemmas.{lawful_is}
 use Rattle.pb_frame.proofs.ListLemmas.{as_long}
-use Rattle.pb_frame.specs.Frames.{corner_of, has_cell, has_place, part_of, parts_of, rect_of}
+use Rattle.pb_frame.specs.Frames.{HoldsCell, corner_of, has_cell, has_place, part_of, parts_of, rect_of}
 use Rattle.pb_frame.specs.declared.part.FramePart.{FramePart}
 
 range_from : (a n k : ℕ) → Contains (range_with_len a n) k → a ≤ k
@@ -118,14 +122,6 @@ module _ (number : ℕ) (t : ProgTransform) (a : AnalysisValue) (sizes : List �
     natural_high (pos m) k h = omega (arith, ints, h)
     natural_high (negsuc m) k h = omega (arith, h)
 
-    low_natural : (z : ℤ) (k : ℕ) → z ≤ℤ pos k → natural z ≤ k
-    low_natural (pos m) k h = omega (arith, ints, h)
-    low_natural (negsuc m) k h = omega arith
-
-    high_natural : (z : ℤ) (k : ℕ) → pos k <ℤ z → k < natural z
-    high_natural (pos m) k h = omega (arith, ints, h)
-    high_natural (negsuc m) k h = omega (arith, ints, h)
-
     pub in_node : (x y : ℕ) → (rect_of n sizes).x0 ≤ x → x < (rect_of n sizes).x1 → (rect_of n sizes).y0 ≤ y → y < (rect_of n sizes).y1 → InArea n.area sizes (pos x) (pos y)
     in_node x y left right low high = record {
       from_x = natural_low (value n.area.x0 sizes) x left;
@@ -180,3 +176,67 @@ module _ (number : ℕ) (t : ProgTransform) (a : AnalysisValue) (sizes : List �
 
 pub top_of : (number : ℕ) (t : ProgTransform) (a : AnalysisValue) (s : Sizes) → IsInstance number t a (sizes_of s) → All (λ size. size ≤ SIZE_TOP) s.of
 top_of number t a s i = in_range_top (leasts_of t.ranges) s i.in_range
+
+-- ---- the cells of parts
+module _ (config : ConfigValue) (number : ℕ) (t : ProgTransform) (a : AnalysisValue) (sizes : List ℕ) (i : IsInstance number t a sizes) where
+  abbrev parts : List FramePart
+  parts = parts_of config number t sizes a.nodes
+
+  same_node : (part : FramePart) (c : Cell) (p : Contains parts part) (h : HoldsCell a.nodes part c) → (of_part number t a sizes i config part p).0 ≡ h.node
+  same_node part c p h = let f = of_part number t a sizes i config part p in some_same f.0 h.node (sym f.1 ∙ h.there)
+
+  pub held_area : (part : FramePart) (c : Cell) → Contains parts part → (h : HoldsCell a.nodes part c) → InArea h.node.area sizes (pos c.x) (pos c.y)
+  held_area part c p h =
+      let f = of_part number t a sizes i config part p in
+      let rect : part.rect ≡ rect_of h.node sizes = ap (λ (q : FramePart). q.rect) f.3 ∙ ap (λ (n : NodeValue). rect_of n sizes) (same_node part c p h) in
+      let place = subst (λ r. HasPlace r c.x c.y) rect h.place in
+      in_node number t a sizes i part.node h.node h.there c.x c.y place.left place.right place.low place.high
+
+  pub held_in : (part : FramePart) (c : Cell) → Contains parts part → HoldsCell a.nodes part c → IsIn a.nodes sizes c part.node
+  held_in part c p h = record { node = h.node; there = h.there; matrix = h.matrix; inside = held_area part c p h }
+
+  pub held_made : (part : FramePart) (c : Cell) → Contains parts part → HoldsCell a.nodes part c → IsMadeCell t sizes c
+  held_made part c p h = subst (λ m. IsMadeCell t sizes (record { matrix = m; x = c.x; y = c.y })) h.matrix (made_in number t a sizes i part.node h.node h.there c.x c.y (held_area part c p h))
+
+  pub held_chosen : (part : FramePart) (c : Cell) → Contains parts part → HoldsCell a.nodes part c → chosen_rule config number t sizes c ≡ part.rule
+  held_chosen part c p h =
+      let f = of_part number t a sizes i config part p in
+      let corner = corner_made number t a sizes i part.node f.0 f.1 f.2 in
+      one_choice i.program number t a sizes i.well_formed i.sound i.there i.found config part.node c (corner_of f.0 sizes) (held_made part c p h) corner (held_in part c p h) (corner_is_in number t a sizes i part.node f.0 f.1 f.2)
+      ∙ sym (ap (λ (q : FramePart). q.rule) f.3)
+
+  pub some_part : (c : Cell) → IsMadeCell t sizes c → (part : FramePart) × Contains parts part × HoldsCell a.nodes part c
+  some_part c made =
+      let u = segment_there i.program number t sizes i.well_formed i.sound i.there a i.found c made in
+      let n = u.1.node in
+      let place = place_of n u.1.inside in
+      let part = part_of config number t sizes (u.0, n) in
+      (part, in_map (part_of config number t sizes) (filter (has_cell sizes) (enumerate_from 0 a.nodes)) (u.0, n) (in_filter (has_cell sizes) (enumerate_from 0 a.nodes) (u.0, n) (subst (λ k. Contains (enumerate_from 0 a.nodes) (k, n)) (omega arith) (at_numbered 0 a.nodes u.0 n u.1.there)) (some_place (rect_of n sizes) c.x c.y place)),
+      record { node = n; there = u.1.there; matrix = u.1.matrix; place = place })
+    where
+      low_natural : (z : ℤ) (k : ℕ) → z ≤ℤ pos k → natural z ≤ k
+      low_natural (pos m) k h = omega (arith, ints, h)
+      low_natural (negsuc m) k h = omega arith
+
+      high_natural : (z : ℤ) (k : ℕ) → pos k <ℤ z → k < natural z
+      high_natural (pos m) k h = omega (arith, ints, h)
+      high_natural (negsuc m) k h = absurd (omega (arith, ints, h))
+
+      place_of : (n : NodeValue) → InArea n.area sizes (pos c.x) (pos c.y) → HasPlace (rect_of n sizes) c.x c.y
+      place_of n h = record { left = low_natural (value n.area.x0 sizes) c.x h.from_x; right = high_natural (value n.area.x1 sizes) c.x h.before_x; low = low_natural (value n.area.y0 sizes) c.y h.from_y; high = high_natural (value n.area.y1 sizes) c.y h.before_y }
+
+      some_place : (r : Rect) (x y : ℕ) → HasPlace r x y → has_place r ≡ true
+      some_place r x y h =
+          let wide : r.x0 < r.x1 = omega (arith, h.left, h.right) in
+          let tall : r.y0 < r.y1 = omega (arith, h.low, h.high) in
+          grind (arith, nat_tests)
+
+  pub one_part : (c : Cell) (part other : FramePart) → Contains parts part → Contains parts other → HoldsCell a.nodes part c → HoldsCell a.nodes other c → part ≡ other
+  one_part c part other p q h k =
+      let f = of_part number t a sizes i config part p in
+      let g = of_part number t a sizes i config other q in
+      let nodes = nodes_are number t a sizes i in
+      let made = held_made part c p h in
+      let same : other.node ≡ part.node = one_segment_only i.program number t sizes i.well_formed i.sound i.there c made.cell made.made a.nodes nodes part.node other.node (held_in part c p h) (held_in other c q k) in
+      let node : f.0 ≡ g.0 = some_same f.0 g.0 (sym f.1 ∙ ap (slice_get a.nodes) (sym same) ∙ g.1) in
+      f.3 ∙ ap (λ k. part_of config number t sizes (k, f.0)) (sym same) ∙ ap (λ n. part_of config number t sizes (other.node, n)) node ∙ sym g.3

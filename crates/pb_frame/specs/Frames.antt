@@ -6,6 +6,7 @@ use Rattle.pb_linear.specs.Form.{value}
 use Rattle.pb_linear.specs.Sizes.{sizes_of}
 use Rattle.pb_linear.specs.declared.boxes.Sign.{Sign}
 use Rattle.pb_linear.specs.declared.sizes.Sizes.{Sizes}
+use Rattle.pb_values.specs.Views.{HasPlace}
 use Rattle.pb_values.specs.declared.rect.Rect.{Rect}
 use Rattle.pb_graph.specs.Layerings.{LayerValue, LayeringValue}
 use Rattle.pb_graph.specs.Nodes.{NodeValue}
@@ -49,6 +50,13 @@ has_cell sizes n = has_place (rect_of n.1 sizes)
 -- each segment that has a cell, by number, with the rule that is chosen for its cells
 abbrev pub parts_of : ConfigValue → ℕ → ProgTransform → List ℕ → List NodeValue → List FramePart
 parts_of config number t sizes nodes = map (part_of config number t sizes) (filter (has_cell sizes) (enumerate_from 0 nodes))
+
+-- a part holds a cell
+pub record HoldsCell (nodes : List NodeValue) (part : FramePart) (c : Cell) : Type 0 where
+  pub node : NodeValue
+  pub there : slice_get nodes part.node ≡ Some node
+  pub matrix : node.matrix ≡ c.matrix
+  pub place : HasPlace part.rect c.x c.y
 
 -- ---- layers
 -- those of some parts that lie in a layer
