@@ -1,43 +1,31 @@
 -- The rules that may make a segment's cells are those of its rules that meet their conditions, of least priority.
-use Rattle.std.proofs.Common.{◌≡◌, ◌∙◌, refl, sym, ap, subst, inl, inr, ◌⊎◌, ◌↔◌, ℕ, ℤ, pos, ◌<◌, ◌≤◌, ◌≤ℤ◌, Bool, true, false, ◌&&◌, ◌||◌, not, List, [], ◌∷◌, length, slice_get, Option, Some, None, arith}
-use Rattle.std.specs.Prelude.{◌==◌, ◌≢◌, IsTrue, filter, int_le, nat_le, nat_lt, ◌+ℤ◌, ◌-ℤ◌, ◌*ℤ◌}
+use Rattle.std.proofs.Common.{◌≡◌, ◌∙◌, refl, sym, ap, subst, inl, inr, ℕ, ℤ, pos, ◌<◌, ◌≤◌, ◌≤ℤ◌, Bool, true, false, ◌&&◌, ◌||◌, not, List, [], ◌∷◌, length, slice_get, Option, Some, None, arith}
+use Rattle.std.specs.Prelude.{◌==◌, filter, int_le, nat_le, ◌+ℤ◌, ◌-ℤ◌, ◌*ℤ◌}
 use Rattle.std.specs.Ordering.{int_eq}
-use Rattle.std.specs.List.{All, AllByRecursion, Contains, list_all, range_with_len}
+use Rattle.std.specs.List.{AllByRecursion, Contains, list_all, range_with_len}
 use Rattle.std.specs.Option.{option_map_or}
 use Rattle.std.proofs.Math.Bool.{cond}
-use Rattle.std.proofs.Math.IntN.{zero-*ℤ}
 use Rattle.std.proofs.lemmas.Bool.{and_parts, eq-eqb, eqb-true}
 use Rattle.std.proofs.lemmas.Bool.Decides.{Decides-int_eq, nat_tests}
 use Rattle.std.proofs.lemmas.Option.{slice_get_within}
 use Rattle.std.proofs.lemmas.Int.{ints}
-use Rattle.pb_linear.specs.Form.{value}
 use Rattle.pb_linear.specs.Numbers.{exact_value}
-use Rattle.pb_linear.specs.Sizes.{InRange, leasts_of, sizes_of}
-use Rattle.pb_linear.specs.VForm.{InArea}
-use Rattle.pb_linear.specs.declared.sizes.Sizes.{Sizes}
-use Rattle.pb_linear.specs.declared.sizes.TheConstants.{SIZE_TOP}
-use Rattle.pb_linear.proofs.SizesLemmas.{in_range_top}
-use Rattle.pb_graph.specs.Nodes.{NodeValue}
-use Rattle.pb_program.specs.Conditions.{Applies, Condition, Holds, conditions}
-use Rattle.pb_program.specs.Configs.{ConfigValue, chosen, is_in}
-use Rattle.pb_program.specs.Forms.{DeclValue, coordinate_at}
+use Rattle.pb_program.specs.Conditions.{Condition, Holds, conditions}
+use Rattle.pb_program.specs.Configs.{is_in}
 use Rattle.pb_program.specs.Trees.{ProgRule, ProgTransform}
 use Rattle.pb_region.specs.Boxes.{is_zero}
 use Rattle.pb_region.specs.Gaps.{gap}
-use Rattle.pb_region.specs.Inside.{guards, is_guarding}
-use Rattle.pb_region.proofs.InsideLemmas.{all_split, zero_is}
-use Rattle.pb_model.specs.Cells.{Cell, IsCell}
-use Rattle.pb_model.specs.Chosen.{chosen_rule, instance_size}
+use Rattle.pb_region.specs.Inside.{is_guarding}
+use Rattle.pb_region.proofs.InsideLemmas.{zero_is}
+use Rattle.pb_model.specs.Cells.{Cell}
 use Rattle.pb_model.specs.Lawful.{CanMake, IsLawful, is_lawful, lawful}
 use Rattle.pb_model.proofs.LawfulLemmas.{in_lawful, lawful_in}
-use Rattle.pb_base.proofs.ListLemmas.{all_each, each_all, filter_in, in_filter, in_head, in_tail, in_range, in_cases, in_none, range_in}
+use Rattle.pb_base.proofs.ListLemmas.{all_each, each_all, filter_in, in_filter, in_head, in_tail, in_range, in_cases, in_none}
 use Rattle.pb_check.specs.Cuts.{AreNodes}
-use Rattle.pb_check.specs.Orders.{AnalysisValue, IsAnalysis}
-use Rattle.pb_check.specs.Phases.{IsSound}
+use Rattle.pb_check.specs.Orders.{AnalysisValue}
 use Rattle.pb_check.specs.Ranked.{IsIn, IsMadeCell}
 use Rattle.pb_check.specs.Sites.{is_least, least_of, priority}
 use Rattle.pb_check.proofs.CoverLemmas.{has_lawful}
-use Rattle.pb_check.proofs.FirstLemmas.{some_same}
 use Rattle.pb_check.proofs.LawfulLemmas.{both, le_true}
 use Rattle.pb_check.proofs.RankedLemmas.{among_can, are, lawful_among}
 use Rattle.pb_calls.proofs.SameLemmas.{same_filter, same_test, some_member}
@@ -62,8 +50,8 @@ module _ (sizes : List ℕ) (x y : ℤ) where
       let same_x : c.left.x ≡ c.right.x = omega (arith, ints, zero_is (c.left.x -ℤ c.right.x) parts.0) in
       let same_y : c.left.y ≡ c.right.y = omega (arith, ints, zero_is (c.left.y -ℤ c.right.y) parts.1) in
       let least : (exact_value c.left.rest sizes +ℤ pos c.more) ≤ℤ exact_value c.right.rest sizes =
-          (le_true (exact_value c.left.rest sizes +ℤ pos c.more) (exact_value c.right.rest sizes)).0 (both_free (int_eq c.left.x c.right.x) (int_eq c.left.y c.right.y) (int_le (exact_value c.left.rest sizes +ℤ pos c.more) (exact_value c.right.rest sizes))
-          ((Decides-int_eq c.left.x c.right.x).1 same_x) ((Decides-int_eq c.left.y c.right.y).1 same_y) h) in
+      (le_true (exact_value c.left.rest sizes +ℤ pos c.more) (exact_value c.right.rest sizes)).0 (both_free (int_eq c.left.x c.right.x) (int_eq c.left.y c.right.y) (int_le (exact_value c.left.rest sizes +ℤ pos c.more) (exact_value c.right.rest sizes))
+      ((Decides-int_eq c.left.x c.right.x).1 same_x) ((Decides-int_eq c.left.y c.right.y).1 same_y) h) in
       omega (arith, ints, least, ap (λ k. k *ℤ x) same_x, ap (λ k. k *ℤ y) same_y)
 
   holds_met : (c : Condition) → Holds sizes x y c → is_met sizes c ≡ true
@@ -170,19 +158,19 @@ module _ (number : ℕ) (t : ProgTransform) (a : AnalysisValue) (sizes : List �
   unfolding lawful
   one_test k m = same_test (is_lawful t sizes c k) (is_able k && is_least t able k)
       (λ e.
-          let l = lawful_in t sizes c k (law_here e) in
-          both (is_able k) (is_least t able k) (lawful_able k l) (each_all (λ other. nat_le (priority t k) (priority t other)) able (λ j in_j.
-          let can = able_can j (able_in j in_j) in
-          let least : l.rule.priority ≤ can.0.priority = l.least j can.0 can.1 can.2 in
-          grind (arith, nat_tests, least, prio k l.rule l.there, prio j can.0 can.1))))
+      let l = lawful_in t sizes c k (law_here e) in
+      both (is_able k) (is_least t able k) (lawful_able k l) (each_all (λ other. nat_le (priority t k) (priority t other)) able (λ j in_j.
+      let can = able_can j (able_in j in_j) in
+      let least : l.rule.priority ≤ can.0.priority = l.least j can.0 can.1 can.2 in
+      grind (arith, nat_tests, least, prio k l.rule l.there, prio j can.0 can.1))))
       (λ e.
-          let parts = and_parts (is_able k) (is_least t able k) e in
-          let can = able_can k parts.0 in
-          let other = some_member (lawful t sizes c) (has_lawful i.program number t c sizes i.well_formed i.sound i.there made.cell made.made) in
-          let first = lawful_in t sizes c other.0 other.1 in
-          let low : nat_le (priority t k) (priority t other.0) ≡ true = all_each (λ o. nat_le (priority t k) (priority t o)) able other.0 parts.1 (in_able other.0 (slice_get_within t.rules other.0 first.rule first.there) (lawful_able other.0 first)) in
-          let below : can.0.priority ≤ first.rule.priority = grind (arith, nat_tests, low, prio k can.0 can.1, prio other.0 first.rule first.there) in
-          lawful_back (record { rule = can.0; there = can.1; can = can.2; least = λ j r there c. omega (arith, below, first.least j r there c) }))
+      let parts = and_parts (is_able k) (is_least t able k) e in
+      let can = able_can k parts.0 in
+      let other = some_member (lawful t sizes c) (has_lawful i.program number t c sizes i.well_formed i.sound i.there made.cell made.made) in
+      let first = lawful_in t sizes c other.0 other.1 in
+      let low : nat_le (priority t k) (priority t other.0) ≡ true = all_each (λ o. nat_le (priority t k) (priority t o)) able other.0 parts.1 (in_able other.0 (slice_get_within t.rules other.0 first.rule first.there) (lawful_able other.0 first)) in
+      let below : can.0.priority ≤ first.rule.priority = grind (arith, nat_tests, low, prio k can.0 can.1, prio other.0 first.rule first.there) in
+      lawful_back (record { rule = can.0; there = can.1; can = can.2; least = λ j r there c. omega (arith, below, first.least j r there c) }))
     where
       law_here : is_lawful t sizes c k ≡ true → Contains (lawful t sizes c) k
       law_here e = in_filter (is_lawful t sizes c) (range_with_len 0 (length t.rules)) k m e

@@ -1,5 +1,5 @@
 -- What is found of a transform of an accepted program.
-use Rattle.std.proofs.Common.{◌≡◌, ◌∙◌, refl, sym, subst, ℕ, zero, suc, List, [], ◌∷◌, ◌<◌, length, slice_get, Option, Some, None}
+use Rattle.std.proofs.Common.{◌≡◌, refl, sym, subst, ℕ, zero, suc, List, [], ◌∷◌, ◌<◌, length, slice_get, Option, Some, None}
 use Rattle.std.specs.Prelude.{IfOk, IsSomeAnd, Result, Ok, Err}
 use Rattle.std.proofs.lemmas.Option.{slice_get_within}
 use Rattle.pb_linear.specs.Sizes.{InRange, leasts_of}

@@ -1,13 +1,11 @@
 -- Conditions at sizes, by the coordinates' numbers.
-use Rattle.std.proofs.Common.{◌≡◌, ◌∙◌, refl, sym, ap, ℕ, ℤ, pos, Bool, true, false, ◌&&◌, ◌||◌, not, List, [], ◌∷◌, ◌++◌, arith}
-use Rattle.std.specs.Prelude.{int_le, ◌+ℤ◌, ◌*ℤ◌}
+use Rattle.std.proofs.Common.{◌≡◌, ◌∙◌, refl, ap, ℕ, pos, Bool, true, false, ◌&&◌, List, [], ◌∷◌, ◌++◌, arith}
 use Rattle.std.specs.List.{flat_map, list_all}
-use Rattle.std.specs.Ordering.{int_eq}
 use Rattle.std.proofs.Math.IntN.{zero-*ℤ}
 use Rattle.std.proofs.lemmas.Int.{ints}
-use Rattle.pb_linear.specs.Numbers.{Numbers, exact_value}
-use Rattle.pb_program.specs.Conditions.{Condition, at_most, cell_conditions, region_conditions}
-use Rattle.pb_program.specs.Forms.{CoordinateValue, nothing, over_sizes}
+use Rattle.pb_linear.specs.Numbers.{exact_value}
+use Rattle.pb_program.specs.Conditions.{at_most}
+use Rattle.pb_program.specs.Forms.{CoordinateValue, nothing}
 use Rattle.pb_region.proofs.AreaLemmas.{nothing_value}
 use Rattle.pb_views.specs.Lines.{IsLine}
 use Rattle.pb_views.specs.declared.line.Line.{Line}

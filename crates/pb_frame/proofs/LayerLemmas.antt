@@ -1,11 +1,10 @@
 -- Parts by their layers.
-use Rattle.std.proofs.Common.{◌≡◌, ◌≢◌, ◌∙◌, refl, sym, ap, ℕ, zero, suc, ◌+◌, ◌<◌, ◌≤◌, Bool, true, false, List, [], ◌∷◌, ◌++◌, length, map, take, get_or, slice_get, Some, arith}
-use Rattle.std.specs.Prelude.{◌==◌, filter, slice_index, slice_index_or, slice_set}
+use Rattle.std.proofs.Common.{◌≡◌, ◌≢◌, ◌∙◌, refl, sym, ap, ℕ, zero, suc, ◌+◌, ◌<◌, ◌≤◌, Bool, true, false, List, [], ◌∷◌, ◌++◌, map, arith}
+use Rattle.std.specs.Prelude.{◌==◌, slice_index, slice_index_or, slice_set}
 use Rattle.std.specs.List.{range_with_len}
 use Rattle.std.proofs.Math.Bool.{cond}
 use Rattle.std.proofs.lemmas.Bool.{eq-eqb, eqb-true}
 use Rattle.pb_graph.specs.Layerings.{LayeringValue}
-use Rattle.pb_graph.proofs.NumberedLemmas.{range_next}
 use Rattle.pb_frame.specs.Frames.{in_layer, is_in_layer}
 use Rattle.pb_frame.specs.declared.part.FramePart.{FramePart}
 

@@ -1,6 +1,6 @@
 -- Lists that are made from the numbers below another, and one number more.
-use Rattle.std.proofs.Common.{inl, inr, ◌⊎◌, ⊎_elim, subst, ◌≤◌, not, ◌≡◌, ◌∙◌, refl, sym, ap, ℕ, zero, suc, ◌+◌, ◌<◌, get_or, length, slice_get, Some, take, take_all, arith, Bool, true, false, List, [], ◌∷◌, ◌++◌, map}
-use Rattle.std.specs.Prelude.{◌==◌, Err, Ok, OnOk, Result, filter, if◌then◌else◌, slice_index_or}
+use Rattle.std.proofs.Common.{inl, inr, ◌⊎◌, ◌≤◌, not, ◌≡◌, ◌∙◌, refl, sym, ap, ℕ, zero, suc, ◌+◌, ◌<◌, get_or, length, slice_get, Some, take, take_all, arith, Bool, true, false, List, [], ◌∷◌, ◌++◌, map}
+use Rattle.std.specs.Prelude.{◌==◌, Err, Ok, OnOk, Result, filter, if◌then◌else◌}
 use Rattle.std.specs.List.{Contains, enumerate_from, flat_map, range_with_len}
 use Rattle.std.proofs.Math.Bool.{cond}
 use Rattle.std.proofs.Math.Seq.{take-suc}

@@ -1,6 +1,6 @@
 -- Segments with cells, of an instance.
-use Rattle.std.proofs.Common.{◌≡◌, ◌∙◌, refl, sym, ap, subst, inl, inr, ◌⊎◌, ⊎_elim, ℕ, zero, suc, ℤ, pos, negsuc, ◌<◌, ◌≤◌, ◌≤ℤ◌, ◌<ℤ◌, ◌^◌, Bool, true, false, ◌&&◌, List, [], ◌∷◌, length, map, get_or, slice_get, slice_index, Option, Some, None, arith}
-use Rattle.std.specs.Prelude.{◌++◌, ◌-◌, IsTrue, filter, nat_lt}
+use Rattle.std.proofs.Common.{◌≡◌, ◌∙◌, refl, sym, ap, subst, ⊎_elim, ℕ, ℤ, pos, negsuc, ◌<◌, ◌≤◌, ◌≤ℤ◌, ◌<ℤ◌, ◌^◌, true, List, [], ◌∷◌, length, map, get_or, slice_get, slice_index, Some, arith}
+use Rattle.std.specs.Prelude.{◌-◌, filter, nat_lt}
 use Rattle.std.specs.List.{All, Contains, enumerate_from, range_with_len}
 use Rattle.std.proofs.lemmas.Bool.{and_parts}
 use Rattle.std.proofs.lemmas.Int.{ints}
@@ -10,8 +10,7 @@ use Rattle.std.proofs.lemmas.List.{get_or_default, length-map}
 use Rattle.std.proofs.lemmas.Bool.Decides.{nat_tests}
 use Rattle.std.proofs.lemmas.List.FromFn.{get_or-range_with_len, length-enumerate_from, length-range_with_len}
 use Rattle.pb_linear.specs.Form.{value}
-use Rattle.pb_linear.specs.Numbers.{exact_value}
-use Rattle.pb_linear.specs.Sizes.{InRange, leasts_of, sizes_of}
+use Rattle.pb_linear.specs.Sizes.{leasts_of, sizes_of}
 use Rattle.pb_linear.specs.VForm.{InArea}
 use Rattle.pb_linear.specs.declared.sizes.Sizes.{Sizes}
 use Rattle.pb_linear.specs.declared.sizes.TheConstants.{SIZE_TOP}
@@ -22,14 +21,14 @@ use Rattle.pb_values.specs.declared.rect.Rect.{Rect}
 use Rattle.pb_graph.specs.Layerings.{layer_of}
 use Rattle.pb_graph.specs.Nodes.{NodeValue}
 use Rattle.pb_program.specs.Forms.{DeclValue}
-use Rattle.pb_program.specs.Trees.{ProgRule, ProgTransform}
+use Rattle.pb_program.specs.Trees.{ProgTransform}
 use Rattle.pb_program.specs.WellFormed.{IsTransform}
 use Rattle.pb_region.specs.Small.{IsSmallRule}
 use Rattle.pb_region.proofs.SmallLemmas.{at_place, small_rule, small_transform}
-use Rattle.pb_model.specs.Cells.{Cell, IsCell, natural}
+use Rattle.pb_model.specs.Cells.{Cell, natural}
 use Rattle.pb_base.proofs.ListLemmas.{filter_in, in_at, in_filter, in_head, in_map, in_tail, map_in}
-use Rattle.pb_check.specs.Cuts.{AreNodes, AreNodesOf, IsCut, made_matrices, node}
-use Rattle.pb_check.specs.Orders.{AnalysisValue, IsAnalysis}
+use Rattle.pb_check.specs.Cuts.{AreNodes, AreNodesOf, made_matrices, node}
+use Rattle.pb_check.specs.Orders.{AnalysisValue}
 use Rattle.pb_check.specs.Ranked.{IsIn, IsMadeCell}
 use Rattle.pb_check.proofs.BoundLemmas.{few_rules}
 use Rattle.pb_check.proofs.EndLemmas.{few_nodes}
@@ -210,9 +209,11 @@ module _ (config : ConfigValue) (number : ℕ) (t : ProgTransform) (a : Analysis
       let u = segment_there i.program number t sizes i.well_formed i.sound i.there a i.found c made in
       let n = u.1.node in
       let place = place_of n u.1.inside in
-      let part = part_of config number t sizes (u.0, n) in
-      (part, in_map (part_of config number t sizes) (filter (has_cell sizes) (enumerate_from 0 a.nodes)) (u.0, n) (in_filter (has_cell sizes) (enumerate_from 0 a.nodes) (u.0, n) (subst (λ k. Contains (enumerate_from 0 a.nodes) (k, n)) (omega arith) (at_numbered 0 a.nodes u.0 n u.1.there)) (some_place (rect_of n sizes) c.x c.y place)),
-      record { node = n; there = u.1.there; matrix = u.1.matrix; place = place })
+      let part = part_of config number t sizes (u.0, n) in (
+        part,
+        in_map (part_of config number t sizes) (filter (has_cell sizes) (enumerate_from 0 a.nodes)) (u.0, n) (in_filter (has_cell sizes) (enumerate_from 0 a.nodes) (u.0, n) (subst (λ k. Contains (enumerate_from 0 a.nodes) (k, n)) (omega arith) (at_numbered 0 a.nodes u.0 n u.1.there)) (some_place (rect_of n sizes) c.x c.y place)),
+        record { node = n; there = u.1.there; matrix = u.1.matrix; place = place },
+      )
     where
       low_natural : (z : ℤ) (k : ℕ) → z ≤ℤ pos k → natural z ≤ k
       low_natural (pos m) k h = omega (arith, ints, h)

@@ -1,9 +1,7 @@
 -- The greatest of some numbers, and the size of an instance.
-use Rattle.std.proofs.Common.{◌≡◌, ◌∙◌, refl, sym, ap, ℕ, zero, suc, ◌+◌, ◌≤◌, ◌<◌, List, [], ◌∷◌, ◌++◌, length, map, max, take, drop, arith}
-use Rattle.std.specs.Prelude.{slice_index, get_or, IsTrue}
+use Rattle.std.proofs.Common.{◌≡◌, ◌∙◌, sym, ap, ℕ, suc, ◌+◌, ◌<◌, List, [], ◌∷◌, ◌++◌, length, map, max, take, arith}
+use Rattle.std.specs.Prelude.{get_or}
 use Rattle.std.proofs.Math.Seq.{take-suc}
-use Rattle.pb_linear.specs.Sizes.{sizes_of}
-use Rattle.pb_linear.specs.declared.sizes.Sizes.{Sizes}
 use Rattle.pb_model.specs.Chosen.{instance_size}
 use Rattle.pb_frame.specs.Frames.{greatest}
 

@@ -1,5 +1,5 @@
 -- What one instance of a transform makes: its segments with their chosen rules, and what is made at once, layer by layer.
-use Rattle.std.specs.Prelude.{◌≡◌, ℕ, max, min, nat_lt, ◌&&◌, ◌==◌, not, Bool, false, if◌then◌else◌, List, [], ◌∷◌, ◌++◌, filter, map, length, Option, Some, None, slice_get, slice_index}
+use Rattle.std.specs.Prelude.{◌≡◌, ℕ, max, min, nat_lt, ◌&&◌, ◌==◌, not, Bool, false, List, [], ◌∷◌, ◌++◌, filter, map, length, Option, Some, None, slice_get, slice_index}
 use Rattle.std.specs.List.{enumerate_from, flat_map, list_any, range_with_len}
 use Rattle.std.specs.Option.{option_map_or}
 use Rattle.pb_linear.specs.Form.{value}

@@ -75,11 +75,7 @@ fn spans(
     Ok(found)
 }
 
-fn add_column(
-    squares: &mut Vec<Rect>,
-    x: &(u64, u64),
-    ys: &[(u64, u64)],
-) -> Result<(), AllocError>
+fn add_column(squares: &mut Vec<Rect>, x: &(u64, u64), ys: &[(u64, u64)]) -> Result<(), AllocError>
     ensures { OnOk result (squares.new.items ≡ squares.old.items ++ map (square x.now) ys.now) }
 {
     for y in ys {
@@ -142,7 +138,9 @@ fn block_parts(
 fn has_block(transform: &Transform, parts: &[FramePart], square: &Rect) -> bool
     ensures { result ≡ has_block (bare_transform transform.now) parts.now square.now }
 {
-    parts.iter().any(|part| is_block_part(transform, square, part))
+    parts
+        .iter()
+        .any(|part| is_block_part(transform, square, part))
 }
 
 /// The blocks with a cell whose rule is one for single cells.

@@ -123,7 +123,10 @@ fn meets_rect(read: &Read, decl: &Decl, s: &Sizes) -> bool
     requires small { IsSmallRead read.now }
     ensures { result ≡ list_all (is_met (sizes_of s.now)) (by_view view.Region read.now decl.now) }
 {
-    both(meets_region(&read.x0, &read.x1, &decl.w, s), meets_region_y(read, decl, s))
+    both(
+        meets_region(&read.x0, &read.x1, &decl.w, s),
+        meets_region_y(read, decl, s),
+    )
 }
 
 /// Whether a view lies inside its matrix, as far as no rule variable plays a part.
@@ -133,7 +136,10 @@ fn meets_view(read: &Read, decl: &Decl, s: &Sizes) -> bool
     ensures { result ≡ list_all (is_met (sizes_of s.now)) (by_view read.now.view read.now decl.now) }
 {
     match read.view {
-        ReadView::Cell => both(meets_cell(&read.x0, &decl.w, s), meets_cell_y(read, decl, s)),
+        ReadView::Cell => both(
+            meets_cell(&read.x0, &decl.w, s),
+            meets_cell_y(read, decl, s),
+        ),
         ReadView::Row => meets_cell(&read.y0, &decl.h, s),
         ReadView::Column => meets_cell(&read.x0, &decl.w, s),
         ReadView::Region => meets_rect(read, decl, s),
@@ -199,6 +205,9 @@ pub(crate) fn meets(matrices: &[Decl], rule: &Rule, s: &Sizes) -> bool
     requires small { IsSmallRule (bare_rule rule.now) }
     ensures { result ≡ meets matrices.now (sizes_of s.now) (bare_rule rule.now) }
 {
-    let views = both(meet_all(matrices, &rule.outs, s), meet_all(matrices, &rule.reads, s));
+    let views = both(
+        meet_all(matrices, &rule.outs, s),
+        meet_all(matrices, &rule.reads, s),
+    );
     both(views, meet_conds(&rule.conds, s))
 }

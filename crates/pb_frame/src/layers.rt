@@ -33,11 +33,7 @@ impl LayerParts {
     }
 }
 
-fn put_part(
-    layers: &mut Vec<LayerParts>,
-    layer: usize,
-    part: &FramePart,
-) -> Result<(), AllocError>
+fn put_part(layers: &mut Vec<LayerParts>, layer: usize, part: &FramePart) -> Result<(), AllocError>
     requires { layer < length layers.old.items }
     ensures { OnOk result (layers.new.items ≡ slice_set layers.old.items layer (slice_index_or layers.old.items layer [] ++ part.now ∷ [])) }
 {

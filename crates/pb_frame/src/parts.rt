@@ -140,7 +140,9 @@ pub(crate) fn parts_of(
     let met = met_of(alloc, transform, s)?;
     let mut parts = Vec::new(alloc);
     for (k, node) in found.nodes().iter().enumerate() {
-        add_part(alloc, &mut parts, c, t, transform, found, s, &met, k as u32, node)?;
+        add_part(
+            alloc, &mut parts, c, t, transform, found, s, &met, k as u32, node,
+        )?;
     }
     Ok(parts)
 }

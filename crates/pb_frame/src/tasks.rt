@@ -67,7 +67,16 @@ fn add_layer(
     ensures jobs { OnOk result (f.new.jobs ≡ f.old.jobs ++ layer_jobs (bare_transform transform.now) grain parts.now (number, layer.now)) }
 {
     add_wides(alloc, &mut f.wides, &mut f.jobs, transform, number, parts)?;
-    add_blocks(alloc, &mut f.blocks, &mut f.jobs, transform, number, layer, grain, parts)
+    add_blocks(
+        alloc,
+        &mut f.blocks,
+        &mut f.jobs,
+        transform,
+        number,
+        layer,
+        grain,
+        parts,
+    )
 }
 
 /// Adds what the layer with this number makes.
@@ -169,5 +178,13 @@ pub fn frame(
     ensures sizes { IfOk result (λ f. f.sizes ≡ s.now) }
     ensures frame { IfOk result (λ f. OfTransform a.now t (λ transform found. IsFrame c.now t transform found grain f)) }
 {
-    frame_of(alloc, c, t, &a.prog().transforms[t as usize], &a.analyses()[t as usize], s, grain)
+    frame_of(
+        alloc,
+        c,
+        t,
+        &a.prog().transforms[t as usize],
+        &a.analyses()[t as usize],
+        s,
+        grain,
+    )
 }

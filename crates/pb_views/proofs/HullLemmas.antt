@@ -1,5 +1,5 @@
 -- What a part's cells read lies in the box over its corner cells.
-use Rattle.std.proofs.Common.{◌≡◌, ◌∙◌, refl, sym, ap, subst, inl, inr, ◌⊎◌, ℕ, zero, suc, ◌+◌, ◌<◌, ◌≤◌, ◌-◌, ℤ, pos, negsuc, ◌+ℤ◌, ◌*ℤ◌, ◌≤ℤ◌, ◌<ℤ◌, Bool, true, false, arith}
+use Rattle.std.proofs.Common.{◌≡◌, ◌∙◌, sym, ap, subst, inl, inr, ◌⊎◌, ℕ, zero, suc, ◌<◌, ◌≤◌, ◌-◌, ℤ, pos, negsuc, ◌+ℤ◌, ◌*ℤ◌, ◌≤ℤ◌, Bool, true, false, arith}
 use Rattle.std.specs.Prelude.{◌*◌, max, min, if◌then◌else◌}
 use Rattle.std.specs.Int.{int_max, int_min}
 use Rattle.std.proofs.Math.IntN.{negsuc-*ℤ-pos, pos-*ℤ-pos}
@@ -116,8 +116,10 @@ module _ (x0 x x1 y0 y y1 : ℕ) (left : x0 ≤ x) (right : x ≤ x1) (low : y0 
   fixed s = (min_of s.low s.low s.low s.low s.low (inl (inl (omega (arith, ints)))), max_of s.high s.high s.high s.high s.high (inl (inl (omega (arith, ints)))))
 
   single : (l : Line) → Holds4 (λ u v. one_place (line_at l (pos u) (pos v)))
-  single l = (min_of (at l x0 y0) (at l x1 y0) (at l x0 y1) (at l x1 y1) (at l x y) (plain_low l),
-      max_of (at l x0 y0 +ℤ pos 1) (at l x1 y0 +ℤ pos 1) (at l x0 y1 +ℤ pos 1) (at l x1 y1 +ℤ pos 1) (at l x y +ℤ pos 1) (some_high l (pos 1)))
+  single l = (
+    min_of (at l x0 y0) (at l x1 y0) (at l x0 y1) (at l x1 y1) (at l x y) (plain_low l),
+    max_of (at l x0 y0 +ℤ pos 1) (at l x1 y0 +ℤ pos 1) (at l x0 y1 +ℤ pos 1) (at l x1 y1 +ℤ pos 1) (at l x y +ℤ pos 1) (some_high l (pos 1)),
+  )
 
   pair : (l m : Line) → Holds4 (λ u v. record { low = line_at l (pos u) (pos v); high = line_at m (pos u) (pos v) })
   pair l m = (min_of (at l x0 y0) (at l x1 y0) (at l x0 y1) (at l x1 y1) (at l x y) (plain_low l), max_of (at m x0 y0) (at m x1 y0) (at m x0 y1) (at m x1 y1) (at m x y) (plain_high m))

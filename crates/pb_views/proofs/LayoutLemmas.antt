@@ -1,19 +1,9 @@
 -- Matrices one after the other.
-use Rattle.std.proofs.Common.{◌≡◌, ◌∙◌, refl, sym, ap, subst, ℕ, zero, suc, ◌+◌, ◌*◌, ◌≤◌, ◌<◌, ◌^◌, ℤ, pos, negsuc, List, [], ◌∷◌, ◌++◌, length, map, take, take_all, drop, slice_get, get_or, Some, arith}
-use Rattle.std.specs.Prelude.{filter, int_le}
+use Rattle.std.proofs.Common.{◌≡◌, ◌∙◌, refl, sym, ap, subst, ℕ, zero, suc, ◌+◌, ◌≤◌, ◌<◌, List, [], ◌∷◌, ◌++◌, length, take, take_all, get_or, arith}
 use Rattle.std.proofs.Math.Seq.{take-suc}
-use Rattle.std.specs.List.{All, flat_map, range_with_len}
-use Rattle.std.specs.Option.{option_map_or}
-use Rattle.pb_linear.specs.Numbers.{exact_value}
-use Rattle.pb_values.specs.Views.{Shows, cell_of}
 use Rattle.pb_values.specs.declared.view.View.{View}
-use Rattle.pb_program.specs.Areas.{Area, Span, from_start}
 use Rattle.pb_program.specs.Forms.{DeclValue}
-use Rattle.pb_model.specs.Calls.{cells_from, matrix_cells, whole_area}
-use Rattle.pb_model.specs.Cells.{Cell, cells_of, natural, numbers_of}
-use Rattle.pb_views.specs.Layouts.{AreInARow, HasShortSides, IsWhole, area_at, cell_count, shape_of}
-use Rattle.pb_views.specs.Windows.{number_in}
-use Rattle.pb_views.proofs.WindowLemmas.{map_flat, map_both, flat_both}
+use Rattle.pb_views.specs.Layouts.{AreInARow, IsWhole, area_at, cell_count}
 
 module _ (sizes : List ℕ) where
   count_more : (ds : List DeclValue) (d : DeclValue) → cell_count sizes (ds ++ d ∷ []) ≡ cell_count sizes ds + area_at sizes d

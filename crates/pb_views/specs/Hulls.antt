@@ -1,5 +1,5 @@
 -- The box of what a view shows for the cells of a part.
-use Rattle.std.specs.Prelude.{ℕ, ◌-◌, ℤ, pos}
+use Rattle.std.specs.Prelude.{ℕ, ◌-◌, pos}
 use Rattle.std.specs.Int.{int_max, int_min}
 use Rattle.pb_values.specs.declared.rect.Rect.{Rect}
 use Rattle.pb_values.specs.declared.view.View.{View}

@@ -1,5 +1,4 @@
-use Rattle.std.proofs.Common.{◌≡◌, ◌++◌, map, take, List, []}
-use Rattle.std.specs.Prelude.{◌==◌, filter}
+use Rattle.std.proofs.Common.{◌≡◌, ◌++◌, map, take}
 use Rattle.pb_program.specs.Trees.{bare_transform}
 use Rattle.pb_frame.specs.Frames.{block_job}
 use Rattle.pb_frame.proofs.blocks.add_jobs.Given as goal

@@ -1,5 +1,5 @@
-use Rattle.std.proofs.Common.{◌≡◌, ◌++◌, map, take, List, []}
-use Rattle.std.specs.Prelude.{◌==◌, filter}
+use Rattle.std.proofs.Common.{◌≡◌, map, take}
+use Rattle.std.specs.Prelude.{filter}
 use Rattle.pb_program.specs.Trees.{bare_transform}
 use Rattle.pb_frame.specs.Frames.{is_block_part, within}
 use Rattle.pb_frame.proofs.blocks.block_parts.Given as goal

@@ -1,5 +1,4 @@
-use Rattle.std.proofs.Common.{◌≡◌, ◌++◌, map, take, List, []}
-use Rattle.std.specs.Prelude.{◌==◌, filter}
+use Rattle.std.proofs.Common.{◌≡◌, ◌++◌, map, take}
 use Rattle.pb_frame.proofs.blocks.list_blocks.Given as goal
 
 abbrev pub invariant-loop-square : goal.invariant-loop-square

@@ -1,4 +1,4 @@
-use Rattle.std.proofs.Common.{◌≡◌, ◌∙◌, ap, get_or, max}
+use Rattle.std.proofs.Common.{◌∙◌, ap, get_or, max}
 use Rattle.pb_frame.specs.declared.part.FramePart.{FramePart}
 use Rattle.pb_frame.proofs.SizeLemmas.{greatest_step}
 use Rattle.pb_frame.proofs.blocks.top_x.Goals as goal

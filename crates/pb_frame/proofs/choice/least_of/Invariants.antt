@@ -1,5 +1,5 @@
-use Rattle.std.proofs.Common.{◌≡◌, ◌++◌, map, take, List, []}
-use Rattle.std.specs.Prelude.{◌==◌, filter}
+use Rattle.std.proofs.Common.{◌≡◌, take}
+use Rattle.std.specs.Prelude.{filter}
 use Rattle.pb_program.specs.Trees.{bare_transform}
 use Rattle.pb_check.specs.Sites.{is_least}
 use Rattle.pb_frame.proofs.choice.least_of.Given as goal

@@ -1,4 +1,4 @@
-use Rattle.std.proofs.Common.{◌≡◌, ◌∙◌, ◌&&◌, List, ap, sym}
+use Rattle.std.proofs.Common.{◌≡◌, ◌∙◌, ◌&&◌, ap, sym}
 use Rattle.std.specs.List.{list_all}
 use Rattle.pb_linear.specs.Sizes.{sizes_of}
 use Rattle.pb_program.specs.Conditions.{view_conditions, written}

@@ -1,11 +1,9 @@
-use Rattle.std.proofs.Common.{◌≡◌, ◌∙◌, ◌&&◌, List, [], ap, sym}
+use Rattle.std.proofs.Common.{◌≡◌, ◌∙◌, ◌&&◌, [], ap, sym}
 use Rattle.std.specs.Prelude.{◌==◌, if◌then◌else◌}
 use Rattle.std.specs.List.{list_all}
-use Rattle.pb_linear.specs.Form.{numbers}
 use Rattle.pb_linear.specs.Sizes.{sizes_of}
-use Rattle.pb_program.specs.Conditions.{by_view, region_conditions}
+use Rattle.pb_program.specs.Conditions.{region_conditions}
 use Rattle.pb_program.specs.Forms.{DeclValue}
-use Rattle.pb_program.specs.declared.view.ReadView.TheVariants as view
 use Rattle.pb_frame.specs.Choices.{is_met}
 use Rattle.pb_frame.proofs.GuardLemmas.{all_append}
 use Rattle.pb_frame.proofs.guard.meets_rect.Goals as goal

@@ -1,5 +1,4 @@
-use Rattle.std.proofs.Common.{◌≡◌, ◌∙◌, ap, get_or, length, map, max, take, List, ℕ, sym}
-use Rattle.pb_frame.specs.Frames.{greatest}
+use Rattle.std.proofs.Common.{◌∙◌, ap, get_or, max}
 use Rattle.pb_frame.proofs.SizeLemmas.{greatest_plain}
 use Rattle.pb_frame.proofs.parts.greatest_of.Goals as goal
 

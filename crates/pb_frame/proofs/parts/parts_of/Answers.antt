@@ -1,9 +1,8 @@
-use Rattle.std.proofs.Common.{◌≡◌, ◌∙◌, List, ap, length, map, subst, sym, take, arith}
-use Rattle.std.specs.Prelude.{Some, filter, slice_get}
-use Rattle.std.specs.List.{enumerate_from}
+use Rattle.std.proofs.Common.{◌≡◌, List, ap, length, subst, arith}
+use Rattle.std.specs.Prelude.{Some, slice_get}
 use Rattle.pb_graph.specs.Nodes.{NodeValue}
 use Rattle.pb_graph.proofs.NumberedLemmas.{at_index, numbered_end}
-use Rattle.pb_frame.specs.Frames.{has_cell, part_of, parts_of}
+use Rattle.pb_frame.specs.Frames.{has_cell, part_of}
 use Rattle.pb_frame.proofs.ListLemmas.{numbered_if}
 use Rattle.std.proofs.lemmas.List.{length-map}
 use Rattle.pb_linear.specs.Sizes.{sizes_of}

@@ -1,19 +1,11 @@
-use Rattle.std.proofs.Common.{◌≡◌, ◌∙◌, ◌++◌, ℕ, List, [], ap, get_or, length, map, refl, subst, sym, take, arith}
-use Rattle.std.specs.Prelude.{None, Some, false, slice_get}
-use Rattle.std.specs.List.{All, enumerate_from, flat_map, range_with_len}
-use Rattle.std.proofs.lemmas.List.{length-map}
-use Rattle.std.proofs.lemmas.List.FromFn.{length-range_with_len}
+use Rattle.std.proofs.Common.{◌∙◌, List, [], ap, get_or, length, map, arith}
+use Rattle.std.specs.Prelude.{None, false}
 use Rattle.std.proofs.lemmas.Option.{slice_get-get_or}
-use Rattle.pb_linear.specs.Sizes.{sizes_of}
 use Rattle.pb_graph.specs.Layerings.{LayerValue, LayeringValue}
-use Rattle.pb_graph.proofs.NumberedLemmas.{at_index}
-use Rattle.pb_program.specs.Trees.{bare_rule, bare_transform}
-use Rattle.pb_check.proofs.FirstLemmas.{some_same}
-use Rattle.pb_frame.specs.Frames.{block_job, blocks, chosen_wides, in_layer, layer_jobs, parts_of, wide_job}
+use Rattle.pb_program.specs.Trees.{bare_transform}
+use Rattle.pb_frame.specs.Frames.{blocks, chosen_wides, in_layer, layer_jobs}
 use Rattle.pb_frame.specs.declared.part.FramePart.{FramePart}
-use Rattle.pb_frame.proofs.LayerLemmas.{at_of}
-use Rattle.pb_frame.proofs.ListLemmas.{flat_after, flat_all, on_ok}
-use Rattle.pb_frame.proofs.PartLemmas.{few_layers, part_below, part_inside, rules_few}
+use Rattle.pb_frame.proofs.ListLemmas.{flat_after, flat_all}
 use Rattle.pb_frame.proofs.tasks.add_layers.Goals as goal
 
 pub loop-l-preserved : goal.loop-l-preserved

@@ -1,17 +1,12 @@
-use Rattle.std.proofs.Common.{◌≡◌, ◌∙◌, ◌++◌, ℕ, List, [], ap, get_or, length, map, refl, subst, sym, take, arith}
-use Rattle.std.specs.Prelude.{None, Some, false, slice_get, slice_index, ◌<◌}
-use Rattle.std.specs.List.{All, enumerate_from, flat_map, range_with_len}
+use Rattle.std.proofs.Common.{◌∙◌, ℕ, List, ap, length, map, subst, sym, arith}
+use Rattle.std.specs.Prelude.{slice_index, ◌<◌}
+use Rattle.std.specs.List.{All, enumerate_from, flat_map}
 use Rattle.std.proofs.lemmas.List.{length-map}
-use Rattle.std.proofs.lemmas.List.FromFn.{length-range_with_len}
-use Rattle.std.proofs.lemmas.Option.{slice_get-get_or}
 use Rattle.pb_linear.specs.Sizes.{sizes_of}
 use Rattle.pb_graph.specs.Layerings.{LayerValue, LayeringValue}
-use Rattle.pb_graph.proofs.NumberedLemmas.{at_index}
 use Rattle.pb_program.specs.Trees.{bare_rule, bare_transform}
-use Rattle.pb_check.proofs.FirstLemmas.{some_same}
-use Rattle.pb_frame.specs.Frames.{block_job, blocks, chosen_wides, in_layer, layer_jobs, parts_of, wide_job}
+use Rattle.pb_frame.specs.Frames.{blocks, chosen_wides, in_layer, layer_jobs, parts_of}
 use Rattle.pb_frame.specs.declared.part.FramePart.{FramePart}
-use Rattle.pb_frame.proofs.LayerLemmas.{at_of}
 use Rattle.pb_frame.proofs.ListLemmas.{from_empty}
 use Rattle.pb_frame.proofs.PartLemmas.{few_layers, part_below, part_inside, rules_few}
 use Rattle.pb_frame.proofs.tasks.frame_of.Goals as goal

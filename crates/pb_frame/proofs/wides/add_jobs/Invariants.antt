@@ -1,5 +1,4 @@
-use Rattle.std.proofs.Common.{◌≡◌, ◌++◌, map, take, List, []}
-use Rattle.std.specs.Prelude.{◌==◌, filter}
+use Rattle.std.proofs.Common.{◌≡◌, ◌++◌, map, take}
 use Rattle.pb_frame.specs.Frames.{wide_job}
 use Rattle.pb_frame.proofs.wides.add_jobs.Given as goal
 

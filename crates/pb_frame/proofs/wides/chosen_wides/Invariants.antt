@@ -1,4 +1,4 @@
-use Rattle.std.proofs.Common.{◌≡◌, ◌++◌, map, take, List, []}
+use Rattle.std.proofs.Common.{◌≡◌}
 use Rattle.std.specs.Prelude.{◌==◌, filter}
 use Rattle.pb_frame.specs.declared.part.FramePart.{FramePart}
 use Rattle.std.proofs.Common.{◌&&◌}

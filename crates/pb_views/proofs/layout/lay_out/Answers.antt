@@ -1,4 +1,4 @@
-use Rattle.std.proofs.Common.{◌≡◌, ◌+◌, ◌*◌, ◌≤◌, ap, subst, sym, arith}
+use Rattle.std.proofs.Common.{◌+◌, ◌*◌, ap, subst, arith}
 use Rattle.pb_linear.specs.Sizes.{sizes_of}
 use Rattle.pb_values.specs.Views.{Shows}
 use Rattle.pb_values.specs.declared.shape.Shape.{Shape}
@@ -27,7 +27,7 @@ loop-decl-preserved c =
     record {
       next = omega (arith, c.loop-decl.invariant.next, c.cells-next.ensures, ap (λ (s : Shape). s.w * s.h) c.shape_of-shape.ensures, next);
       laid = laid_next sizes c.args.first c.args.decls.now c.loop-decl.decl-index decl c.loop-decl-test.true c.decl-item.is c.loop-decl.views.items _ c.whole.result c.loop-decl.next c.loop-decl.invariant.next c.loop-decl.invariant.laid c.in_ok-push.ensures.items
-      (subst (λ (s : Shape). Shows c.whole.result s (λ x y. c.loop-decl.next + (y * s.w + x))) c.shape_of-shape.ensures c.whole.ensures);
+          (subst (λ (s : Shape). Shows c.whole.result s (λ x y. c.loop-decl.next + (y * s.w + x))) c.shape_of-shape.ensures c.whole.ensures);
     }
 
 pub returns : goal.returns
