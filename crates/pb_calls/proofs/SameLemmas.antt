@@ -42,15 +42,15 @@ guards_anywhere (c ∷ cs) sizes x y u v h =
     (all_filter (Holds sizes u v) is_guarding (is_guarding c) c cs refl).1 (λ free. guard_anywhere c sizes x y u v free (here.0 free), guards_anywhere cs sizes x y u v here.1)
 
 -- ---- lists by their members
-some_member : {A : Type 0} (xs : List A) → xs ≢ [] → (x : A) × Contains xs x
+pub some_member : {A : Type 0} (xs : List A) → xs ≢ [] → (x : A) × Contains xs x
 some_member [] other = absurd (other refl)
 some_member (x ∷ xs) other = (x, in_head x xs)
 
-same_filter : {A : Type 0} (p q : A → Bool) (xs : List A) → ((x : A) → Contains xs x → p x ≡ q x) → filter p xs ≡ filter q xs
+pub same_filter : {A : Type 0} (p q : A → Bool) (xs : List A) → ((x : A) → Contains xs x → p x ≡ q x) → filter p xs ≡ filter q xs
 same_filter p q [] same = refl
 same_filter p q (x ∷ xs) same = rw (same x (in_head x xs), same_filter p q xs (λ y h. same y (in_tail x y xs h))) refl
 
-same_test : (a b : Bool) → (a ≡ true → b ≡ true) → (b ≡ true → a ≡ true) → a ≡ b
+pub same_test : (a b : Bool) → (a ≡ true → b ≡ true) → (b ≡ true → a ≡ true) → a ≡ b
 same_test true b to from = sym (to refl)
 same_test false true to from = from refl
 same_test false false to from = refl

@@ -1,2 +1,4 @@
 pub mod CellLemmas
+pub mod HullLemmas
+pub mod LayoutLemmas
 pub mod WindowLemmas

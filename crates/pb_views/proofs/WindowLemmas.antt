@@ -41,15 +41,15 @@ module _ (r : Read) (sizes : List ℕ) (w : Window) (h : IsWindow r sizes w) (d 
       λ i. record { x = record { low = e0 i; high = e1 i }; y = ey i }
   area_is view.Whole = λ i. record { x = from_start (ew i); y = from_start (eh i) }
 
-map_flat : {A B : Type 0} (f : A → B) (g : ℕ → List A) (ks : List ℕ) → map f (flat_map g ks) ≡ flat_map (λ k. map f (g k)) ks
+pub map_flat : {A B : Type 0} (f : A → B) (g : ℕ → List A) (ks : List ℕ) → map f (flat_map g ks) ≡ flat_map (λ k. map f (g k)) ks
 map_flat f g [] = refl
 map_flat f g (k ∷ ks) = map-append f (g k) (flat_map g ks) ∙ ap (λ l. map f (g k) ++ l) (map_flat f g ks)
 
-map_both : {A B : Type 0} (f : A → B) (g : ℕ → A) (h : ℕ → B) → ((k : ℕ) → f (g k) ≡ h k) → (ks : List ℕ) → map f (map g ks) ≡ map h ks
+pub map_both : {A B : Type 0} (f : A → B) (g : ℕ → A) (h : ℕ → B) → ((k : ℕ) → f (g k) ≡ h k) → (ks : List ℕ) → map f (map g ks) ≡ map h ks
 map_both f g h same [] = refl
 map_both f g h same (k ∷ ks) = rw (same k, map_both f g h same ks) refl
 
-flat_both : {B : Type 0} (g h : ℕ → List B) → ((k : ℕ) → g k ≡ h k) → (ks : List ℕ) → flat_map g ks ≡ flat_map h ks
+pub flat_both : {B : Type 0} (g h : ℕ → List B) → ((k : ℕ) → g k ≡ h k) → (ks : List ℕ) → flat_map g ks ≡ flat_map h ks
 flat_both g h same [] = refl
 flat_both g h same (k ∷ ks) = rw (same k, flat_both g h same ks) refl
 

@@ -1,2 +1,4 @@
+pub mod Hulls
+pub mod Layouts
 pub mod Lines
 pub mod Windows

@@ -6,10 +6,13 @@
 #![tactic(auto)]
 
 mod coordinate;
+mod hull;
 mod laws;
+mod layout;
 mod line;
 mod window;
 
-pub use laws::a_window_shows_what_is_read;
+pub use laws::{a_window_shows_what_is_read, what_a_part_reads_lies_in_its_box};
+pub use layout::{lay_out, shape_of};
 pub use line::Line;
 pub use window::Window;

@@ -128,4 +128,55 @@ impl Window {
             ReadView::Whole => *matrix,
         }
     }
+
+    /// The places that the view shows of a matrix, as `show` does.
+    pub fn rect(&self, matrix: &View, x: u64, y: u64) -> Rect
+        requires x { x ≤ 2 ^ 23 }
+        requires y { y ≤ 2 ^ 23 }
+        requires within { IsWithin (shown_by self.now matrix.now x y self.now.view) (pos matrix.now.shape.w) (pos matrix.now.shape.h) }
+        ensures { IsRect (shown_by self.now matrix.now x y self.now.view) result }
+    {
+        match self.view {
+            ReadView::Cell => self.cell_rect(x, y),
+            ReadView::Row => self.row_rect(matrix, x, y),
+            ReadView::Column => self.column_rect(matrix, x, y),
+            ReadView::Region => self.region_rect(x, y),
+            ReadView::Whole => Rect {
+                x0: 0,
+                y0: 0,
+                x1: matrix.shape.w,
+                y1: matrix.shape.h,
+            },
+        }
+    }
+
+    fn row_rect(&self, matrix: &View, x: u64, y: u64) -> Rect
+        requires x { x ≤ 2 ^ 23 }
+        requires y { y ≤ 2 ^ 23 }
+        requires within { IsWithin (shown_by self.now matrix.now x y view.Row) (pos matrix.now.shape.w) (pos matrix.now.shape.h) }
+        ensures { IsRect (shown_by self.now matrix.now x y view.Row) result }
+    {
+        let row = self.y0.place(x, y);
+        Rect {
+            x0: 0,
+            y0: row,
+            x1: matrix.shape.w,
+            y1: row + 1,
+        }
+    }
+
+    fn column_rect(&self, matrix: &View, x: u64, y: u64) -> Rect
+        requires x { x ≤ 2 ^ 23 }
+        requires y { y ≤ 2 ^ 23 }
+        requires within { IsWithin (shown_by self.now matrix.now x y view.Column) (pos matrix.now.shape.w) (pos matrix.now.shape.h) }
+        ensures { IsRect (shown_by self.now matrix.now x y view.Column) result }
+    {
+        let column = self.x0.place(x, y);
+        Rect {
+            x0: column,
+            y0: 0,
+            x1: column + 1,
+            y1: matrix.shape.h,
+        }
+    }
 }

@@ -1,0 +1,7 @@
+use Rattle.std.proofs.Common.{◌≡◌, map, take}
+use Rattle.pb_frame.specs.declared.part.FramePart.{FramePart}
+use Rattle.pb_frame.specs.Frames.{greatest}
+use Rattle.pb_frame.proofs.blocks.top_y.Given as goal
+
+abbrev pub invariant-loop-part : goal.invariant-loop-part
+invariant-loop-part l = l.top ≡ greatest (map (λ (part : FramePart). part.rect.y1) (take l.part-index l.parts))
