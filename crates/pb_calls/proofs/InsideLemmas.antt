@@ -1,10 +1,13 @@
 -- What a rule reads lies inside the matrices.
-use Rattle.std.proofs.Common.{◌≡◌, ◌∙◌, refl, sym, ap, subst, ⊎_elim, ℕ, pos, Bool, true, false, List, [], ◌∷◌, ◌++◌, length, slice_get, Some, arith}
+use Rattle.std.proofs.Common.{◌≡◌, ◌∙◌, refl, sym, ap, subst, ⊎_elim, ℕ, ℤ, pos, Bool, true, false, List, [], ◌∷◌, ◌++◌, length, slice_get, Some, arith}
 use Rattle.std.specs.Prelude.{◌==◌}
 use Rattle.std.specs.List.{Contains, flat_map}
 use Rattle.std.specs.Option.{option_map_or}
 use Rattle.std.proofs.lemmas.Bool.{eqb-true}
 use Rattle.std.proofs.lemmas.Int.{ints}
+use Rattle.pb_linear.specs.Numbers.{exact_value}
+use Rattle.pb_linear.specs.Sizes.{InRange, leasts_of}
+use Rattle.pb_program.specs.Areas.{area_of}
 use Rattle.pb_program.specs.Conditions.{Applies}
 use Rattle.pb_program.specs.Forms.{DeclValue}
 use Rattle.pb_program.specs.Trees.{ProgRule, ProgTransform}
@@ -15,6 +18,7 @@ use Rattle.pb_types.specs.Types.{body_broken, rule_broken, transform_broken}
 use Rattle.pb_types.specs.Views.{view_broken}
 use Rattle.pb_region.proofs.SmallLemmas.{at_place}
 use Rattle.pb_region.proofs.WithinLemmas.{reads_within}
+use Rattle.pb_region.specs.Within.{IsWithin}
 use Rattle.pb_model.specs.Cells.{Cell, IsCell, ReadsCell}
 use Rattle.pb_model.specs.Lawful.{lawful}
 use Rattle.pb_model.proofs.LawfulLemmas.{lawful_in}
@@ -55,6 +59,15 @@ module _ (p : List ProgTransform) (number : ℕ) (t : ProgTransform) (sizes : Li
       let views = none_left (flat_map (view_broken t.matrices) rule.outs ++ flat_map (view_broken t.matrices) rule.reads) (body_broken p rule.kind rule) of_rule in
       none_each (view_broken t.matrices) rule.reads r (none_right (flat_map (view_broken t.matrices) rule.outs) (flat_map (view_broken t.matrices) rule.reads) views) declared
 
+  -- where a rule applies, each of its views lies within its matrix
+  pub view_within : (k : ℕ) (rule : ProgRule) → slice_get t.rules k ≡ Some rule → (j : ℕ) (r : Read) (d : DeclValue) → slice_get rule.reads j ≡ Some r → slice_get t.matrices r.matrix ≡ Some d → InRange (leasts_of t.ranges) sizes
+      → (x y : ℤ) → Applies t.matrices rule sizes x y → IsWithin (area_of sizes x y r d) (exact_value d.w sizes) (exact_value d.h sizes)
+  view_within k rule there j r d place decl range x y applies =
+      let fits = at_place (IsTransform (length p)) p number t well.transforms at in
+      let is = at_place (IsDecl (length t.sizes)) t.matrices r.matrix d fits.matrices decl in
+      let dims = dims_by t.matrices r d decl (view_right k rule there r (in_at rule.reads j r place)) in
+      reads_within t rule j (length t.sizes) r d (all_at IsBounded p number t sound.bounded at).sides is place decl dims sizes range x y applies
+
   pub reads_inside : (c : Cell) (k : ℕ) (rule : ProgRule) → IsCell t sizes c → Contains (lawful t sizes c) k → slice_get t.rules k ≡ Some rule → (shown : Cell) → ReadsCell t.matrices sizes c rule shown → IsCell t sizes shown
   reads_inside c k rule cell may there shown reads =
       let d = reads.shows.decl in
@@ -62,11 +75,7 @@ module _ (p : List ProgTransform) (number : ℕ) (t : ProgTransform) (sizes : Li
       let lawful = lawful_in t sizes c k may in
       let same : lawful.rule ≡ rule = some_same lawful.rule rule (sym lawful.there ∙ there) in
       let place = at_in rule.reads r reads.declared in
-      let fits = at_place (IsTransform (length p)) p number t well.transforms at in
-      let decl = at_place (IsDecl (length t.sizes)) t.matrices r.matrix d fits.matrices reads.shows.there in
-      let dims = dims_by t.matrices r d reads.shows.there (view_right k rule there r reads.declared) in
-      let sides = (all_at IsBounded p number t sound.bounded at).sides in
-      let within = reads_within t rule place.0 (length t.sizes) r d sides decl place.1 reads.shows.there dims sizes cell.in_range (pos c.x) (pos c.y) (subst (λ (q : ProgRule). Applies t.matrices q sizes (pos c.x) (pos c.y)) same lawful.can.applies) in
+      let within = view_within k rule there place.0 r d place.1 reads.shows.there cell.in_range (pos c.x) (pos c.y) (subst (λ (q : ProgRule). Applies t.matrices q sizes (pos c.x) (pos c.y)) same lawful.can.applies) in
       let inside = reads.shows.inside in
       record {
         in_range = cell.in_range;

@@ -1,0 +1,11 @@
+//! The places that the jobs of an instance make and read.
+//!
+//! In: what an instance makes, as `pb_frame::frame` says, and the views of its matrices. Out: for each job the rectangles that
+//! it makes and those that it reads. The theorems: `each_cell_is_made_once`, `predecessors_stand_before` and
+//! `what_is_read_is_made_before`.
+#![tactic(auto)]
+
+mod boxes;
+mod jobs;
+
+pub use jobs::places;
