@@ -1,1 +1,5 @@
 pub mod BoxLemmas
+pub mod FlatLemmas
+pub mod JobLemmas
+pub mod MadeLemmas
+pub mod RiseLemmas

@@ -7,5 +7,7 @@
 
 mod boxes;
 mod jobs;
+mod laws;
 
 pub use jobs::places;
+pub use laws::scratch;

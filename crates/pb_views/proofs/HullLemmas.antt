@@ -61,15 +61,15 @@ times_between (negsuc n) lo x hi from to = inr (omega (arith, ints, negsuc-*ℤ-
 
 module _ (x0 x x1 y0 y y1 : ℕ) (left : x0 ≤ x) (right : x ≤ x1) (low : y0 ≤ y) (high : y ≤ y1) where
   -- a line at a place, and at the corners
-  module _ (l : Line) where
+  module _ (lx ly lr : ℤ) where
     abbrev at : ℕ → ℕ → ℤ
-    at u v = line_at l (pos u) (pos v)
+    at u v = lr +ℤ (lx *ℤ pos u +ℤ ly *ℤ pos v)
 
     some_low : (k : ℤ) → Some4 (λ c. c ≤ℤ (at x y +ℤ k)) (at x0 y0 +ℤ k) (at x1 y0 +ℤ k) (at x0 y1 +ℤ k) (at x1 y1 +ℤ k)
-    some_low k = by (times_between l.x x0 x x1 left right) (times_between l.y y0 y y1 low high)
+    some_low k = by (times_between lx x0 x x1 left right) (times_between ly y0 y y1 low high)
       where
-        by : (((l.x *ℤ pos x0) ≤ℤ (l.x *ℤ pos x)) × ((l.x *ℤ pos x) ≤ℤ (l.x *ℤ pos x1))) ⊎ (((l.x *ℤ pos x1) ≤ℤ (l.x *ℤ pos x)) × ((l.x *ℤ pos x) ≤ℤ (l.x *ℤ pos x0)))
-            → (((l.y *ℤ pos y0) ≤ℤ (l.y *ℤ pos y)) × ((l.y *ℤ pos y) ≤ℤ (l.y *ℤ pos y1))) ⊎ (((l.y *ℤ pos y1) ≤ℤ (l.y *ℤ pos y)) × ((l.y *ℤ pos y) ≤ℤ (l.y *ℤ pos y0)))
+        by : (((lx *ℤ pos x0) ≤ℤ (lx *ℤ pos x)) × ((lx *ℤ pos x) ≤ℤ (lx *ℤ pos x1))) ⊎ (((lx *ℤ pos x1) ≤ℤ (lx *ℤ pos x)) × ((lx *ℤ pos x) ≤ℤ (lx *ℤ pos x0)))
+            → (((ly *ℤ pos y0) ≤ℤ (ly *ℤ pos y)) × ((ly *ℤ pos y) ≤ℤ (ly *ℤ pos y1))) ⊎ (((ly *ℤ pos y1) ≤ℤ (ly *ℤ pos y)) × ((ly *ℤ pos y) ≤ℤ (ly *ℤ pos y0)))
             → Some4 (λ c. c ≤ℤ (at x y +ℤ k)) (at x0 y0 +ℤ k) (at x1 y0 +ℤ k) (at x0 y1 +ℤ k) (at x1 y1 +ℤ k)
         by (inl (a, b)) (inl (c, d)) = inl (inl (omega (arith, ints, a, c)))
         by (inr (a, b)) (inl (c, d)) = inl (inr (omega (arith, ints, a, c)))
@@ -77,10 +77,10 @@ module _ (x0 x x1 y0 y y1 : ℕ) (left : x0 ≤ x) (right : x ≤ x1) (low : y0 
         by (inr (a, b)) (inr (c, d)) = inr (inr (omega (arith, ints, a, c)))
 
     some_high : (k : ℤ) → Some4 (λ c. (at x y +ℤ k) ≤ℤ c) (at x0 y0 +ℤ k) (at x1 y0 +ℤ k) (at x0 y1 +ℤ k) (at x1 y1 +ℤ k)
-    some_high k = by (times_between l.x x0 x x1 left right) (times_between l.y y0 y y1 low high)
+    some_high k = by (times_between lx x0 x x1 left right) (times_between ly y0 y y1 low high)
       where
-        by : (((l.x *ℤ pos x0) ≤ℤ (l.x *ℤ pos x)) × ((l.x *ℤ pos x) ≤ℤ (l.x *ℤ pos x1))) ⊎ (((l.x *ℤ pos x1) ≤ℤ (l.x *ℤ pos x)) × ((l.x *ℤ pos x) ≤ℤ (l.x *ℤ pos x0)))
-            → (((l.y *ℤ pos y0) ≤ℤ (l.y *ℤ pos y)) × ((l.y *ℤ pos y) ≤ℤ (l.y *ℤ pos y1))) ⊎ (((l.y *ℤ pos y1) ≤ℤ (l.y *ℤ pos y)) × ((l.y *ℤ pos y) ≤ℤ (l.y *ℤ pos y0)))
+        by : (((lx *ℤ pos x0) ≤ℤ (lx *ℤ pos x)) × ((lx *ℤ pos x) ≤ℤ (lx *ℤ pos x1))) ⊎ (((lx *ℤ pos x1) ≤ℤ (lx *ℤ pos x)) × ((lx *ℤ pos x) ≤ℤ (lx *ℤ pos x0)))
+            → (((ly *ℤ pos y0) ≤ℤ (ly *ℤ pos y)) × ((ly *ℤ pos y) ≤ℤ (ly *ℤ pos y1))) ⊎ (((ly *ℤ pos y1) ≤ℤ (ly *ℤ pos y)) × ((ly *ℤ pos y) ≤ℤ (ly *ℤ pos y0)))
             → Some4 (λ c. (at x y +ℤ k) ≤ℤ c) (at x0 y0 +ℤ k) (at x1 y0 +ℤ k) (at x0 y1 +ℤ k) (at x1 y1 +ℤ k)
         by (inl (a, b)) (inl (c, d)) = inr (inr (omega (arith, ints, b, d)))
         by (inr (a, b)) (inl (c, d)) = inr (inl (omega (arith, ints, b, d)))
@@ -106,25 +106,23 @@ module _ (x0 x x1 y0 y y1 : ℕ) (left : x0 ≤ x) (right : x ≤ x1) (low : y0 
         drop_zero (inr (inr h)) = inr (inr (omega (arith, ints, h)))
 
   -- ---- spans
-  abbrev four : (ℕ → ℕ → Span) → Span
+  abbrev pub four : (ℕ → ℕ → Span) → Span
   four s = joined_span (joined_span (s x0 y0) (s x1 y0)) (joined_span (s x0 y1) (s x1 y1))
 
-  abbrev Holds4 : (ℕ → ℕ → Span) → Type 0
+  abbrev pub Holds4 : (ℕ → ℕ → Span) → Type 0
   Holds4 s = ((four s).low ≤ℤ (s x y).low) × ((s x y).high ≤ℤ (four s).high)
 
-  fixed : (s : Span) → Holds4 (λ u v. s)
+  pub fixed : (s : Span) → Holds4 (λ u v. s)
   fixed s = (min_of s.low s.low s.low s.low s.low (inl (inl (omega (arith, ints)))), max_of s.high s.high s.high s.high s.high (inl (inl (omega (arith, ints)))))
 
-  single : (l : Line) → Holds4 (λ u v. one_place (line_at l (pos u) (pos v)))
-  single l = (
-    min_of (at l x0 y0) (at l x1 y0) (at l x0 y1) (at l x1 y1) (at l x y) (plain_low l),
-    max_of (at l x0 y0 +ℤ pos 1) (at l x1 y0 +ℤ pos 1) (at l x0 y1 +ℤ pos 1) (at l x1 y1 +ℤ pos 1) (at l x y +ℤ pos 1) (some_high l (pos 1)),
-  )
+  pub single : (lx ly lr : ℤ) → Holds4 (λ u v. one_place (lr +ℤ (lx *ℤ pos u +ℤ ly *ℤ pos v)))
+  single lx ly lr = (min_of (at lx ly lr x0 y0) (at lx ly lr x1 y0) (at lx ly lr x0 y1) (at lx ly lr x1 y1) (at lx ly lr x y) (plain_low lx ly lr),
+      max_of (at lx ly lr x0 y0 +ℤ pos 1) (at lx ly lr x1 y0 +ℤ pos 1) (at lx ly lr x0 y1 +ℤ pos 1) (at lx ly lr x1 y1 +ℤ pos 1) (at lx ly lr x y +ℤ pos 1) (some_high lx ly lr (pos 1)))
 
-  pair : (l m : Line) → Holds4 (λ u v. record { low = line_at l (pos u) (pos v); high = line_at m (pos u) (pos v) })
-  pair l m = (min_of (at l x0 y0) (at l x1 y0) (at l x0 y1) (at l x1 y1) (at l x y) (plain_low l), max_of (at m x0 y0) (at m x1 y0) (at m x0 y1) (at m x1 y1) (at m x y) (plain_high m))
+  pub pair : (lx ly lr mx my mr : ℤ) → Holds4 (λ u v. record { low = lr +ℤ (lx *ℤ pos u +ℤ ly *ℤ pos v); high = mr +ℤ (mx *ℤ pos u +ℤ my *ℤ pos v) })
+  pair lx ly lr mx my mr = (min_of (at lx ly lr x0 y0) (at lx ly lr x1 y0) (at lx ly lr x0 y1) (at lx ly lr x1 y1) (at lx ly lr x y) (plain_low lx ly lr), max_of (at mx my mr x0 y0) (at mx my mr x1 y0) (at mx my mr x0 y1) (at mx my mr x1 y1) (at mx my mr x y) (plain_high mx my mr))
 
-  maybe : (b : Bool) (s : ℕ → ℕ → Span) → Holds4 s → Holds4 (λ u v. if b then one_place (pos 0) else s u v)
+  pub maybe : (b : Bool) (s : ℕ → ℕ → Span) → Holds4 s → Holds4 (λ u v. if b then one_place (pos 0) else s u v)
   maybe true s h = fixed (one_place (pos 0))
   maybe false s h = h
 
@@ -133,11 +131,17 @@ module _ (x0 x x1 y0 y y1 : ℕ) (left : x0 ≤ x) (right : x ≤ x1) (low : y0 
     abbrev area : ReadView → ℕ → ℕ → Area
     area by u v = area_by w width height (pos u) (pos v) by
 
+    of : (l : Line) → Holds4 (λ u v. one_place (line_at l (pos u) (pos v)))
+    of l = single l.x l.y l.rest
+
+    both : (l m : Line) → Holds4 (λ u v. record { low = line_at l (pos u) (pos v); high = line_at m (pos u) (pos v) })
+    both l m = pair l.x l.y l.rest m.x m.y m.rest
+
     holds : (by : ReadView) → Holds4 (λ u v. (area by u v).x) × Holds4 (λ u v. (area by u v).y)
-    holds view.Cell = (single w.x0, maybe w.flat (λ u v. one_place (line_at w.y0 (pos u) (pos v))) (single w.y0))
-    holds view.Row = (fixed (from_start width), single w.y0)
-    holds view.Column = (single w.x0, fixed (from_start height))
-    holds view.Region = (pair w.x0 w.x1, maybe w.flat (λ u v. record { low = line_at w.y0 (pos u) (pos v); high = line_at w.y1 (pos u) (pos v) }) (pair w.y0 w.y1))
+    holds view.Cell = (of w.x0, maybe w.flat (λ u v. one_place (line_at w.y0 (pos u) (pos v))) (of w.y0))
+    holds view.Row = (fixed (from_start width), of w.y0)
+    holds view.Column = (of w.x0, fixed (from_start height))
+    holds view.Region = (both w.x0 w.x1, maybe w.flat (λ u v. record { low = line_at w.y0 (pos u) (pos v); high = line_at w.y1 (pos u) (pos v) }) (both w.y0 w.y1))
     holds view.Whole = (fixed (from_start width), fixed (from_start height))
 
 pub in_hull : (w : Window) (matrix : View) (part : Rect) (x y : ℕ) (u v : ℤ) → part.x0 ≤ x → x < part.x1 → part.y0 ≤ y → y < part.y1 → IsIn (shown_by w matrix x y w.view) u v → IsIn (hull_of w matrix part) u v
