@@ -35,7 +35,7 @@ guard_anywhere c sizes x y u v free h =
     let below = (gap_holds c sizes x y).0 h in
     (gap_holds c sizes u v).1 (omega (arith, ints, below, ap (λ k. k *ℤ x) (zero_is g.x parts.0), ap (λ k. k *ℤ y) (zero_is g.y parts.1), ap (λ k. k *ℤ u) (zero_is g.x parts.0), ap (λ k. k *ℤ v) (zero_is g.y parts.1), zero-*ℤ x, zero-*ℤ y, zero-*ℤ u, zero-*ℤ v))
 
-guards_anywhere : (cs : List Condition) (sizes : List ℕ) (x y u v : ℤ) → AllByRecursion (Holds sizes x y) (filter is_guarding cs) → AllByRecursion (Holds sizes u v) (filter is_guarding cs)
+pub guards_anywhere : (cs : List Condition) (sizes : List ℕ) (x y u v : ℤ) → AllByRecursion (Holds sizes x y) (filter is_guarding cs) → AllByRecursion (Holds sizes u v) (filter is_guarding cs)
 guards_anywhere [] sizes x y u v h = tt
 guards_anywhere (c ∷ cs) sizes x y u v h =
     let here = (all_filter (Holds sizes x y) is_guarding (is_guarding c) c cs refl).0 h in

@@ -31,12 +31,12 @@ module _ {A : Type 0} where
   get_right [] ys i = let e : 0 + i ≡ i = omega arith in ap (slice_get ys) e
   get_right (x ∷ xs) ys i = let e : suc (length xs) + i ≡ suc (length xs + i) = omega arith in ap (slice_get (x ∷ (xs ++ ys))) e ∙ get_right xs ys i
 
-at_map : {A B : Type 0} (f : A → B) (xs : List A) (k : ℕ) (x : A) → slice_get xs k ≡ Some x → slice_get (map f xs) k ≡ Some (f x)
+pub at_map : {A B : Type 0} (f : A → B) (xs : List A) (k : ℕ) (x : A) → slice_get xs k ≡ Some x → slice_get (map f xs) k ≡ Some (f x)
 at_map f [] k x e = absurd (cc)
 at_map f (y ∷ xs) zero x e = ap (λ z. Some (f z)) (some_same y x e)
 at_map f (y ∷ xs) (suc k) x e = at_map f xs k x e
 
-map_at : {A B : Type 0} (f : A → B) (xs : List A) (k : ℕ) (y : B) → slice_get (map f xs) k ≡ Some y → (x : A) × (slice_get xs k ≡ Some x) × (f x ≡ y)
+pub map_at : {A B : Type 0} (f : A → B) (xs : List A) (k : ℕ) (y : B) → slice_get (map f xs) k ≡ Some y → (x : A) × (slice_get xs k ≡ Some x) × (f x ≡ y)
 map_at f [] k y e = absurd (cc)
 map_at f (x ∷ xs) zero y e = (x, refl, some_same (f x) y e)
 map_at f (x ∷ xs) (suc k) y e = map_at f xs k y e
@@ -74,7 +74,7 @@ module _ (t : ProgTransform) (order : LayeringValue) (grain : ℕ) (all : List F
   abbrev pub jobs : List JobValue
   jobs = flat_map (λ l. layer_jobs t grain (in_layer order all l.0) l) (enumerate_from 0 order.layers)
 
-  abbrev of_layer : ℕ × LayerValue → List JobValue
+  abbrev pub of_layer : ℕ × LayerValue → List JobValue
   of_layer l = layer_jobs t grain (in_layer order all l.0) l
 
   abbrev wides_in : ℕ → List ℕ
@@ -111,7 +111,7 @@ module _ (t : ProgTransform) (order : LayeringValue) (grain : ℕ) (all : List F
   earlier_layer i j a b p q less =
       omega (arith, p.at, q.at, start_before of_layer (enumerate_from 0 order.layers) p.layer q.layer (p.layer, p.value) p.place q.place (numbered_here p.layer p.value p.there) (inside (of_layer (p.layer, p.value)) p.place a p.is) less)
 
-  same_place : (i j : ℕ) (a b : JobValue) (p : IsPlaced i a) (q : IsPlaced j b) → p.layer ≡ q.layer → p.place ≡ q.place → i ≡ j
+  pub same_place : (i j : ℕ) (a b : JobValue) (p : IsPlaced i a) (q : IsPlaced j b) → p.layer ≡ q.layer → p.place ≡ q.place → i ≡ j
   same_place i j a b p q layer place = p.at ∙ ap (λ k. start of_layer (enumerate_from 0 order.layers) k + p.place) layer ∙ ap (λ k. start of_layer (enumerate_from 0 order.layers) q.layer + k) place ∙ sym q.at
 
   -- what a job is: all of a rule in its layer, or the layer's block

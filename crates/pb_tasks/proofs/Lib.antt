@@ -1,5 +1,9 @@
+pub mod BeforeLemmas
 pub mod BoxLemmas
 pub mod FlatLemmas
 pub mod JobLemmas
 pub mod MadeLemmas
+pub mod ReadingLemmas
 pub mod RiseLemmas
+pub mod SpreadLemmas
+pub mod WideLemmas
