@@ -1,0 +1,17 @@
+//! How a computing rule is run for a cell.
+//!
+//! In: a rule of an accepted program, sizes, a cell, its reads as views, and a reader that tells their cells. Out: the numbers
+//! of the rule's outputs, or a trap. The theorem is `run_body`: it is what the rule gives.
+#![tactic(auto)]
+
+mod cell;
+mod numbers;
+mod port;
+mod products;
+mod scene;
+mod scratch;
+mod shown;
+mod spot;
+mod sums;
+
+pub use scratch::Scratch;

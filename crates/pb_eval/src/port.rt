@@ -1,0 +1,41 @@
+ghost use Rattle.std.specs.Prelude.{◌≡◌, IsTrue, is_some};
+ghost use Rattle.pb_values.specs.Cells.{Turn};
+ghost use Rattle.pb_model.specs.Equations.{number_in};
+ghost use Rattle.pb_eval.specs.Shown.{number_told};
+
+use pb_values::{CellReader, Outcome};
+use std::marker::Brand;
+
+/// A name for what a reader tells, so that a type can speak of it.
+pub(crate) trait NamesTurn {
+    ghost turn: { Turn };
+}
+
+/// A reader that tells just that.
+pub(crate) struct Port<'a, C: CellReader, N: NamesTurn> {
+    reader: &'a mut C,
+    of: std::marker::PhantomData<N>,
+    ghost same: { C.turn reader.now ≡ N.turn },
+}
+
+impl<'a, C: CellReader, N: NamesTurn> Port<'a, C, N> {
+    /// The number of a cell that is told.
+    #[tactic(auto, using(crate::proofs::ViewLemmas::told_number))]
+    pub(crate) fn number(&mut self, cell: u64) -> i64
+        requires { IsTrue (is_some (N.turn.outcomes cell)) }
+        ensures number { result ≡ number_told N.turn cell }
+        ensures same_reference { self.new.reader.ghost_name ≡ self.old.reader.ghost_name }
+    {
+        number_in(self.reader.read(cell))
+    }
+}
+
+/// The number of an outcome that is no trap.
+fn number_in(outcome: Outcome) -> i64
+    ensures { result ≡ number_in outcome }
+{
+    match outcome {
+        Outcome::Value(n) => n,
+        Outcome::Trapped(_) => 0,
+    }
+}
