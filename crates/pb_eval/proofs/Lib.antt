@@ -4,3 +4,5 @@ pub mod SceneLemmas
 pub mod CellLemmas
 pub mod SumLemmas
 pub mod ProductLemmas
+pub mod ExprLemmas
+pub mod ArgumentLemmas

@@ -1,12 +1,32 @@
 -- Expressions and statements as they are held, and what they mean.
-use Rattle.std.specs.Prelude.{ℤ, List, map, Result}
+use Rattle.std.specs.Prelude.{ℤ, pos, if◌then◌else◌, Option, Some, None, List, [], ◌∷◌, map, Result, Ok}
 use Rattle.pb_syntax.specs.declared.tree.expression.Operator.{Operator}
+use Rattle.pb_syntax.specs.declared.tree.expression.Operator.TheVariants as operator
 use Rattle.pb_values.specs.declared.outcome.Kind.{Kind}
 use Rattle.pb_program.specs.declared.expression.Expr.{Expr}
 use Rattle.pb_program.specs.declared.meaning.Callee.{Callee}
+use Rattle.pb_program.specs.declared.meaning.Callee.TheVariants as callee
+use Rattle.pb_program.specs.declared.meaning.Function.{Function}
 use Rattle.pb_program.specs.declared.meaning.Meaning.{Meaning}
-use Rattle.pb_program.specs.Exprs.{bare, exprs, operands}
-use Rattle.pb_model.specs.Bodies.{Bindings, Store, by_operator, called, cell_at, value, values}
+use Rattle.pb_program.specs.declared.meaning.Named.{Named}
+use Rattle.pb_program.specs.Exprs.{ExprValue, bare, exprs, operands}
+use Rattle.pb_program.specs.Exprs as e
+use Rattle.pb_model.specs.Bodies.{Bindings, Store, by_operator, called, cell_at, if_ok, is_zero, named_view, refused, value, values}
+use Rattle.pb_model.specs.Grids.{Grid}
+
+-- the value that a left side decides alone
+abbrev pub decided : Operator → ℤ → Option ℤ
+decided operator.And a = if is_zero a then Some (pos 0) else None
+decided operator.Or a = if is_zero a then None else Some (pos 1)
+decided _ a = None
+
+-- the name that an expression is
+abbrev pub lone_name : ExprValue → Option Named
+lone_name (e.name n) = Some n
+lone_name _ = None
+
+unfoldable pub name_in : Expr → Option Named
+name_in x = lone_name (bare x)
 
 module _ (b : Bindings) (st : Store) where
   unfoldable pub value_in : Expr → Result ℤ Kind
@@ -21,5 +41,21 @@ module _ (b : Bindings) (st : Store) where
   unfoldable pub cell_in_list : Meaning → List Expr → Result ℤ Kind
   cell_in_list m xs = cell_at b st m (exprs (map bare xs))
 
+  -- the view that an argument names, if it is a name
+  unfoldable pub view_in : Expr → Grid ℤ
+  view_in x = named_view b st (bare x)
+
   unfoldable pub called_in : Callee → List Expr → Result ℤ Kind
   called_in c xs = called b st c (exprs (map bare xs))
+
+  unfoldable pub function_in : Function → List Expr → Result ℤ Kind
+  function_in f xs = called_in (callee.Function f) xs
+
+  -- the value of an expression that stands alone, and those of two
+  unfoldable pub single_in : List Expr → Result ℤ Kind
+  single_in (x ∷ []) = value_in x
+  single_in _ = refused
+
+  unfoldable pub pair_in : List Expr → Result (ℤ × ℤ) Kind
+  pair_in (x ∷ y ∷ []) = if_ok (value_in x) (λ i. if_ok (value_in y) (λ j. Ok (i, j)))
+  pair_in _ = refused

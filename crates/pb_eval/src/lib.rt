@@ -5,6 +5,7 @@
 #![tactic(auto)]
 
 mod cell;
+mod expression;
 mod numbers;
 mod port;
 mod products;

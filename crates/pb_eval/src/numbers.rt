@@ -1,6 +1,7 @@
 ghost use Rattle.std.specs.Prelude.{◌≡◌, pos};
 ghost use Rattle.pb_values.specs.Checked.{checked_result};
 ghost use Rattle.pb_model.specs.Bodies.{greater, lesser, operated, related, signed_by, truth};
+ghost use Rattle.pb_eval.specs.Working.{decided};
 
 use pb_syntax::{Operator, Relation, UnarySign};
 use pb_values::{Kind, add, div, mul, neg, rem, sub};
@@ -26,6 +27,17 @@ pub(crate) fn operate(operator: Operator, left: i64, right: i64) -> Result<i64, 
         Operator::Plus => add(left, right),
         Operator::Minus => sub(left, right),
         Operator::And | Operator::Or => Ok(right),
+    }
+}
+
+/// What `&&` and `||` are where the left side alone decides.
+pub(crate) fn decided(operator: Operator, left: i64) -> Option<i64>
+    ensures { result ≡ decided operator left }
+{
+    match operator {
+        Operator::And if left == 0 => Some(0),
+        Operator::Or if left != 0 => Some(1),
+        _ => None,
     }
 }
 
