@@ -6,3 +6,4 @@ pub mod SumLemmas
 pub mod ProductLemmas
 pub mod ExprLemmas
 pub mod ArgumentLemmas
+pub mod StoreLemmas

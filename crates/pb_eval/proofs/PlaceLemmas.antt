@@ -44,7 +44,7 @@ pub both_true : (a b : Bool) → IsTrue (a && b) → IsTrue a × IsTrue b
 both_true true b h = (refl, h)
 both_true false b h = cc
 
-same_number : (m n : ℕ) → IsTrue (m == n) → m ≡ n
+pub same_number : (m n : ℕ) → IsTrue (m == n) → m ≡ n
 same_number m n h = grind (arith, nat_tests, h)
 
 at_most : (m n : ℕ) → IsTrue (nat_le m n) → m ≤ n

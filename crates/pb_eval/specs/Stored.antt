@@ -1,5 +1,5 @@
 -- The numbers of a body in a scratch: of its locals, by number, and of its outputs, one after the other, each row by row.
-use Rattle.std.specs.Prelude.{ℕ, ◌+◌, ◌*◌, ℤ, pos, ◌&&◌, nat_lt, if◌then◌else◌, List, map, Option, Some, None, slice_get, slice_index_or}
+use Rattle.std.specs.Prelude.{◌≡◌, ℕ, ◌+◌, ◌*◌, ℤ, pos, ◌&&◌, nat_lt, if◌then◌else◌, List, length, map, Option, Some, None, slice_get, slice_index_or}
 use Rattle.pb_model.specs.Bodies.{Bindings, Store, local, output}
 use Rattle.pb_eval.specs.Shown.{Around}
 use Rattle.pb_eval.specs.declared.scratch.Scratch.{Scratch}
@@ -25,3 +25,9 @@ store_of s = stored s.locals.items s.numbers.items s.spots.items
 -- what the names of a body stand for
 unfoldable pub bound : Around → Scratch → Bindings
 bound a s = record { sizes = a.sizes; x = a.x; y = a.y; reads = a.reads; outs = map sides_of s.spots.items }
+
+-- the same room
+pub record SameRoom (before after : Scratch) : Type 0 where
+  pub locals : length after.locals.items ≡ length before.locals.items
+  pub numbers : length after.numbers.items ≡ length before.numbers.items
+  pub spots : after.spots.items ≡ before.spots.items

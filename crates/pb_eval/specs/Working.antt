@@ -1,5 +1,5 @@
 -- Expressions and statements as they are held, and what they mean.
-use Rattle.std.specs.Prelude.{ℤ, pos, if◌then◌else◌, Option, Some, None, List, [], ◌∷◌, map, Result, Ok}
+use Rattle.std.specs.Prelude.{ℕ, ℤ, pos, if◌then◌else◌, Option, Some, None, List, [], ◌∷◌, map, Result, Ok, Err}
 use Rattle.pb_syntax.specs.declared.tree.expression.Operator.{Operator}
 use Rattle.pb_syntax.specs.declared.tree.expression.Operator.TheVariants as operator
 use Rattle.pb_values.specs.declared.outcome.Kind.{Kind}
@@ -11,7 +11,10 @@ use Rattle.pb_program.specs.declared.meaning.Meaning.{Meaning}
 use Rattle.pb_program.specs.declared.meaning.Named.{Named}
 use Rattle.pb_program.specs.Exprs.{ExprValue, bare, exprs, operands}
 use Rattle.pb_program.specs.Exprs as e
-use Rattle.pb_model.specs.Bodies.{Bindings, Store, by_operator, called, cell_at, if_ok, is_zero, named_view, refused, value, values}
+use Rattle.pb_program.specs.declared.statement.Stmt.{Stmt}
+use Rattle.pb_program.specs.Stmts.{bare_stmt, stmts}
+use Rattle.pb_eval.specs.Rooms.{locals_among, locals_in}
+use Rattle.pb_model.specs.Bodies.{Bindings, Store, after, after_all, assigned, assigned_cell, by_operator, called, cell_at, each_turn, if_ok, is_zero, named_view, place_of, refused, value, values}
 use Rattle.pb_model.specs.Grids.{Grid}
 
 -- the value that a left side decides alone
@@ -59,3 +62,33 @@ module _ (b : Bindings) (st : Store) where
   unfoldable pub pair_in : List Expr → Result (ℤ × ℤ) Kind
   pair_in (x ∷ y ∷ []) = if_ok (value_in x) (λ i. if_ok (value_in y) (λ j. Ok (i, j)))
   pair_in _ = refused
+
+-- ---- statements
+module _ (b : Bindings) where
+  unfoldable pub stmt_in : Stmt → Store → Result Store Kind
+  stmt_in s st = after b (bare_stmt s) st
+
+  unfoldable pub stmts_in : List Stmt → Store → Result Store Kind
+  stmts_in ss st = after_all b (stmts (map bare_stmt ss)) st
+
+  -- a number is assigned to what a name names
+  unfoldable pub assign_in : Meaning → Store → Result ℤ Kind → Result Store Kind
+  assign_in m st r = if_ok r (assigned st (place_of b m))
+
+  unfoldable pub assign_cell_in : Meaning → List Expr → Expr → Store → Result Store Kind
+  assign_cell_in m xs x st = assigned_cell b st m (map bare xs) (bare x)
+
+  -- the turns of a loop from a number on
+  unfoldable pub repeated : Meaning → List Stmt → ℤ → ℕ → Store → Result Store Kind
+  repeated m ss low n st = each_turn (λ i turn. if_ok (assigned turn (place_of b m) i) (after_all b (stmts (map bare_stmt ss)))) low n st
+
+-- what is left in a scratch
+abbrev pub left_in : Result (Unit {0}) Kind → Store → Result Store Kind
+left_in (Ok u) st = Ok st
+left_in (Err k) st = Err k
+
+unfoldable pub room_in : Stmt → ℕ
+room_in s = locals_in (bare_stmt s)
+
+unfoldable pub rooms_in : List Stmt → ℕ
+rooms_in ss = locals_among (stmts (map bare_stmt ss))

@@ -14,5 +14,6 @@ mod scratch;
 mod shown;
 mod spot;
 mod sums;
+mod turns;
 
 pub use scratch::Scratch;

@@ -3,8 +3,11 @@ ghost use Rattle.std.specs.Vec.{vec_capacity};
 ghost use Rattle.pb_syntax.specs.declared.limits.TheConstants.{MOST_VIEWS};
 ghost use Rattle.pb_eval.specs.Spots.{are_laid};
 
+use crate::cell::natural;
 use crate::shown::Shown;
 use crate::spot::Spot;
+use pb_program::Meaning;
+use pb_values::Kind;
 
 /// Room for the locals and the outputs of a body.
 #[derive(Drop)]
@@ -12,8 +15,8 @@ pub struct Scratch {
     pub(crate) locals: Vec<i64>,
     pub(crate) numbers: Vec<i64>,
     pub(crate) spots: Vec<Spot>,
-    ghost laid: { IsTrue (are_laid 0 spots.items (length numbers.items)) },
-    ghost room: { MOST_VIEWS ≤ vec_capacity spots },
+    pub(crate) ghost laid: { IsTrue (are_laid 0 spots.items (length numbers.items)) },
+    pub(crate) ghost room: { MOST_VIEWS ≤ vec_capacity spots },
 }
 
 impl Scratch {
@@ -51,5 +54,106 @@ impl Scratch {
         } else {
             0
         }
+    }
+
+    ghost use Rattle.std.specs.Prelude.{◌<◌, slice_index_or, pos};
+    ghost use Rattle.pb_model.specs.Bodies.{assigned, place_of, put_at, with_number};
+    ghost use Rattle.pb_model.specs.Bodies.{output as an_output};
+    ghost use Rattle.pb_eval.specs.Rooms.{local_room};
+    ghost use Rattle.pb_eval.specs.Stored.{SameRoom};
+    ghost use Rattle.pb_eval.specs.declared.spot.Spot.{Spot};
+    ghost use Rattle.pb_eval.specs.Working.{left_in};
+
+    /// Puts a number in a local.
+    #[tactic(auto, using(crate::proofs::StoreLemmas::local_put))]
+    fn set_local(&mut self, k: u32, n: i64)
+        requires { k < length self.old.locals.items }
+        ensures store { store_of self.new ≡ with_number (store_of self.old) (local k) n }
+        ensures room { SameRoom self.old self.new }
+    {
+        self.locals[k as usize] = n;
+    }
+
+    /// Puts a number at a place of an output.
+    #[tactic(auto, using(crate::proofs::StoreLemmas::output_put, crate::proofs::StoreLemmas::output_room))]
+    fn set_output(&mut self, k: u32, x: u64, y: u64, n: i64)
+        requires there { k < length self.old.spots.items }
+        requires across { (s : Spot) → s ≡ slice_index_or self.old.spots.items k s → x < s.width }
+        requires down { (s : Spot) → s ≡ slice_index_or self.old.spots.items k s → y < s.height }
+        ensures store { store_of self.new ≡ with_number (store_of self.old) (an_output k x y) n }
+        ensures room { SameRoom self.old self.new }
+    {
+        let spot = self.spots[k as usize];
+        self.numbers[(spot.first + (y * spot.width + x)) as usize] = n;
+    }
+
+    /// Assigns a number to a local, or to an output of one cell.
+    pub(crate) fn assign(&mut self, what: Meaning, n: i64) -> Result<(), Kind>
+        requires { local_room what ≤ length self.old.locals.items }
+        ensures after { (a : Around) → assigned (store_of self.old) (place_of (bound a self.old) what) n ≡ left_in result (store_of self.new) }
+        ensures room { SameRoom self.old self.new }
+    {
+        match what {
+            Meaning::Number(k) => {
+                self.set_local(k, n);
+                Ok(())
+            }
+            Meaning::Output(k) => self.assign_output(k, n),
+            _ => Err(Kind::OutOfView),
+        }
+    }
+
+    /// Assigns a number to an output of one cell.
+    fn assign_output(&mut self, k: u32, n: i64) -> Result<(), Kind>
+        ensures after { (a : Around) → assigned (store_of self.old) (place_of (bound a self.old) (Output k)) n ≡ left_in result (store_of self.new) }
+        ensures room { SameRoom self.old self.new }
+    {
+        if k as usize >= self.spots.len() {
+            return Err(Kind::OutOfView);
+        }
+        let spot = self.spots[k as usize];
+        if spot.width != 1 {
+            return Err(Kind::OutOfView);
+        }
+        if spot.height != 1 {
+            return Err(Kind::OutOfView);
+        }
+        self.set_output(k, 0, 0, n);
+        Ok(())
+    }
+
+    /// Puts a number at coordinates of an output, which may be outside.
+    pub(crate) fn put(&mut self, what: Meaning, i: i64, j: i64, n: i64) -> Result<(), Kind>
+        ensures after { (a : Around) → put_at (bound a self.old) (store_of self.old) what i j n ≡ left_in result (store_of self.new) }
+        ensures room { SameRoom self.old self.new }
+    {
+        let Meaning::Output(k) = what else {
+            return Err(Kind::OutOfView);
+        };
+        let Some(x) = natural(i) else {
+            return Err(Kind::OutOfView);
+        };
+        let Some(y) = natural(j) else {
+            return Err(Kind::OutOfView);
+        };
+        self.put_output(k, x, y, n)
+    }
+
+    fn put_output(&mut self, k: u32, x: u64, y: u64, n: i64) -> Result<(), Kind>
+        ensures after { (a : Around) → put_at (bound a self.old) (store_of self.old) (Output k) (pos x) (pos y) n ≡ left_in result (store_of self.new) }
+        ensures room { SameRoom self.old self.new }
+    {
+        if k as usize >= self.spots.len() {
+            return Err(Kind::OutOfView);
+        }
+        let spot = self.spots[k as usize];
+        if x >= spot.width {
+            return Err(Kind::OutOfView);
+        }
+        if y >= spot.height {
+            return Err(Kind::OutOfView);
+        }
+        self.set_output(k, x, y, n);
+        Ok(())
     }
 }
