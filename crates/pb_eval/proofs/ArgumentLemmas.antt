@@ -12,11 +12,11 @@ use Rattle.pb_program.specs.declared.meaning.Meaning.TheVariants.{RuleX}
 use Rattle.pb_program.specs.declared.meaning.Named.{Named}
 use Rattle.pb_program.specs.Exprs.{bare}
 use Rattle.pb_program.specs.Exprs as e
-use Rattle.pb_model.specs.Bodies.{Bindings, Store, called, cell_at, cell_in, dot_product, greater, if_ok, is_zero, lesser, named_view, operated, summed, view_of}
+use Rattle.pb_model.specs.Bodies.{Bindings, Store, called, cell_at, cell_in, dot_product, greater, if_ok, is_zero, lesser, named_view, operated, put_at, summed, view_of}
 use Rattle.pb_model.specs.Grids.{no_grid}
 use Rattle.pb_syntax.specs.declared.tree.expression.Operator.{Operator}
 use Rattle.pb_syntax.specs.declared.tree.expression.Operator.TheVariants as operator
-use Rattle.pb_eval.specs.Working.{called_in, decided, lone_name, operand_in, cell_in_list, function_in, pair_in, single_in, value_in, view_in}
+use Rattle.pb_eval.specs.Working.{assign_cell_in, called_in, decided, lone_name, operand_in, cell_in_list, function_in, pair_in, place_in, single_in, value_in, view_in}
 
 one_item : (xs : List Expr) (x : Expr) → 1 ≤ length xs → length xs < 2 → x ≡ get_or xs 0 x → xs ≡ x ∷ []
 one_item [] x some few is = absurd (omega arith)
@@ -76,11 +76,18 @@ module _ (b : Bindings) (st : Store) where
   pair_more (x ∷ y ∷ []) h = absurd (omega arith)
   pair_more (x ∷ y ∷ z ∷ xs) h = refl
 
-  pub cell_single : (m : Meaning) (xs : List Expr) → length xs ≡ 1 → cell_in_list b st m xs ≡ if_ok (single_in b st xs) (λ i. cell_in (view_of b st m) i (pos 0))
-  unfolding cell_in_list single_in value_in cell_at
-  cell_single m [] h = absurd (omega arith)
-  cell_single m (x ∷ []) h = refl
-  cell_single m (x ∷ y ∷ xs) h = absurd (omega arith)
+  pub place_single : (xs : List Expr) → length xs ≡ 1 → place_in b st xs ≡ if_ok {A = ℤ} {B = ℤ × ℤ} (single_in b st xs) (λ i. Ok (i, pos 0))
+  unfolding place_in single_in
+  place_single [] h = absurd (omega arith)
+  place_single (x ∷ []) h = refl
+  place_single (x ∷ y ∷ xs) h = absurd (omega arith)
+
+  pub place_pair : (xs : List Expr) → (length xs ≡ 1 → ⊥) → pair_in b st xs ≡ place_in b st xs
+  unfolding place_in pair_in
+  place_pair [] h = refl
+  place_pair (x ∷ []) h = absurd (h refl)
+  place_pair (x ∷ y ∷ []) h = refl
+  place_pair (x ∷ y ∷ z ∷ xs) h = refl
 
   pairs : {A : Type 0} (r s : Result ℤ Kind) (f : ℤ → ℤ → Result A Kind)
       → if_ok r (λ i. if_ok s (f i)) ≡ if_ok {A = ℤ × ℤ} {B = A} (if_ok {A = ℤ} {B = ℤ × ℤ} r (λ i. if_ok {A = ℤ} {B = ℤ × ℤ} s (λ j. Ok (i, j)))) (λ p. f p.0 p.1)
@@ -88,12 +95,29 @@ module _ (b : Bindings) (st : Store) where
   pairs (Ok i) (Err k) f = refl
   pairs (Err k) s f = refl
 
-  pub cell_pair : (m : Meaning) (xs : List Expr) → (length xs ≡ 1 → ⊥) → cell_in_list b st m xs ≡ if_ok (pair_in b st xs) (λ p. cell_in (view_of b st m) p.0 p.1)
-  unfolding cell_in_list pair_in value_in cell_at
-  cell_pair m [] h = refl
-  cell_pair m (x ∷ []) h = absurd (h refl)
-  cell_pair m (x ∷ y ∷ []) h = pairs (value_in b st x) (value_in b st y) (cell_in (view_of b st m))
-  cell_pair m (x ∷ y ∷ z ∷ xs) h = refl
+  alone : {A : Type 0} (r : Result ℤ Kind) (f : ℤ → ℤ → Result A Kind) → if_ok r (λ i. f i (pos 0)) ≡ if_ok {A = ℤ × ℤ} {B = A} (if_ok {A = ℤ} {B = ℤ × ℤ} r (λ i. Ok (i, pos 0))) (λ p. f p.0 p.1)
+  alone (Ok i) f = refl
+  alone (Err k) f = refl
+
+  pub cell_placed : (m : Meaning) (xs : List Expr) → cell_in_list b st m xs ≡ if_ok (place_in b st xs) (λ p. cell_in (view_of b st m) p.0 p.1)
+  unfolding cell_in_list place_in value_in cell_at
+  cell_placed m [] = refl
+  cell_placed m (x ∷ []) = alone (value_in b st x) (cell_in (view_of b st m))
+  cell_placed m (x ∷ y ∷ []) = pairs (value_in b st x) (value_in b st y) (cell_in (view_of b st m))
+  cell_placed m (x ∷ y ∷ z ∷ xs) = refl
+
+  thrice : {A : Type 0} (r s t : Result ℤ Kind) (f : ℤ → ℤ → ℤ → Result A Kind)
+      → if_ok r (λ i. if_ok s (λ j. if_ok t (f i j))) ≡ if_ok {A = ℤ × ℤ} {B = A} (if_ok {A = ℤ} {B = ℤ × ℤ} r (λ i. if_ok {A = ℤ} {B = ℤ × ℤ} s (λ j. Ok (i, j)))) (λ p. if_ok t (f p.0 p.1))
+  thrice (Ok i) (Ok j) t f = refl
+  thrice (Ok i) (Err k) t f = refl
+  thrice (Err k) s t f = refl
+
+  pub assign_placed : (m : Meaning) (xs : List Expr) (x : Expr) → assign_cell_in b m xs x st ≡ if_ok (place_in b st xs) (λ p. if_ok (value_in b st x) (put_at b st m p.0 p.1))
+  unfolding assign_cell_in place_in value_in
+  assign_placed m [] x = refl
+  assign_placed m (a ∷ []) x = alone (value_in b st a) (λ i j. if_ok (value_in b st x) (put_at b st m i j))
+  assign_placed m (a ∷ c ∷ []) x = thrice (value_in b st a) (value_in b st c) (value_in b st x) (put_at b st m)
+  assign_placed m (a ∷ c ∷ d ∷ xs) x = refl
 
   pub min_in : (xs : List Expr) → function_in b st function.Min xs ≡ if_ok (pair_in b st xs) (λ p. Ok (lesser p.0 p.1))
   unfolding function_in called_in pair_in value_in called

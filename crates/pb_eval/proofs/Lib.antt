@@ -7,3 +7,5 @@ pub mod ProductLemmas
 pub mod ExprLemmas
 pub mod ArgumentLemmas
 pub mod StoreLemmas
+pub mod TurnLemmas
+pub mod StmtLemmas

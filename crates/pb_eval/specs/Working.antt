@@ -14,7 +14,7 @@ use Rattle.pb_program.specs.Exprs as e
 use Rattle.pb_program.specs.declared.statement.Stmt.{Stmt}
 use Rattle.pb_program.specs.Stmts.{bare_stmt, stmts}
 use Rattle.pb_eval.specs.Rooms.{locals_among, locals_in}
-use Rattle.pb_model.specs.Bodies.{Bindings, Store, after, after_all, assigned, assigned_cell, by_operator, called, cell_at, each_turn, if_ok, is_zero, named_view, place_of, refused, value, values}
+use Rattle.pb_model.specs.Bodies.{Bindings, Store, after, after_all, assigned, assigned_cell, by_operator, called, cell_at, each_turn, if_ok, is_zero, named_view, place_of, refused, turns, value, values}
 use Rattle.pb_model.specs.Grids.{Grid}
 
 -- the value that a left side decides alone
@@ -63,6 +63,12 @@ module _ (b : Bindings) (st : Store) where
   pair_in (x ∷ y ∷ []) = if_ok (value_in x) (λ i. if_ok (value_in y) (λ j. Ok (i, j)))
   pair_in _ = refused
 
+  -- the place that coordinates name
+  unfoldable pub place_in : List Expr → Result (ℤ × ℤ) Kind
+  place_in (x ∷ []) = if_ok (value_in x) (λ i. Ok (i, pos 0))
+  place_in (x ∷ y ∷ []) = if_ok (value_in x) (λ i. if_ok (value_in y) (λ j. Ok (i, j)))
+  place_in _ = refused
+
 -- ---- statements
 module _ (b : Bindings) where
   unfoldable pub stmt_in : Stmt → Store → Result Store Kind
@@ -78,9 +84,17 @@ module _ (b : Bindings) where
   unfoldable pub assign_cell_in : Meaning → List Expr → Expr → Store → Result Store Kind
   assign_cell_in m xs x st = assigned_cell b st m (map bare xs) (bare x)
 
-  -- the turns of a loop from a number on
+  -- a turn of a loop
+  unfoldable pub turn_in : Meaning → List Stmt → ℤ → Store → Result Store Kind
+  turn_in m ss i turn = if_ok (assigned turn (place_of b m) i) (stmts_in ss)
+
+  -- the turns from a number on
   unfoldable pub repeated : Meaning → List Stmt → ℤ → ℕ → Store → Result Store Kind
-  repeated m ss low n st = each_turn (λ i turn. if_ok (assigned turn (place_of b m) i) (after_all b (stmts (map bare_stmt ss)))) low n st
+  repeated m ss = each_turn (turn_in m ss)
+
+  -- the lowest number of a loop, and how many there are
+  unfoldable pub turns_in : Store → Expr → Expr → Result (ℤ × ℕ) Kind
+  turns_in st x y = if_ok (value_in b st x) (λ low. if_ok (value_in b st y) (λ high. if_ok (turns low high) (λ k. Ok (low, k))))
 
 -- what is left in a scratch
 abbrev pub left_in : Result (Unit {0}) Kind → Store → Result Store Kind

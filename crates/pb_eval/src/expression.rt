@@ -2,7 +2,7 @@ ghost use Rattle.std.specs.Prelude.{◌≡◌};
 ghost use Rattle.pb_model.specs.Bodies.{Bindings, Store, view_of};
 ghost use Rattle.pb_program.specs.declared.meaning.Function.TheVariants.{Dot, Sum};
 ghost use Rattle.pb_eval.specs.Stored.{bound, store_of};
-ghost use Rattle.pb_eval.specs.Working.{called_in, cell_in_list, function_in, name_in, operand_in, pair_in, single_in, value_in, values_in, view_in};
+ghost use Rattle.pb_eval.specs.Working.{called_in, cell_in_list, function_in, name_in, operand_in, pair_in, place_in, single_in, value_in, values_in, view_in};
 
 use crate::numbers::{compare, decided, greater, lesser, negated, number, operate};
 use crate::port::{NamesTurn, Port};
@@ -139,7 +139,7 @@ impl<'a, N: NamesTurn> Scene<'a, N> {
 
     /// A cell of a view, at one or two coordinates.
     #[cycle(expression)]
-    #[tactic(auto, using(crate::proofs::ArgumentLemmas::cell_single, crate::proofs::ArgumentLemmas::cell_pair))]
+    #[tactic(auto, using(crate::proofs::ArgumentLemmas::cell_placed))]
     fn cell_of<C: CellReader>(
         &self,
         view: Meaning,
@@ -150,12 +150,26 @@ impl<'a, N: NamesTurn> Scene<'a, N> {
         ensures value { result ≡ cell_in_list (bound self.now scratch.now) (store_of scratch.now) view coordinates.now }
         ensures same_reference { port.new.reader.ghost_name ≡ port.old.reader.ghost_name }
     {
-        if coordinates.len() == 1 {
-            let i = self.single(coordinates, scratch, port)?;
-            return self.cell(view, i, 0, scratch, port);
-        }
-        let (i, j) = self.pair(coordinates, scratch, port)?;
+        let (i, j) = self.place(coordinates, scratch, port)?;
         self.cell(view, i, j, scratch, port)
+    }
+
+    /// The place that coordinates name; one coordinate names a place in the first row.
+    #[cycle(expression)]
+    #[tactic(auto, using(crate::proofs::ArgumentLemmas::place_single, crate::proofs::ArgumentLemmas::place_pair))]
+    pub(crate) fn place<C: CellReader>(
+        &self,
+        coordinates: &[Expr],
+        scratch: &Scratch,
+        port: &mut Port<C, N>,
+    ) -> Result<(i64, i64), Kind>
+        ensures value { result ≡ place_in (bound self.now scratch.now) (store_of scratch.now) coordinates.now }
+        ensures same_reference { port.new.reader.ghost_name ≡ port.old.reader.ghost_name }
+    {
+        if coordinates.len() == 1 {
+            return Ok((self.single(coordinates, scratch, port)?, 0));
+        }
+        self.pair(coordinates, scratch, port)
     }
 
     /// A call. A body that calls a transform is no computing one.

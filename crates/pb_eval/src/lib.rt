@@ -13,6 +13,7 @@ mod scene;
 mod scratch;
 mod shown;
 mod spot;
+mod statement;
 mod sums;
 mod turns;
 

@@ -1,6 +1,6 @@
-ghost use Rattle.std.specs.Prelude.{◌≡◌, pos};
+ghost use Rattle.std.specs.Prelude.{◌≡◌, not, pos};
 ghost use Rattle.pb_values.specs.Checked.{checked_result};
-ghost use Rattle.pb_model.specs.Bodies.{greater, lesser, operated, related, signed_by, truth};
+ghost use Rattle.pb_model.specs.Bodies.{greater, is_zero, lesser, operated, related, signed_by, truth};
 ghost use Rattle.pb_eval.specs.Working.{decided};
 
 use pb_syntax::{Operator, Relation, UnarySign};
@@ -84,4 +84,11 @@ pub(crate) fn greater(left: i64, right: i64) -> i64
     ensures { result ≡ greater left right }
 {
     if left <= right { right } else { left }
+}
+
+/// Whether a number stands for what is true.
+pub(crate) fn is_true(value: i64) -> bool
+    ensures { result ≡ not (is_zero value) }
+{
+    value != 0
 }
