@@ -9,3 +9,5 @@ pub mod ArgumentLemmas
 pub mod StoreLemmas
 pub mod TurnLemmas
 pub mod StmtLemmas
+pub mod TrapLemmas
+pub mod LayLemmas

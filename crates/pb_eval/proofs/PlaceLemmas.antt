@@ -31,7 +31,7 @@ unfolding row_of rows_of
 rows_like f g w h same = flat_like _ _ 0 h (λ y down. map_like (λ x. f x y) (λ x. g x y) 0 w (λ x across. same x y (omega (arith, across)) (omega (arith, down))))
 
 -- a function of each number of each row
-pub map_rows : (f : ℕ → ℤ) (g : ℕ → ℕ → ℕ) (w : ℕ) (ys : List ℕ) → map f (flat_map (λ y. map (λ x. g x y) (range_with_len 0 w)) ys) ≡ flat_map (λ y. map (λ x. f (g x y)) (range_with_len 0 w)) ys
+pub map_rows : {A : Type 0} (f : ℕ → A) (g : ℕ → ℕ → ℕ) (w : ℕ) (ys : List ℕ) → map f (flat_map (λ y. map (λ x. g x y) (range_with_len 0 w)) ys) ≡ flat_map (λ y. map (λ x. f (g x y)) (range_with_len 0 w)) ys
 map_rows f g w [] = refl
 map_rows f g w (y ∷ ys) = map-append f (map (λ x. g x y) (range_with_len 0 w)) _ ∙ ap (λ l. l ++ map f (flat_map (λ z. map (λ x. g x z) (range_with_len 0 w)) ys)) (both (range_with_len 0 w)) ∙ ap (λ l. map (λ x. f (g x y)) (range_with_len 0 w) ++ l) (map_rows f g w ys)
   where

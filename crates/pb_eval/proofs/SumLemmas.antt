@@ -6,10 +6,10 @@ use Rattle.pb_values.specs.declared.outcome.Kind.{Kind}
 use Rattle.pb_model.specs.Bodies.{if_ok, summed}
 use Rattle.pb_eval.specs.Places.{row_from, row_of, rows_from, rows_of}
 
-range_next : (x w : ℕ) → x < w → range_with_len x (w - x) ≡ x ∷ range_with_len (x + 1) (w - (x + 1))
+pub range_next : (x w : ℕ) → x < w → range_with_len x (w - x) ≡ x ∷ range_with_len (x + 1) (w - (x + 1))
 range_next x w below = let e : w - x ≡ suc (w - (x + 1)) = omega arith in rw e refl
 
-range_end : (x w : ℕ) → w ≤ x → range_with_len x (w - x) ≡ []
+pub range_end : (x w : ℕ) → w ≤ x → range_with_len x (w - x) ≡ []
 range_end x w past = let e : w - x ≡ 0 = omega arith in rw e refl
 
 module _ (f : ℕ → ℕ → ℤ) (w : ℕ) where

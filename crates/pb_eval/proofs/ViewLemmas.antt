@@ -11,3 +11,7 @@ pub told_number : (turn t : Turn) (cell : ℕ) (o : Outcome) → t ≡ turn → 
 unfolding number_told outcome_of
 told_number turn t cell o e f =
     ap (λ q. number_in (option_map_or (λ (p : Outcome). p) q (Value (pos 0)))) (ap (λ (u : Turn). u.outcomes cell) (sym e) ∙ f)
+
+pub told_outcome : (turn t : Turn) (cell : ℕ) (o : Outcome) → t ≡ turn → t.outcomes cell ≡ Some o → outcome_of turn cell ≡ o
+unfolding outcome_of
+told_outcome turn t cell o e f = ap (λ q. option_map_or (λ (p : Outcome). p) q (Value (pos 0))) (ap (λ (u : Turn). u.outcomes cell) (sym e) ∙ f)

@@ -5,3 +5,5 @@ pub mod Stored
 pub mod Rooms
 pub mod Working
 pub mod Turns
+pub mod Outputs
+pub mod Traps

@@ -6,15 +6,18 @@
 
 mod cell;
 mod expression;
+mod laying;
 mod numbers;
 mod port;
 mod products;
 mod scene;
 mod scratch;
 mod shown;
+mod sides;
 mod spot;
 mod statement;
 mod sums;
+mod traps;
 mod turns;
 
 pub use scratch::Scratch;

@@ -1,7 +1,7 @@
 ghost use Rattle.std.specs.Prelude.{◌≡◌, IsTrue, is_some};
 ghost use Rattle.pb_values.specs.Cells.{Turn};
 ghost use Rattle.pb_model.specs.Equations.{number_in};
-ghost use Rattle.pb_eval.specs.Shown.{number_told};
+ghost use Rattle.pb_eval.specs.Shown.{number_told, outcome_of};
 
 use pb_values::{CellReader, Outcome};
 use std::marker::Brand;
@@ -19,6 +19,16 @@ pub(crate) struct Port<'a, C: CellReader, N: NamesTurn> {
 }
 
 impl<'a, C: CellReader, N: NamesTurn> Port<'a, C, N> {
+    /// The outcome of a cell that is told.
+    #[tactic(auto, using(crate::proofs::ViewLemmas::told_outcome))]
+    pub(crate) fn outcome(&mut self, cell: u64) -> Outcome
+        requires { IsTrue (is_some (N.turn.outcomes cell)) }
+        ensures outcome { result ≡ outcome_of N.turn cell }
+        ensures same_reference { self.new.reader.ghost_name ≡ self.old.reader.ghost_name }
+    {
+        self.reader.read(cell)
+    }
+
     /// The number of a cell that is told.
     #[tactic(auto, using(crate::proofs::ViewLemmas::told_number))]
     pub(crate) fn number(&mut self, cell: u64) -> i64
