@@ -1,5 +1,5 @@
 -- Outputs that are laid one after the other.
-use Rattle.std.proofs.Common.{◌≡◌, ◌∙◌, refl, sym, ap, ℕ, zero, suc, ◌+◌, ◌-◌, ◌*◌, ◌<◌, ◌≤◌, ℤ, pos, Bool, true, false, List, [], ◌∷◌, ◌++◌, length, length-append, drop, take, get_or, map, Option, Some, None, IsTrue, drop-cons, add-one, arith, append_assoc, length-drop}
+use Rattle.std.proofs.Common.{◌≡◌, ◌∙◌, refl, sym, ap, ℕ, zero, suc, ◌+◌, ◌-◌, ◌*◌, ◌<◌, ◌≤◌, ℤ, pos, Bool, true, false, List, [], ◌∷◌, ◌++◌, length, length-append, drop, take, get_or, map, Option, Some, None, IsTrue, subst, drop-cons, add-one, arith, append_assoc, length-drop}
 use Rattle.std.specs.Prelude.{◌&&◌, ◌==◌, nat_le, nat_lt, slice_get, slice_index_or, if◌then◌else◌}
 use Rattle.std.specs.List.{flat_map, range_with_len}
 use Rattle.std.proofs.lemmas.Bool.Decides.{nat_tests}
@@ -31,6 +31,15 @@ laid_more a [] s room h first fits = both (s.first == a) (nat_le (a + s.height *
 laid_more a (t ∷ l) s room h first fits =
     let parts = both_true (t.first == a) (are_laid (a + t.height * t.width) l room) h in
     both (t.first == a) (are_laid (a + t.height * t.width) (l ++ s ∷ []) room) parts.0 (laid_more (a + t.height * t.width) l s room parts.1 first fits)
+
+-- after a push that may be refused
+pub laid_pushed : (b : Bool) (l m : List Spot) (s : Spot) (room : ℕ) → m ≡ (if b then l ++ s ∷ [] else l) → IsTrue (are_laid 0 l room) → s.first ≡ end_of 0 l → s.first + s.height * s.width ≤ room → IsTrue (are_laid 0 m room)
+laid_pushed true l m s room e h first fits = subst (λ (k : List Spot). IsTrue (are_laid 0 k room)) (sym e) (laid_more 0 l s room h first fits)
+laid_pushed false l m s room e h first fits = subst (λ (k : List Spot). IsTrue (are_laid 0 k room)) (sym e) h
+
+pub end_pushed : (b : Bool) (l m : List Spot) (s : Spot) → m ≡ (if b then l ++ s ∷ [] else l) → b ≡ true → s.first ≡ end_of 0 l → end_of 0 m ≡ s.first + s.height * s.width
+end_pushed true l m s e t first = ap (end_of 0) e ∙ end_more 0 l s ∙ ap (λ n. n + s.height * s.width) (sym first)
+end_pushed false l m s e t first = absurd (cc)
 
 -- what is laid is laid up to its end
 tight : (a : ℕ) (l : List Spot) (room : ℕ) → IsTrue (are_laid a l room) → IsTrue (are_laid a l (end_of a l))

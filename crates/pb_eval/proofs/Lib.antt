@@ -11,3 +11,6 @@ pub mod TurnLemmas
 pub mod StmtLemmas
 pub mod TrapLemmas
 pub mod LayLemmas
+pub mod OutLemmas
+pub mod RunLemmas
+pub mod CutLemmas

@@ -47,7 +47,7 @@ both_true false b h = cc
 pub same_number : (m n : ℕ) → IsTrue (m == n) → m ≡ n
 same_number m n h = grind (arith, nat_tests, h)
 
-at_most : (m n : ℕ) → IsTrue (nat_le m n) → m ≤ n
+pub at_most : (m n : ℕ) → IsTrue (nat_le m n) → m ≤ n
 at_most m n h = grind (arith, nat_tests, h)
 
 module _ (room : ℕ) where

@@ -7,3 +7,5 @@ pub mod Working
 pub mod Turns
 pub mod Outputs
 pub mod Traps
+pub mod Running
+pub mod CanRun

@@ -1,5 +1,5 @@
 -- What views show of the cells that a reader tells.
-use Rattle.std.specs.Prelude.{ℕ, ◌^◌, ◌<◌, ◌≤◌, ℤ, pos, IsTrue, is_some, List, map, slice_index}
+use Rattle.std.specs.Prelude.{ℕ, ◌^◌, ◌<◌, ◌≤◌, ℤ, pos, IsTrue, is_some, None, List, [], map, slice_index}
 use Rattle.std.specs.List.{All, flat_map}
 use Rattle.std.specs.Option.{option_map_or}
 use Rattle.pb_linear.specs.Sizes.{sizes_of}
@@ -51,3 +51,7 @@ pub record IsSetting (turn : Turn) (sizes : Sizes) (x y : ℕ) (views : List Vie
   pub small_x : x < 2 ^ 63
   pub small_y : y < 2 ^ 63
   pub told : All (IsTold turn) views
+
+-- where nothing is told
+abbrev pub nothing_told : Turn
+nothing_told = record { task = 0; outcomes = λ _. None; left = [] }

@@ -10,6 +10,7 @@ mod laying;
 mod numbers;
 mod port;
 mod products;
+mod run;
 mod scene;
 mod scratch;
 mod shown;

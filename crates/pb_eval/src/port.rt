@@ -11,11 +11,18 @@ pub(crate) trait NamesTurn {
     ghost turn: { Turn };
 }
 
+impl NamesTurn for Brand {
+    ghost use Rattle.pb_eval.specs.Shown.{nothing_told};
+
+    ghost turn = { nothing_told };
+}
+
 /// A reader that tells just that.
+#[derive(Drop)]
 pub(crate) struct Port<'a, C: CellReader, N: NamesTurn> {
-    reader: &'a mut C,
-    of: std::marker::PhantomData<N>,
-    ghost same: { C.turn reader.now ≡ N.turn },
+    pub(crate) reader: &'a mut C,
+    pub(crate) of: std::marker::PhantomData<N>,
+    pub(crate) ghost same: { C.turn reader.now ≡ N.turn },
 }
 
 impl<'a, C: CellReader, N: NamesTurn> Port<'a, C, N> {

@@ -13,12 +13,13 @@ use pb_values::View;
 use std::marker::{Model, PhantomData};
 
 /// What a body is run around: the sizes, the rule variables, and the views of the reads.
+#[derive(Drop)]
 pub(crate) struct Scene<'a, N: NamesTurn> {
-    sizes: &'a Sizes,
-    x: u64,
-    y: u64,
-    views: &'a [View],
-    of: PhantomData<N>,
+    pub(crate) sizes: &'a Sizes,
+    pub(crate) x: u64,
+    pub(crate) y: u64,
+    pub(crate) views: &'a [View],
+    pub(crate) of: PhantomData<N>,
 }
 
 impl<'a, N: NamesTurn> Model for Scene<'a, N> {
