@@ -14,3 +14,6 @@ pub mod LayLemmas
 pub mod OutLemmas
 pub mod RunLemmas
 pub mod CutLemmas
+pub mod HeldLemmas
+pub mod GiveLemmas
+pub mod PlacedLemmas

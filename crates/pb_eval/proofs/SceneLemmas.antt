@@ -29,10 +29,10 @@ past_none [] i d past = refl
 past_none (n ∷ l) zero d past = absurd (omega arith)
 past_none (n ∷ l) (suc i) d past = past_none l i d (omega arith)
 
-get_or-any : {A : Type 0} (l : List A) (i : ℕ) (d e : A) → i < length l → get_or l i d ≡ get_or l i e
-get_or-any [] i d e below = absurd (omega arith)
-get_or-any (n ∷ l) zero d e below = refl
-get_or-any (n ∷ l) (suc i) d e below = get_or-any l i d e (omega (arith, below))
+pub get_or_any : {A : Type 0} (l : List A) (i : ℕ) (d e : A) → i < length l → get_or l i d ≡ get_or l i e
+get_or_any [] i d e below = absurd (omega arith)
+get_or_any (n ∷ l) zero d e below = refl
+get_or_any (n ∷ l) (suc i) d e below = get_or_any l i d e (omega (arith, below))
 
 module _ (turn : Turn) (sizes : Sizes) (x y : ℕ) (views : List View) (a : Around) (e : around_of turn sizes x y views ≡ a) (h : IsSetting turn sizes x y views) where
   size_is : (k : ℕ) → get_or sizes.of k 0 ≡ slice_index a.sizes k
@@ -99,7 +99,7 @@ laid_within s k t below is = within (length s.numbers.items) 0 s.spots.items k t
 module _ (s : Scratch) (k : ℕ) where
   pub local_there : (n : ℤ) → n ≡ get_or s.locals.items k n → k < length s.locals.items → n ≡ store_of s (local k)
   unfolding store_of stored
-  local_there n is below = is ∙ get_or-any s.locals.items k n (pos 0) below
+  local_there n is below = is ∙ get_or_any s.locals.items k n (pos 0) below
 
   pub local_past : length s.locals.items ≤ k → pos 0 ≡ store_of s (local k)
   unfolding store_of stored

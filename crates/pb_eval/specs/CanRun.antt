@@ -1,5 +1,5 @@
 -- When a rule can be run for a cell.
-use Rattle.std.specs.Prelude.{◌≡◌, ◌≢◌, ℕ, ◌≤◌, ◌<◌, ◌^◌, IsTrue, is_some, List, length, map}
+use Rattle.std.specs.Prelude.{◌≡◌, ◌≢◌, ℕ, ◌≤◌, ◌<◌, ◌^◌, IsTrue, is_some, List, length, map, Some, slice_get}
 use Rattle.std.specs.List.{All, flat_map}
 use Rattle.pb_linear.specs.Sizes.{sizes_of}
 use Rattle.pb_linear.specs.declared.sizes.Sizes.{Sizes}
@@ -12,7 +12,7 @@ use Rattle.pb_values.specs.declared.view.View.{View}
 use Rattle.pb_program.specs.declared.rule.RuleKind.TheVariants as kind
 use Rattle.pb_program.specs.Forms.{DeclValue}
 use Rattle.pb_program.specs.Stmts.{stmts}
-use Rattle.pb_program.specs.Trees.{ProgRule}
+use Rattle.pb_program.specs.Trees.{ProgRule, ProgTransform}
 use Rattle.pb_program.specs.WellFormed.{KindFits}
 use Rattle.pb_model.specs.Cells.{Cell}
 use Rattle.pb_model.specs.Equations.{view_sides}
@@ -42,3 +42,11 @@ locals_needed r = locals_among (stmts r.body)
 
 abbrev pub outs_needed : List DeclValue → List ℕ → Cell → ProgRule → ℕ
 outs_needed matrices sizes c r = numbers_in (map (view_sides matrices sizes c) r.outs)
+
+-- a fact of rule `r` of transform `t` of a program, if there is one
+abbrev pub OfRule : List ProgTransform → ℕ → ℕ → (ProgTransform → ProgRule → Type 0) → Type 0
+OfRule p t r P = (transform : ProgTransform) (rule : ProgRule) → slice_get p t ≡ Some transform → slice_get transform.rules r ≡ Some rule → P transform rule
+
+-- the rule variables as a cell of no matrix in particular
+abbrev pub at_variables : ℕ → ℕ → Cell
+at_variables x y = record { matrix = 0; x = x; y = y }

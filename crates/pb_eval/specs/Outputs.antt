@@ -24,6 +24,13 @@ free_by view.Whole sizes r d = (natural (exact_value d.w sizes), natural (exact_
 unfoldable pub free_sides : List DeclValue → List ℕ → Read → ℕ × ℕ
 free_sides matrices sizes r = option_map_or (free_by r.view sizes r) (slice_get matrices r.matrix) (0, 0)
 
+-- the lowest corner of a view whose coordinates have no rule variables
+abbrev pub low_by : ReadView → List ℕ → Read → ℕ × ℕ
+low_by view.Row sizes r = (0, natural (exact_value r.y0.rest sizes))
+low_by view.Column sizes r = (natural (exact_value r.x0.rest sizes), 0)
+low_by view.Whole sizes r = (0, 0)
+low_by _ sizes r = (natural (exact_value r.x0.rest sizes), if r.dims == 1 then 0 else natural (exact_value r.y0.rest sizes))
+
 -- how many numbers outputs with these sides have
 abbrev pub numbers_in : List (ℕ × ℕ) → ℕ
 numbers_in [] = 0

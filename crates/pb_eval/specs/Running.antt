@@ -42,3 +42,9 @@ Runs None sides body r s = Leaves sides body r s
 -- what the names of a body stand for, over views that are told
 unfoldable pub names_of : Turn → Sizes → ℕ → ℕ → List View → List (ℕ × ℕ) → Bindings
 names_of turn sizes x y views sides = record { sizes = sizes_of sizes; x = pos x; y = pos y; reads = map (grid_told turn) views; outs = sides }
+
+-- an answer is what a rule gives: the trap, or so many numbers, which stand in the scratch
+abbrev pub Gives : Result (List ℤ) Trap → Result ℕ Trap → Scratch → Type 0
+Gives (Ok numbers) (Ok n) s = AreLeft n s numbers × (n ≡ length numbers)
+Gives (Err t) (Err u) s = u ≡ t
+Gives _ _ s = ⊥

@@ -4,10 +4,12 @@
 //! of the rule's outputs, or a trap. The theorem is `run_body`: it is what the rule gives.
 #![tactic(auto)]
 
+mod body;
 mod cell;
 mod expression;
 mod laying;
 mod numbers;
+mod place;
 mod port;
 mod products;
 mod run;
@@ -21,4 +23,5 @@ mod sums;
 mod traps;
 mod turns;
 
+pub use body::run_body;
 pub use scratch::Scratch;

@@ -7,7 +7,9 @@ use crate::cell::natural;
 use crate::shown::Shown;
 use crate::spot::Spot;
 use pb_program::Meaning;
+use pb_syntax::MOST_VIEWS;
 use pb_values::Kind;
+use std::alloc::{AllocError, Global};
 
 /// Room for the locals and the outputs of a body.
 #[derive(Drop)]
@@ -21,6 +23,8 @@ pub struct Scratch {
 
 impl Scratch {
     ghost use Rattle.std.specs.Prelude.{◌≡◌};
+    ghost use Rattle.std.specs.Prelude.{◌<◌, IfOk, pos, slice_index_or};
+    ghost use Rattle.pb_eval.specs.Running.{locals_of, numbers_of, outs_of};
     ghost use Rattle.pb_model.specs.Bodies.{local};
     ghost use Rattle.pb_values.specs.Cells.{Turn};
     ghost use Rattle.pb_program.specs.declared.meaning.Meaning.TheVariants.{Output};
@@ -28,6 +32,28 @@ impl Scratch {
     ghost use Rattle.pb_eval.specs.Places.{grid_shown, IsShown};
     ghost use Rattle.pb_eval.specs.Shown.{Around};
     ghost use Rattle.pb_eval.specs.Stored.{bound, store_of};
+
+    /// Room for so many locals and so many numbers of outputs.
+    #[tactic(auto, unfolding(crate::specs::Running::locals_of, crate::specs::Running::outs_of))]
+    pub fn new(alloc: Global, locals: u64, outs: u64) -> Result<Scratch, AllocError>
+        ensures locals { IfOk result (λ s. locals_of s ≡ locals) }
+        ensures outs { IfOk result (λ s. outs_of s ≡ outs) }
+    {
+        Ok(Scratch {
+            locals: vec![in alloc; 0i64; locals as usize]?,
+            numbers: vec![in alloc; 0i64; outs as usize]?,
+            spots: Vec::with_capacity(alloc, MOST_VIEWS)?,
+        })
+    }
+
+    /// The number with this number among those of the outputs. It is one that the last run answered, if that answered more.
+    #[tactic(auto, using(crate::proofs::SceneLemmas::get_or_any), unfolding(crate::specs::Running::numbers_of, crate::specs::Running::outs_of))]
+    pub fn out(&self, k: u64) -> i64
+        requires { k < outs_of self.now }
+        ensures { result ≡ slice_index_or (numbers_of self.now) k (pos 0) }
+    {
+        self.numbers[k as usize]
+    }
 
     /// What an output shows as it is now.
     #[inline(always)]
@@ -56,7 +82,6 @@ impl Scratch {
         }
     }
 
-    ghost use Rattle.std.specs.Prelude.{◌<◌, slice_index_or, pos};
     ghost use Rattle.pb_model.specs.Bodies.{assigned, place_of, put_at, with_number};
     ghost use Rattle.pb_model.specs.Bodies.{output as an_output};
     ghost use Rattle.pb_eval.specs.Rooms.{local_room};

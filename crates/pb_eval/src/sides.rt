@@ -1,8 +1,9 @@
 ghost use Rattle.std.specs.Prelude.{◌≡◌, ◌==◌, ◌^◌, ◌≤◌, if◌then◌else◌, unsigned_abs};
 ghost use Rattle.std.specs.List.{All};
+ghost use Rattle.pb_linear.specs.Numbers.{exact_value};
 ghost use Rattle.pb_linear.specs.Sizes.{sizes_of};
 ghost use Rattle.pb_model.specs.Cells.{natural};
-ghost use Rattle.pb_eval.specs.Outputs.{free_by, gap_of};
+ghost use Rattle.pb_eval.specs.Outputs.{free_by, gap_of, low_by};
 
 use pb_linear::{SIZE_TOP, Sizes};
 use pb_program::{Coordinate, Decl, Read, ReadView};
@@ -74,5 +75,43 @@ fn rows(read: &Read, s: &Sizes) -> u64
         1
     } else {
         gap(&read.y0, &read.y1, s)
+    }
+}
+
+/// The lowest corner of a view whose coordinates have no rule variables, as a width and a height.
+pub(crate) fn lowest(read: &Read, s: &Sizes) -> Sides
+    requires { All (λ size. size ≤ SIZE_TOP) s.now.of }
+    ensures width { result.width ≡ (low_by read.now.view (sizes_of s.now) read.now).0 }
+    ensures height { result.height ≡ (low_by read.now.view (sizes_of s.now) read.now).1 }
+{
+    match read.view {
+        ReadView::Row => Sides {
+            width: 0,
+            height: natural(read.y0.form.rest.at(s)),
+        },
+        ReadView::Column => Sides {
+            width: natural(read.x0.form.rest.at(s)),
+            height: 0,
+        },
+        ReadView::Whole => Sides {
+            width: 0,
+            height: 0,
+        },
+        ReadView::Cell | ReadView::Region => Sides {
+            width: natural(read.x0.form.rest.at(s)),
+            height: low_row(read, s),
+        },
+    }
+}
+
+/// The lowest row of a cell or a region.
+fn low_row(read: &Read, s: &Sizes) -> u64
+    requires { All (λ size. size ≤ SIZE_TOP) s.now.of }
+    ensures { result ≡ (if read.now.dims == 1 then 0 else natural (exact_value read.now.y0.rest (sizes_of s.now))) }
+{
+    if read.dims == 1 {
+        0
+    } else {
+        natural(read.y0.form.rest.at(s))
     }
 }
