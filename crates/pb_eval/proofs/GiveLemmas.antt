@@ -7,13 +7,15 @@ use Rattle.pb_values.specs.declared.outcome.Kind.{Kind}
 use Rattle.pb_values.specs.declared.outcome.Trap.{Trap}
 use Rattle.pb_values.specs.declared.view.View.{View}
 use Rattle.pb_program.specs.Forms.{DeclValue}
-use Rattle.pb_program.specs.Stmts.{stmts}
+use Rattle.pb_program.specs.declared.statement.Stmt.{Stmt}
+use Rattle.pb_program.specs.declared.view.Read.{Read}
+use Rattle.pb_program.specs.Stmts.{StmtValue, bare_stmt, stmts}
 use Rattle.pb_program.specs.Trees.{ProgRule}
 use Rattle.pb_model.specs.Bodies.{Bindings, Store, left_by, outputs_from}
 use Rattle.pb_model.specs.Cells.{Cell}
 use Rattle.pb_model.specs.Equations.{after_body, bindings, first_trap, number_in, rule_gives, trap_of, unless_trapped, view_sides}
-use Rattle.pb_eval.specs.CanRun.{AreReads, at_variables, IsRunnable}
-use Rattle.pb_eval.specs.Outputs.{free_sides}
+use Rattle.pb_eval.specs.CanRun.{AreReads, at_variables, IsRunnable, outs_needed}
+use Rattle.pb_eval.specs.Outputs.{free_sides, numbers_in}
 use Rattle.pb_eval.specs.Running.{AreLeft, Gives, names_of, numbers_of, outs_of, Runs}
 use Rattle.pb_eval.specs.Shown.{grid_told, seen_by}
 use Rattle.pb_eval.specs.declared.run.Fault.{Fault}
@@ -58,3 +60,25 @@ module _ (turn : Turn) (matrices : List DeclValue) (s : Sizes) (x y t r : ℕ) (
   rule_is =
       ap (λ b. unless_trapped (first_trap (seen_by turn views)) (after_body (left_by b (stmts rule.body)) (λ st. outputs_from 0 st (map (view_sides matrices (sizes_of s) (at_variables x y)) rule.outs)) (trap_of matrices (sizes_of s) (at_variables x y) t r rule))) names
       ∙ ap (λ l. unless_trapped (first_trap (seen_by turn views)) (after_body (left_by (names_of turn s x y views (map (free_sides matrices (sizes_of s)) rule.outs)) (stmts rule.body)) (λ st. outputs_from 0 st l) (trap_of matrices (sizes_of s) (at_variables x y) t r rule))) free
+
+  -- of parts that are those of the rule
+  pub runs_here : (outs : List Read) (body : List Stmt) (ms : List DeclValue) (q p : Result ℕ Fault) (z : Scratch) → outs ≡ rule.outs → map bare_stmt body ≡ rule.body → ms ≡ matrices → q ≡ p
+      → Runs (first_trap (seen_by turn views)) (map (free_sides ms (sizes_of s)) outs) (left_by (names_of turn s x y views (map (free_sides ms (sizes_of s)) outs)) (stmts (map bare_stmt body))) q z
+      → Runs (first_trap (seen_by turn views)) (map (free_sides matrices (sizes_of s)) rule.outs) (left_by (names_of turn s x y views (map (free_sides matrices (sizes_of s)) rule.outs)) (stmts rule.body)) p z
+  runs_here outs body ms q p z eo eb em eq h =
+      subst (λ (w : Result ℕ Fault). Runs (first_trap (seen_by turn views)) (map (free_sides matrices (sizes_of s)) rule.outs) (left_by (names_of turn s x y views (map (free_sides matrices (sizes_of s)) rule.outs)) (stmts rule.body)) w z) eq
+      (subst (λ (l : List StmtValue). Runs (first_trap (seen_by turn views)) (map (free_sides matrices (sizes_of s)) rule.outs) (left_by (names_of turn s x y views (map (free_sides matrices (sizes_of s)) rule.outs)) (stmts l)) q z) eb
+      (subst (λ (l : List Read). Runs (first_trap (seen_by turn views)) (map (free_sides matrices (sizes_of s)) l) (left_by (names_of turn s x y views (map (free_sides matrices (sizes_of s)) l)) (stmts (map bare_stmt body))) q z) eo
+      (subst (λ (m : List DeclValue). Runs (first_trap (seen_by turn views)) (map (free_sides m (sizes_of s)) outs) (left_by (names_of turn s x y views (map (free_sides m (sizes_of s)) outs)) (stmts (map bare_stmt body))) q z) em h)))
+
+  -- the room for outputs
+  pub room_here : (outs : List Read) (ms : List DeclValue) (n : ℕ) → outs ≡ rule.outs → ms ≡ matrices → outs_needed matrices (sizes_of s) (at_variables x y) rule ≤ n → numbers_in (map (free_sides ms (sizes_of s)) outs) ≤ n
+  room_here outs ms n eo em h =
+      let e : numbers_in (map (free_sides ms (sizes_of s)) outs) ≡ numbers_in (map (view_sides matrices (sizes_of s) (at_variables x y)) rule.outs)
+      = ap (λ m. numbers_in (map (free_sides m (sizes_of s)) outs)) em ∙ ap (λ l. numbers_in (map (free_sides matrices (sizes_of s)) l)) eo ∙ ap numbers_in (sym free) in
+      omega (arith, e, h)
+
+  module _ (z : Scratch) (q : Result ℕ Trap) where
+    pub given_by : Gives (unless_trapped (first_trap (seen_by turn views)) (after_body (left_by (names_of turn s x y views (map (free_sides matrices (sizes_of s)) rule.outs)) (stmts rule.body))
+        (λ st. outputs_from 0 st (map (free_sides matrices (sizes_of s)) rule.outs)) (trap_of matrices (sizes_of s) (at_variables x y) t r rule))) q z → Gives (rule_gives matrices (sizes_of s) (at_variables x y) t r rule (seen_by turn views)) q z
+    given_by h = subst (λ (w : Result (List ℤ) Trap). Gives w q z) (sym rule_is) h

@@ -1,5 +1,5 @@
 -- Transforms and rules as they are held; views whose cells are told.
-use Rattle.std.proofs.Common.{◌≡◌, ◌∙◌, refl, sym, subst, ℕ, ◌<◌, ◌≤◌, List, map, length, get_or, slice_get, Some, None, IsTrue}
+use Rattle.std.proofs.Common.{◌≡◌, ◌∙◌, refl, sym, ap, subst, ℕ, ◌<◌, ◌≤◌, List, map, length, get_or, slice_get, Some, None, IsTrue}
 use Rattle.std.specs.Prelude.{is_some}
 use Rattle.std.specs.List.{All, Contains, flat_map}
 use Rattle.std.proofs.lemmas.Option.{slice_get-get_or, slice_get-map, slice_get_past}
@@ -10,6 +10,8 @@ use Rattle.pb_values.specs.Cells.{Turn}
 use Rattle.pb_values.specs.Views.{cell_of, row_cells, view_cells}
 use Rattle.pb_values.specs.declared.shape.TheConstants.{MOST_SIDE}
 use Rattle.pb_values.specs.declared.view.View.{View}
+use Rattle.pb_program.specs.Trees.{ProgRule, ProgTransform}
+use Rattle.pb_eval.specs.CanRun.{OfRule}
 use Rattle.pb_eval.specs.Shown.{IsTold}
 use Rattle.pb_eval.proofs.SceneLemmas.{get_or_any}
 
@@ -29,3 +31,20 @@ told_views turn views small told k d below =
       wide = (small k d below).0;
       tall = (small k d below).1;
     }
+
+module _ (ts : List ProgTransform) (t r : ℕ) (P : ProgTransform → ProgRule → Type 0) where
+  pub of_rule : (x : ProgTransform) (y : ProgRule) → slice_get ts t ≡ Some x → slice_get x.rules r ≡ Some y → P x y → OfRule ts t r P
+  of_rule x y ex ey h = λ z w ez ew.
+      let a : x ≡ z = cc in
+      let rules : slice_get x.rules r ≡ slice_get z.rules r = ap (λ (q : ProgTransform). slice_get q.rules r) a in
+      let b : y ≡ w = cc in
+      subst (P z) b (subst (λ (q : ProgTransform). P q y) a h)
+
+  pub of_none : slice_get ts t ≡ None → OfRule ts t r P
+  of_none e = λ z w ez ew. absurd (cc)
+
+  pub of_no_rule : (x : ProgTransform) → slice_get ts t ≡ Some x → slice_get x.rules r ≡ None → OfRule ts t r P
+  of_no_rule x ex ey = λ z w ez ew.
+      let a : x ≡ z = cc in
+      let rules : slice_get x.rules r ≡ slice_get z.rules r = ap (λ (q : ProgTransform). slice_get q.rules r) a in
+      absurd (cc)

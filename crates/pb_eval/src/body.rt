@@ -9,7 +9,7 @@ ghost use Rattle.pb_eval.specs.CanRun.{AreReads, at_variables, IsRunnable, local
 ghost use Rattle.pb_eval.specs.Running.{Gives, locals_of, outs_of};
 ghost use Rattle.pb_eval.specs.Shown.{seen_by};
 
-use crate::place::{rule_at, transform_at};
+use crate::place::{body_of_rule, matrices_of, outs_of_rule, rule_at, transform_at};
 use crate::port::NamesTurn;
 use crate::run::{Fault, run};
 use crate::scratch::Scratch;
@@ -32,7 +32,7 @@ fn trap_place(rule: &Rule, transform: &Transform, s: &Sizes, x: u64, y: u64) -> 
             width: x,
             height: y,
         },
-        RuleKind::Wide | RuleKind::Plan => match rule.outs.as_slice() {
+        RuleKind::Wide | RuleKind::Plan => match outs_of_rule(rule) {
             [] => Sides {
                 width: 0,
                 height: 0,
@@ -68,17 +68,10 @@ fn run_rule<C: CellReader, N: NamesTurn>(
     ensures numbers { outs_of scratch.new ≡ outs_of scratch.old }
     ensures stays { C.turn port.new ≡ C.turn port.old }
 {
-    match run::<C, N>(
-        &rule.outs,
-        &rule.body.stmts,
-        &transform.matrices,
-        s,
-        x,
-        y,
-        views,
-        port,
-        scratch,
-    ) {
+    let outs = outs_of_rule(rule);
+    let body = body_of_rule(rule);
+    let matrices = matrices_of(transform);
+    match run::<C, N>(outs, body, matrices, s, x, y, views, port, scratch) {
         Ok(n) => Ok(n),
         Err(Fault::Told(trap)) => Err(trap),
         Err(Fault::Body(kind)) => {
