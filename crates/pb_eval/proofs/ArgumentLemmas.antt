@@ -1,11 +1,10 @@
 -- Arguments and coordinates as they are held.
-use Rattle.std.proofs.Common.{◌≡◌, ◌∙◌, refl, sym, ap, ℕ, ◌<◌, ◌≤◌, ℤ, pos, List, [], ◌∷◌, length, get_or, map, Bool, true, false, Option, Some, None, Ok, Err, Result, arith}
+use Rattle.std.proofs.Common.{◌≡◌, ◌∙◌, refl, sym, ap, ◌<◌, ◌≤◌, ℤ, pos, List, [], ◌∷◌, length, get_or, Bool, true, false, Some, None, Ok, Err, Result, arith}
 use Rattle.std.specs.Prelude.{unsigned_abs, if◌then◌else◌}
 use Rattle.pb_values.specs.Checked.{checked_result}
 use Rattle.pb_values.specs.declared.outcome.Kind.{Kind}
 use Rattle.pb_values.specs.declared.outcome.Kind.TheVariants.{OutOfView}
 use Rattle.pb_program.specs.declared.expression.Expr.{Expr}
-use Rattle.pb_program.specs.declared.meaning.Function.{Function}
 use Rattle.pb_program.specs.declared.meaning.Function.TheVariants as function
 use Rattle.pb_program.specs.declared.meaning.Meaning.{Meaning}
 use Rattle.pb_program.specs.declared.meaning.Meaning.TheVariants.{RuleX}

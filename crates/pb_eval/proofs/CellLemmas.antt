@@ -1,17 +1,16 @@
 -- Cells of views by their places.
-use Rattle.std.proofs.Common.{◌≡◌, ◌∙◌, refl, sym, ap, ℕ, zero, suc, ◌+◌, ◌*◌, ◌-◌, ◌/◌, ◌%◌, ◌<◌, ◌≤◌, ℤ, pos, negsuc, ◌<ℤ◌, ◌≤ℤ◌, List, [], ◌∷◌, ◌++◌, length, length-append, map, get_or, ◌^◌, ◌⊎◌, to_z, w64, Some, None, Ok, Err, Result, arith, true, false, Bool}
+use Rattle.std.proofs.Common.{◌≡◌, ◌∙◌, refl, sym, ap, ℕ, zero, suc, ◌+◌, ◌*◌, ◌/◌, ◌%◌, ◌<◌, ◌≤◌, ℤ, pos, negsuc, ◌<ℤ◌, List, [], ◌∷◌, ◌++◌, length, length-append, map, ◌^◌, to_z, w64, Some, None, Ok, Err, arith, true, false, Bool}
 use Rattle.std.specs.Prelude.{slice_index_or, slice_get, nat_lt, ◌&&◌, if◌then◌else◌}
 use Rattle.std.specs.List.{flat_map, range_with_len}
 use Rattle.std.specs.Option.{ok_or}
 use Rattle.std.proofs.lemmas.Int.{ints, to_z_pos}
 use Rattle.std.proofs.lemmas.Bool.Decides.{nat_tests}
-use Rattle.std.proofs.lemmas.Option.{slice_get-get_or, get_or_from_slice_get}
+use Rattle.std.proofs.lemmas.Option.{get_or_from_slice_get}
 use Rattle.std.proofs.Math.Nat.{div-lt_iff_lt-mul}
 use Rattle.pb_values.specs.Cells.{Turn}
-use Rattle.pb_values.specs.declared.outcome.Kind.{Kind}
 use Rattle.pb_values.specs.declared.outcome.Kind.TheVariants.{OutOfView}
 use Rattle.pb_model.specs.Bodies.{cell_in}
-use Rattle.pb_model.specs.Grids.{Grid, at_place}
+use Rattle.pb_model.specs.Grids.{Grid}
 use Rattle.pb_eval.specs.Places.{grid_shown, height_of, IsShown, number_at, row_of, rows_of, width_of}
 use Rattle.pb_eval.specs.declared.shown.Shown.{Shown}
 use Rattle.pb_eval.specs.declared.shown.Shown.TheVariants.{Told, Kept, Nothing}

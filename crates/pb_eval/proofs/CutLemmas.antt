@@ -1,7 +1,7 @@
 -- Numbers of views, cut into matrices again; sides of outputs.
-use Rattle.std.proofs.Common.{◌≡◌, ◌∙◌, refl, sym, ap, subst, ℕ, zero, suc, ◌+◌, ◌*◌, ◌<◌, ◌≤◌, ◌⊎◌, inl, inr, ℤ, pos, negsuc, ◌+ℤ◌, ◌-ℤ◌, ◌*ℤ◌, Bool, true, false, List, [], ◌∷◌, ◌++◌, length, length-append, drop, take, get_or, map, None, Some, Option, ◌≢◌, arith}
+use Rattle.std.proofs.Common.{◌≡◌, ◌∙◌, refl, sym, ap, ℕ, zero, suc, ◌+◌, ◌*◌, ◌<◌, ◌⊎◌, inl, inr, ℤ, pos, ◌+ℤ◌, ◌-ℤ◌, Bool, true, false, List, [], ◌∷◌, ◌++◌, length, length-append, drop, take, map, None, Some, Option, ◌≢◌, arith}
 use Rattle.std.specs.Prelude.{◌==◌, if◌then◌else◌, slice_get}
-use Rattle.std.specs.List.{All, AllByRecursion, flat_map, range_with_len}
+use Rattle.std.specs.List.{All, flat_map, range_with_len}
 use Rattle.std.specs.Option.{option_map_or}
 use Rattle.std.proofs.lemmas.Int.{ints}
 use Rattle.std.proofs.lemmas.List.{length-map, map-append}
@@ -9,19 +9,17 @@ use Rattle.std.proofs.lemmas.List.Elements.{All-cons, All-from_recursion, All-he
 use Rattle.pb_linear.specs.Numbers.{exact_value}
 use Rattle.pb_values.specs.Cells.{Turn}
 use Rattle.pb_values.specs.Views.{cell_of, row_cells, view_cells}
-use Rattle.pb_values.specs.declared.outcome.Outcome.{Outcome}
 use Rattle.pb_values.specs.declared.view.View.{View}
 use Rattle.pb_program.specs.declared.view.Read.{Read}
 use Rattle.pb_program.specs.declared.view.ReadView.{ReadView}
 use Rattle.pb_program.specs.declared.view.ReadView.TheVariants as view
 use Rattle.pb_program.specs.Areas.{Span, area_by, area_of, from_start, one_place}
 use Rattle.pb_program.specs.Forms.{CoordinateValue, DeclValue, coordinate_at}
-use Rattle.pb_program.specs.WellFormed.{Binds, IsFree, KindFits}
+use Rattle.pb_program.specs.WellFormed.{IsFree, KindFits}
 use Rattle.pb_program.specs.declared.rule.RuleKind.{RuleKind}
 use Rattle.pb_program.specs.declared.rule.RuleKind.TheVariants as kind
 use Rattle.pb_model.specs.Cells.{Cell, natural}
-use Rattle.pb_model.specs.Equations.{cut_up, extent, number_in, shown_area, sides_by, view_sides}
-use Rattle.pb_model.specs.Grids.{Grid}
+use Rattle.pb_model.specs.Equations.{cut_up, extent, number_in, sides_by, view_sides}
 use Rattle.pb_eval.specs.CanRun.{shape_sides}
 use Rattle.pb_eval.specs.Outputs.{free_by, free_sides, gap_of, low_by}
 use Rattle.pb_eval.specs.Shown.{grid_told, number_told, outcome_of, seen_by}

@@ -1,15 +1,15 @@
 -- Expressions as they are held, and as definitions see them.
-use Rattle.std.proofs.Common.{◌≡◌, ◌∙◌, refl, sym, ap, ℕ, zero, suc, ◌+◌, ◌<◌, ◌≤◌, ℤ, pos, List, [], ◌∷◌, length, drop, get_or, map, Ok, Err, Result, drop-cons, add-one, arith, rules}
+use Rattle.std.proofs.Common.{◌≡◌, ◌∙◌, refl, sym, ap, ℕ, zero, suc, ◌+◌, ◌<◌, ◌≤◌, ℤ, List, [], ◌∷◌, length, drop, get_or, map, Ok, Err, Result, drop-cons, add-one, arith, rules}
 use Rattle.std.specs.Global.{Box, Vec}
 use Rattle.pb_syntax.specs.declared.tree.expression.Level.{Level}
 use Rattle.pb_syntax.specs.declared.tree.expression.Operator.{Operator}
 use Rattle.pb_syntax.specs.declared.tree.expression.Relation.{Relation}
 use Rattle.pb_syntax.specs.declared.tree.expression.UnarySign.{UnarySign}
 use Rattle.pb_values.specs.declared.outcome.Kind.{Kind}
-use Rattle.pb_program.specs.declared.expression.Expr.{Expr, Number, Name, Call, Parentheses, Cell, Width, Height, Signed, Chain, Compare, the_lemmas}
+use Rattle.pb_program.specs.declared.expression.Expr.{Expr, Call, Cell, Signed, Chain, Compare, the_lemmas}
 use Rattle.pb_program.specs.declared.meaning.Called.{Called}
 use Rattle.pb_program.specs.declared.meaning.Named.{Named}
-use Rattle.pb_program.specs.Exprs.{bare, exprs, operands, call, cell, chain, compare, signed, parentheses}
+use Rattle.pb_program.specs.Exprs.{bare, exprs, operands, call, cell, chain, compare, signed}
 use Rattle.pb_model.specs.Bodies.{Bindings, Store, if_ok, operated, related, signed_by, truth, value, values}
 use Rattle.pb_eval.specs.Working.{called_in, cell_in_list, operand_in, value_in, values_in}
 

@@ -1,5 +1,5 @@
 -- A run gives what its rule gives.
-use Rattle.std.proofs.Common.{◌≡◌, ◌∙◌, refl, sym, ap, subst, ℕ, ◌≤◌, ℤ, pos, List, length, length-take, map, take, Option, Some, None, Ok, Err, Result, arith}
+use Rattle.std.proofs.Common.{◌≡◌, ◌∙◌, sym, ap, subst, ℕ, ◌≤◌, ℤ, pos, List, length, length-take, map, Option, Some, None, Ok, Err, Result, arith}
 use Rattle.pb_linear.specs.Sizes.{sizes_of}
 use Rattle.pb_linear.specs.declared.sizes.Sizes.{Sizes}
 use Rattle.pb_values.specs.Cells.{Turn}
@@ -11,13 +11,12 @@ use Rattle.pb_program.specs.declared.statement.Stmt.{Stmt}
 use Rattle.pb_program.specs.declared.view.Read.{Read}
 use Rattle.pb_program.specs.Stmts.{StmtValue, bare_stmt, stmts}
 use Rattle.pb_program.specs.Trees.{ProgRule}
-use Rattle.pb_model.specs.Bodies.{Bindings, Store, left_by, outputs_from}
-use Rattle.pb_model.specs.Cells.{Cell}
+use Rattle.pb_model.specs.Bodies.{Store, left_by, outputs_from}
 use Rattle.pb_model.specs.Equations.{after_body, bindings, first_trap, number_in, rule_gives, trap_of, unless_trapped, view_sides}
 use Rattle.pb_eval.specs.CanRun.{AreReads, at_variables, IsRunnable, outs_needed}
 use Rattle.pb_eval.specs.Outputs.{free_sides, numbers_in}
 use Rattle.pb_eval.specs.Running.{AreLeft, Gives, names_of, numbers_of, outs_of, Runs}
-use Rattle.pb_eval.specs.Shown.{grid_told, seen_by}
+use Rattle.pb_eval.specs.Shown.{seen_by}
 use Rattle.pb_eval.specs.declared.run.Fault.{Fault}
 use Rattle.pb_eval.specs.declared.run.Fault.TheVariants.{Body, Told}
 use Rattle.pb_eval.specs.declared.scratch.Scratch.{Scratch}
@@ -55,7 +54,7 @@ module _ (turn : Turn) (matrices : List DeclValue) (s : Sizes) (x y t r : ℕ) (
 
   pub rule_is : rule_gives matrices (sizes_of s) (at_variables x y) t r rule (seen_by turn views)
       ≡ unless_trapped (first_trap (seen_by turn views)) (after_body (left_by (names_of turn s x y views (map (free_sides matrices (sizes_of s)) rule.outs)) (stmts rule.body))
-        (λ st. outputs_from 0 st (map (free_sides matrices (sizes_of s)) rule.outs)) (trap_of matrices (sizes_of s) (at_variables x y) t r rule))
+      (λ st. outputs_from 0 st (map (free_sides matrices (sizes_of s)) rule.outs)) (trap_of matrices (sizes_of s) (at_variables x y) t r rule))
   unfolding rule_gives
   rule_is =
       ap (λ b. unless_trapped (first_trap (seen_by turn views)) (after_body (left_by b (stmts rule.body)) (λ st. outputs_from 0 st (map (view_sides matrices (sizes_of s) (at_variables x y)) rule.outs)) (trap_of matrices (sizes_of s) (at_variables x y) t r rule))) names

@@ -1,10 +1,9 @@
 -- Outputs that are laid one after the other.
-use Rattle.std.proofs.Common.{◌≡◌, ◌∙◌, refl, sym, ap, ℕ, zero, suc, ◌+◌, ◌-◌, ◌*◌, ◌<◌, ◌≤◌, ℤ, pos, Bool, true, false, List, [], ◌∷◌, ◌++◌, length, length-append, drop, take, get_or, map, Option, Some, None, IsTrue, subst, drop-cons, add-one, arith, append_assoc, length-drop}
+use Rattle.std.proofs.Common.{◌≡◌, ◌∙◌, refl, sym, ap, ℕ, zero, suc, ◌+◌, ◌*◌, ◌<◌, ◌≤◌, ℤ, pos, Bool, true, false, List, [], ◌∷◌, ◌++◌, length, length-append, drop, take, get_or, map, Option, Some, None, IsTrue, subst, drop-cons, arith, append_assoc, length-drop}
 use Rattle.std.specs.Prelude.{◌&&◌, ◌==◌, nat_le, nat_lt, slice_get, slice_index_or, if◌then◌else◌}
 use Rattle.std.specs.List.{flat_map, range_with_len}
 use Rattle.std.proofs.lemmas.Bool.Decides.{nat_tests}
 use Rattle.std.proofs.lemmas.Option.{get_or_from_slice_get}
-use Rattle.std.proofs.lemmas.List.{take-append-le}
 use Rattle.pb_model.specs.Bodies.{Place, Store, at_first, local, output, output_cells, outputs_from}
 use Rattle.pb_eval.specs.Outputs.{end_of}
 use Rattle.pb_eval.specs.Spots.{are_laid}
@@ -131,9 +130,9 @@ module _ (numbers : List ℤ) where
       let d : s.first + 0 * s.width ≡ a = omega (arith, first) in
       append_assoc (output_cells st k (s.width, s.height)) (outputs_from (k + 1) st (map sides_of l)) (drop (end_of (a + s.height * s.width) l) numbers)
       ∙ ap (λ r. output_cells st k (s.width, s.height) ++ r) (outputs_split st (a + s.height * s.width) (k + 1) l parts.1
-        (λ i x y t at across down. let n : k + 1 + i ≡ k + suc i = omega arith in ap (λ m. st (output m x y)) n ∙ same (suc i) x y t at across down) ∙ ap (λ m. drop m numbers) (sym e))
+      (λ i x y t at across down. let n : k + 1 + i ≡ k + suc i = omega arith in ap (λ m. st (output m x y)) n ∙ same (suc i) x y t at across down) ∙ ap (λ m. drop m numbers) (sym e))
       ∙ rows_split (λ i j. st (output k i j)) s.first s.width 0 s.height
-        (λ i j across down. ap (λ m. st (output m i j)) (sym z) ∙ same 0 i j s refl across (omega (arith, down))) (omega (arith, fits)) ∙ ap (λ m. drop m numbers) d
+      (λ i j across down. ap (λ m. st (output m i j)) (sym z) ∙ same 0 i j s refl across (omega (arith, down))) (omega (arith, fits)) ∙ ap (λ m. drop m numbers) d
 
   taken : (o : List ℤ) (n : ℕ) → o ++ drop n numbers ≡ numbers → n ≤ length numbers → take n numbers ≡ o
   taken o n e fits =

@@ -1,5 +1,5 @@
 -- Places of views and outputs.
-use Rattle.std.proofs.Common.{◌≡◌, ◌∙◌, refl, sym, ap, ℕ, zero, suc, ◌+◌, ◌*◌, ◌<◌, ◌≤◌, ℤ, pos, true, false, Bool, List, [], ◌∷◌, ◌++◌, length, map, get_or, IsTrue, subst, arith}
+use Rattle.std.proofs.Common.{◌≡◌, ◌∙◌, refl, sym, ap, ℕ, zero, suc, ◌+◌, ◌*◌, ◌<◌, ◌≤◌, ℤ, true, false, Bool, List, [], ◌∷◌, ◌++◌, length, map, get_or, IsTrue, subst, arith}
 use Rattle.std.specs.Prelude.{◌&&◌, ◌==◌, nat_le}
 use Rattle.std.specs.List.{flat_map, range_with_len}
 use Rattle.std.proofs.Math.Nat.{mul-le-mul_left}

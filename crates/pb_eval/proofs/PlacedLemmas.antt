@@ -1,16 +1,16 @@
 -- Where traps stand.
-use Rattle.std.proofs.Common.{◌≡◌, ◌≢◌, ◌∙◌, refl, sym, ap, ℕ, zero, suc, ◌<◌, List, [], ◌∷◌, length, Some, None, Option, pos, arith}
+use Rattle.std.proofs.Common.{◌≡◌, ◌≢◌, refl, ℕ, zero, suc, ◌<◌, List, [], ◌∷◌, length, Some, None, Option, pos, arith}
 use Rattle.std.specs.Prelude.{slice_get}
-use Rattle.std.specs.List.{All, AllByRecursion}
+use Rattle.std.specs.List.{All}
 use Rattle.std.specs.Option.{option_map_or}
 use Rattle.pb_program.specs.declared.rule.RuleKind.{RuleKind}
 use Rattle.pb_program.specs.declared.rule.RuleKind.TheVariants as kind
 use Rattle.pb_program.specs.declared.view.Read.{Read}
 use Rattle.pb_program.specs.Areas.{area_of, from_start}
 use Rattle.pb_program.specs.Forms.{DeclValue}
-use Rattle.pb_program.specs.WellFormed.{IsFree, KindFits}
+use Rattle.pb_program.specs.WellFormed.{KindFits}
 use Rattle.pb_model.specs.Cells.{Cell, natural}
-use Rattle.pb_model.specs.Equations.{corner, shown_area, trap_place}
+use Rattle.pb_model.specs.Equations.{trap_place}
 use Rattle.pb_eval.specs.Outputs.{low_by}
 use Rattle.pb_eval.proofs.CutLemmas.{lows_are}
 

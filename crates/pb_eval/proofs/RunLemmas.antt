@@ -1,6 +1,5 @@
 -- What a run leaves.
-use Rattle.std.proofs.Common.{◌≡◌, ◌∙◌, refl, sym, ap, subst, ℕ, ◌≤◌, ℤ, List, length, map, take, Option, Some, None, Ok, Err, Result, arith}
-use Rattle.pb_linear.specs.Sizes.{sizes_of}
+use Rattle.std.proofs.Common.{◌≡◌, ◌∙◌, refl, sym, ap, subst, ℕ, List, length, map, take, Option, Some, None, Ok, Err, Result, arith}
 use Rattle.pb_linear.specs.declared.sizes.Sizes.{Sizes}
 use Rattle.pb_values.specs.Cells.{Turn}
 use Rattle.pb_values.specs.declared.outcome.Kind.{Kind}
@@ -8,16 +7,14 @@ use Rattle.pb_values.specs.declared.outcome.Trap.{Trap}
 use Rattle.pb_values.specs.declared.view.View.{View}
 use Rattle.pb_program.specs.declared.statement.Stmt.{Stmt}
 use Rattle.pb_program.specs.Stmts.{bare_stmt, stmts}
-use Rattle.pb_model.specs.Bodies.{Bindings, Store, after_all, at_first, left_by, outputs_from}
+use Rattle.pb_model.specs.Bodies.{Store, after_all, at_first, left_by, outputs_from}
 use Rattle.pb_eval.specs.Outputs.{end_of}
-use Rattle.pb_eval.specs.Running.{AreLeft, locals_of, names_of, numbers_of, outs_of, Runs}
+use Rattle.pb_eval.specs.Running.{AreLeft, names_of, numbers_of, outs_of, Runs}
 use Rattle.pb_eval.specs.Shown.{around_of}
 use Rattle.pb_eval.specs.Stored.{bound, SameRoom, sides_of, store_of}
-use Rattle.pb_eval.specs.Working.{left_in, stmts_in}
-use Rattle.pb_eval.specs.declared.run.Fault.{Fault}
+use Rattle.pb_eval.specs.Working.{stmts_in}
 use Rattle.pb_eval.specs.declared.run.Fault.TheVariants.{Body, Told}
 use Rattle.pb_eval.specs.declared.scratch.Scratch.{Scratch}
-use Rattle.pb_eval.specs.declared.spot.Spot.{Spot}
 use Rattle.pb_eval.proofs.LayLemmas.{end_fits, outputs_are}
 
 pub runs_trap : (o : Option Trap) (t : Trap) (sides : List (ℕ × ℕ)) (body : Result Store Kind) (s : Scratch) → Some t ≡ o → Runs o sides body (Err (Told t)) s

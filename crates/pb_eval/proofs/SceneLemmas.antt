@@ -1,28 +1,26 @@
 -- What a scene stands for.
-use Rattle.std.proofs.Common.{◌≡◌, ◌∙◌, refl, sym, ap, ℕ, zero, suc, ◌*◌, ◌+◌, ◌<◌, ◌≤◌, ◌^◌, ℤ, pos, true, List, [], ◌∷◌, ◌++◌, length, length-take, map, take, get_or, to_z, w64, Some, None, IsTrue, arith}
-use Rattle.std.specs.Prelude.{slice_index, slice_index_or, slice_get, nat_lt, ◌&&◌, if◌then◌else◌}
-use Rattle.std.specs.List.{flat_map, range_with_len}
+use Rattle.std.proofs.Common.{◌≡◌, ◌∙◌, refl, sym, ap, ℕ, zero, suc, ◌*◌, ◌+◌, ◌<◌, ◌≤◌, ℤ, pos, List, [], ◌∷◌, length, length-take, map, take, get_or, to_z, w64, Some, arith}
+use Rattle.std.specs.Prelude.{slice_index, slice_index_or, slice_get}
+use Rattle.std.specs.List.{range_with_len}
 use Rattle.std.proofs.lemmas.Int.{to_z_pos}
 use Rattle.pb_linear.specs.declared.sizes.Sizes.{Sizes}
-use Rattle.pb_linear.specs.Limits.{is_zero_from}
 use Rattle.pb_linear.proofs.SizesLemmas.{size_at}
 use Rattle.pb_values.specs.Cells.{Turn}
 use Rattle.pb_values.specs.declared.view.View.{View}
-use Rattle.pb_program.specs.declared.meaning.Meaning.{Meaning}
 use Rattle.pb_program.specs.declared.meaning.Meaning.TheVariants as meaning
 use Rattle.std.proofs.lemmas.List.{get_or-map, length-map}
 use Rattle.std.proofs.lemmas.Option.{slice_get-get_or}
 use Rattle.std.proofs.lemmas.Bool.Decides.{nat_tests}
-use Rattle.pb_model.specs.Bodies.{local, output, output_cells, output_grid, view_of}
-use Rattle.pb_model.specs.Grids.{Grid, no_grid}
-use Rattle.pb_eval.specs.Places.{grid_shown, IsShown, number_at, row_of, rows_of}
-use Rattle.pb_eval.specs.Shown.{Around, around_of, grid_told, IsSetting, IsTold, number_told}
+use Rattle.pb_model.specs.Bodies.{local, output_grid, view_of}
+use Rattle.pb_model.specs.Grids.{no_grid}
+use Rattle.pb_eval.specs.Places.{grid_shown, number_at, row_of, rows_of}
+use Rattle.pb_eval.specs.Shown.{Around, around_of, grid_told, IsSetting, number_told}
 use Rattle.pb_eval.specs.Stored.{bound, in_spot, sides_of, store_of, stored}
 use Rattle.pb_eval.specs.declared.scratch.Scratch.{Scratch}
 use Rattle.pb_eval.specs.declared.shown.Shown.TheVariants.{Told, Kept, Nothing}
 use Rattle.pb_eval.specs.declared.spot.Spot.{Spot}
 use Rattle.pb_eval.proofs.PlaceLemmas.{laid_within as within, map_rows, rows_like}
-use Rattle.pb_values.specs.Views.{cell_of, view_cells}
+use Rattle.pb_values.specs.Views.{cell_of}
 
 past_none : {A : Type 0} (l : List A) (i : ℕ) (d : A) → length l ≤ i → get_or l i d ≡ d
 past_none [] i d past = refl
@@ -86,7 +84,7 @@ module _ (turn : Turn) (a : Around) (s : Scratch) (k : ℕ) where
       let sides : ◌≡◌ {A = ℕ × ℕ} (slice_index_or (map sides_of s.spots.items) k (0, 0)) (t.width, t.height) = get_or-map sides_of s.spots.items k t (0, 0) below ∙ ap sides_of (sym is) in
       let there : slice_get s.spots.items k ≡ Some t = slice_get-get_or s.spots.items k t below ∙ ap (λ z. Some z) (sym is) in
       let cells = rows_like (λ i j. in_spot s.numbers.items (slice_get s.spots.items k) i j) (number_at turn s.numbers.items (Kept t)) t.width t.height
-          (λ i j across down. ap (λ o. in_spot s.numbers.items o i j) there ∙ in_range s.numbers.items t i j across down) in
+      (λ i j across down. ap (λ o. in_spot s.numbers.items o i j) there ∙ in_range s.numbers.items t i j across down) in
       (λ i. record { width = t.width; height = t.height; cells = sym cells i }) ∙ ap (output_grid (store_of s) k) (sym sides)
 
   pub output_past : length s.spots.items ≤ k → grid_shown turn s.numbers.items Nothing ≡ view_of (bound a s) (store_of s) (meaning.Output k)

@@ -1,5 +1,5 @@
 -- Statements as they are held, and as definitions see them.
-use Rattle.std.proofs.Common.{◌≡◌, ◌∙◌, refl, sym, ap, ℕ, zero, suc, max, ◌+◌, ◌-◌, ◌<◌, ◌≤◌, ℤ, pos, ◌+ℤ◌, List, [], ◌∷◌, length, drop, get_or, map, Option, Some, None, Ok, Err, Result, Bool, true, false, not, drop-cons, add-one, arith, rules}
+use Rattle.std.proofs.Common.{◌≡◌, ◌∙◌, refl, sym, ap, ℕ, zero, suc, max, ◌+◌, ◌-◌, ◌<◌, ◌≤◌, ℤ, pos, ◌+ℤ◌, List, [], ◌∷◌, length, drop, get_or, map, Option, Some, None, Ok, Err, Result, true, false, not, drop-cons, add-one, arith, rules}
 use Rattle.std.specs.Prelude.{if◌then◌else◌, IfOk}
 use Rattle.std.specs.Global.{Vec}
 use Rattle.std.proofs.lemmas.Int.{ints}
@@ -13,8 +13,8 @@ use Rattle.pb_program.specs.Exprs.{bare}
 use Rattle.pb_program.specs.Stmts.{assign, assign_cell, bare_stmt, call_stmt, stmts, if_stmt, if_else, for_stmt, let_matrix, let_number}
 use Rattle.pb_program.specs.Forms.{LocalFormValue}
 use Rattle.pb_program.specs.declared.meaning.Called.{Called}
-use Rattle.pb_model.specs.Bodies.{Bindings, Store, after, after_all, assigned, each_turn, if_ok, is_zero, place_of, put_at, tested, turns, value}
-use Rattle.pb_eval.specs.Rooms.{local_room, locals_among, locals_in}
+use Rattle.pb_model.specs.Bodies.{Bindings, Store, after, after_all, assigned, each_turn, if_ok, is_zero, place_of, put_at, turns}
+use Rattle.pb_eval.specs.Rooms.{local_room, locals_in}
 use Rattle.pb_eval.specs.Shown.{Around}
 use Rattle.pb_eval.specs.Stored.{bound, SameRoom, sides_of}
 use Rattle.pb_eval.specs.declared.scratch.Scratch.{Scratch}

@@ -1,13 +1,13 @@
 -- Numbers that are put in a scratch.
-use Rattle.std.proofs.Common.{◌≡◌, ◌≢◌, ◌∙◌, refl, sym, ap, subst, ℕ, zero, suc, ◌+◌, ◌*◌, ◌<◌, ◌≤◌, ◌⊎◌, inl, inr, ℤ, pos, true, false, Bool, List, [], ◌∷◌, length, get_or, set, Some, None, Option, Ok, Err, IsTrue, map, arith}
-use Rattle.std.specs.Prelude.{◌&&◌, ◌==◌, if◌then◌else◌, nat_lt, slice_get, slice_index_or, slice_set}
+use Rattle.std.proofs.Common.{◌≡◌, ◌≢◌, ◌∙◌, refl, sym, ap, subst, ℕ, zero, suc, ◌+◌, ◌*◌, ◌<◌, ◌≤◌, ℤ, pos, true, false, Bool, List, [], ◌∷◌, length, get_or, set, Some, None, Option, Ok, Err, IsTrue, map, arith}
+use Rattle.std.specs.Prelude.{◌&&◌, ◌==◌, if◌then◌else◌, nat_lt, slice_get, slice_index_or}
 use Rattle.std.proofs.Math.Nat.{mul-le-mul_left}
 use Rattle.std.proofs.lemmas.Bool.Decides.{nat_tests}
 use Rattle.std.proofs.lemmas.Grind.{get_or-set_at}
 use Rattle.std.proofs.lemmas.List.{get_or-map, get_or-set_other, length-map}
 use Rattle.std.proofs.lemmas.Option.{get_or_from_slice_get, slice_get-get_or}
 use Rattle.pb_values.specs.declared.outcome.Kind.TheVariants.{OutOfView}
-use Rattle.pb_model.specs.Bodies.{Place, Store, assigned, local, only_place, output, put_inside, same_place, with_number}
+use Rattle.pb_model.specs.Bodies.{Place, Store, assigned, local, only_place, output, put_inside, with_number}
 use Rattle.pb_eval.specs.Spots.{are_laid}
 use Rattle.pb_eval.specs.Shown.{Around}
 use Rattle.pb_eval.specs.Stored.{bound, in_spot, sides_of, store_of, stored}

@@ -1,5 +1,5 @@
 -- Sums over rows, from a place on.
-use Rattle.std.proofs.Common.{◌≡◌, ◌∙◌, refl, sym, ap, ℕ, zero, suc, ◌+◌, ◌*◌, ◌-◌, ◌<◌, ◌≤◌, ℤ, pos, ◌+ℤ◌, List, [], ◌∷◌, ◌++◌, map, Ok, Err, Result, arith}
+use Rattle.std.proofs.Common.{◌≡◌, ◌∙◌, refl, sym, ap, ℕ, zero, suc, ◌+◌, ◌-◌, ◌<◌, ◌≤◌, ℤ, pos, ◌+ℤ◌, List, [], ◌∷◌, ◌++◌, map, Ok, Err, Result, arith}
 use Rattle.std.specs.List.{flat_map, range_with_len}
 use Rattle.pb_values.specs.Checked.{checked_result}
 use Rattle.pb_values.specs.declared.outcome.Kind.{Kind}

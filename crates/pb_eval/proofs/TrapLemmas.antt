@@ -1,9 +1,9 @@
 -- The first trap among outcomes.
-use Rattle.std.proofs.Common.{◌≡◌, ◌∙◌, refl, sym, ap, ℕ, zero, suc, ◌+◌, ◌-◌, ◌<◌, ◌≤◌, ℤ, List, [], ◌∷◌, ◌++◌, length, drop, get_or, map, Option, Some, None, drop-cons, add-one, arith}
+use Rattle.std.proofs.Common.{◌≡◌, ◌∙◌, refl, sym, ap, ℕ, zero, suc, ◌+◌, ◌-◌, ◌<◌, ◌≤◌, ℤ, List, [], ◌∷◌, ◌++◌, length, drop, get_or, map, Some, None, drop-cons, add-one, arith}
 use Rattle.std.specs.List.{flat_map, range_with_len}
 use Rattle.std.proofs.lemmas.List.{map-append}
 use Rattle.pb_values.specs.Cells.{Turn}
-use Rattle.pb_values.specs.Views.{cell_of, row_cells, view_cells}
+use Rattle.pb_values.specs.Views.{cell_of, view_cells}
 use Rattle.pb_values.specs.declared.outcome.Outcome.{Outcome}
 use Rattle.pb_values.specs.declared.outcome.Outcome.TheVariants.{Trapped, Value}
 use Rattle.pb_values.specs.declared.outcome.Trap.{Trap}

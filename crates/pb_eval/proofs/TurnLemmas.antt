@@ -1,10 +1,9 @@
 -- The turns of a loop.
-use Rattle.std.proofs.Common.{◌≡◌, ◌∙◌, refl, sym, ap, subst, ℕ, zero, suc, ◌+◌, ◌-◌, ◌<◌, ◌≤◌, ℤ, pos, negsuc, ◌+ℤ◌, ◌-ℤ◌, ◌≤ℤ◌, ◌<ℤ◌, Bool, true, false, Ok, Err, Result, arith}
+use Rattle.std.proofs.Common.{◌≡◌, ◌∙◌, refl, sym, ap, ℕ, ◌<◌, ◌≤◌, ℤ, pos, negsuc, ◌-ℤ◌, ◌≤ℤ◌, Bool, true, false, Ok, Err, arith}
 use Rattle.std.specs.Prelude.{if◌then◌else◌, int_lt}
 use Rattle.std.proofs.lemmas.Int.{ints}
-use Rattle.pb_values.specs.declared.outcome.Kind.{Kind}
 use Rattle.pb_values.specs.declared.outcome.Kind.TheVariants.{LoopLimit}
-use Rattle.pb_model.specs.Bodies.{Store, each_turn, if_ok, LOOP_LIMIT, turns}
+use Rattle.pb_model.specs.Bodies.{LOOP_LIMIT, turns}
 use Rattle.pb_model.specs.Cells.{natural}
 
 natural_is : (n : ℕ) (z : ℤ) → pos n ≡ z → natural z ≡ n

@@ -1,9 +1,6 @@
 -- When a rule can be run for a cell.
-use Rattle.std.specs.Prelude.{◌≡◌, ◌≢◌, ℕ, ◌≤◌, ◌<◌, ◌^◌, IsTrue, is_some, List, length, map, Some, slice_get}
+use Rattle.std.specs.Prelude.{◌≡◌, ◌≢◌, ℕ, ◌≤◌, ◌<◌, IsTrue, is_some, List, length, map, Some, slice_get}
 use Rattle.std.specs.List.{All, flat_map}
-use Rattle.pb_linear.specs.Sizes.{sizes_of}
-use Rattle.pb_linear.specs.declared.sizes.Sizes.{Sizes}
-use Rattle.pb_linear.specs.declared.sizes.TheConstants.{SIZE_TOP}
 use Rattle.pb_syntax.specs.declared.limits.TheConstants.{MOST_VIEWS}
 use Rattle.pb_values.specs.Cells.{Turn}
 use Rattle.pb_values.specs.Views.{view_cells}

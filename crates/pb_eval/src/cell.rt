@@ -14,11 +14,7 @@ impl Shown {
     /// The number of the first cell; 0 where there is none.
     #[inline(always)]
     #[tactic(auto, using(crate::proofs::CellLemmas::first_there, crate::proofs::CellLemmas::first_none))]
-    fn first<C: CellReader, N: NamesTurn>(
-        &self,
-        scratch: &Scratch,
-        port: &mut Port<C, N>,
-    ) -> i64
+    fn first<C: CellReader, N: NamesTurn>(&self, scratch: &Scratch, port: &mut Port<C, N>) -> i64
         requires { IsShown N.turn scratch.now.numbers.items self.now }
         ensures number { result ≡ slice_index_or (grid_shown N.turn scratch.now.numbers.items self.now).cells 0 (pos 0) }
         ensures same_reference { port.new.reader.ghost_name ≡ port.old.reader.ghost_name }
@@ -88,12 +84,7 @@ pub(crate) fn natural(i: i64) -> Option<u64>
 }
 
 impl<'a, N: NamesTurn> Scene<'a, N> {
-    fn first<C: CellReader>(
-        &self,
-        what: Meaning,
-        scratch: &Scratch,
-        port: &mut Port<C, N>,
-    ) -> i64
+    fn first<C: CellReader>(&self, what: Meaning, scratch: &Scratch, port: &mut Port<C, N>) -> i64
         ensures number { result ≡ slice_index_or (view_of (bound self.now scratch.now) (store_of scratch.now) what).cells 0 (pos 0) }
         ensures same_reference { port.new.reader.ghost_name ≡ port.old.reader.ghost_name }
     {

@@ -9,11 +9,7 @@ use pb_values::{CellReader, Outcome, Trap, View};
 
 /// The first trap in a row of a view.
 #[inline]
-fn row_trap<C: CellReader, N: NamesTurn>(
-    view: &View,
-    y: u64,
-    port: &mut Port<C, N>,
-) -> Option<Trap>
+fn row_trap<C: CellReader, N: NamesTurn>(view: &View, y: u64, port: &mut Port<C, N>) -> Option<Trap>
     requires told { IsTold N.turn view.now }
     requires row { y < view.now.shape.h }
     ensures trap { result ≡ first_trap (outcomes_from N.turn view.now y 0) }

@@ -1,4 +1,5 @@
 ghost use Rattle.std.specs.Prelude.{◌≡◌, ◌+ℤ◌, ◌≤ℤ◌, ◌<◌, ◌≤◌, pos};
+
 use pb_values::Kind;
 
 /// The most turns of a loop.

@@ -1,6 +1,5 @@
-use Rattle.std.proofs.Common.{◌≡◌, ◌∙◌, sym}
 use Rattle.pb_program.specs.Trees.{bare_prog}
-use Rattle.pb_eval.proofs.HeldLemmas.{of_no_rule, of_none, of_rule}
+use Rattle.pb_eval.proofs.HeldLemmas.{of_rule}
 use Rattle.pb_eval.proofs.body.run_body.Goals as goal
 
 pub run_rule-requires-clause-runnable : goal.run_rule-requires-clause-runnable

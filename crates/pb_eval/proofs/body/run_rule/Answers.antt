@@ -1,4 +1,4 @@
-use Rattle.std.proofs.Common.{◌≡◌, ◌≤◌, ◌∙◌, sym, ap, map, Ok, Err, arith}
+use Rattle.std.proofs.Common.{◌∙◌, ap, map, Ok, Err, arith}
 use Rattle.pb_linear.specs.Sizes.{sizes_of}
 use Rattle.pb_program.specs.Trees.{bare_rule}
 use Rattle.pb_model.specs.Equations.{trap_of}

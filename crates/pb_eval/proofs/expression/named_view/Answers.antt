@@ -1,4 +1,4 @@
-use Rattle.std.proofs.Common.{◌∙◌, sym}
+use Rattle.std.proofs.Common.{sym}
 use Rattle.pb_eval.specs.Working.{name_in}
 use Rattle.pb_eval.proofs.ArgumentLemmas.{named_is, no_name}
 use Rattle.pb_eval.proofs.expression.named_view.Goals as goal

@@ -1,4 +1,4 @@
-use Rattle.std.proofs.Common.{◌≡◌, ◌≤◌, ◌∙◌, sym, ap, arith, length, map, None}
+use Rattle.std.proofs.Common.{◌≡◌, ◌∙◌, sym, ap, arith, length, map, None}
 use Rattle.pb_linear.specs.Sizes.{sizes_of}
 use Rattle.pb_model.specs.Equations.{first_trap}
 use Rattle.pb_eval.specs.Outputs.{end_of, free_sides}
@@ -7,7 +7,6 @@ use Rattle.pb_eval.specs.Shown.{seen_by}
 use Rattle.pb_eval.specs.Stored.{sides_of, store_of}
 use Rattle.pb_eval.specs.Working.{left_in}
 use Rattle.pb_eval.proofs.RunLemmas.{finished, left_names, runs_err, runs_ok, runs_trap}
-use Rattle.pb_eval.proofs.StmtLemmas.{same_trans}
 use Rattle.pb_eval.proofs.TrapLemmas.{seen_is}
 use Rattle.pb_eval.proofs.run.run.Goals as goal
 
@@ -28,7 +27,7 @@ returns-in-Ok-clause-found g c =
     let none : None ≡ first_trap (seen_by N c.args.views.now) = sym c.in_default.is ∙ c.first_trap.ensures.trap ∙ ap first_trap (seen_is N c.args.views.now) in
     let spots = ap (map sides_of) c.clear.ensures.room.spots ∙ c.lay-total.ensures.spots in
     let left = left_names N c.args.s.now c.args.x c.args.y c.args.views.now (map (free_sides c.args.matrices.now (sizes_of c.args.s.now)) c.args.outs.now) c.args.body.now c.clear.new.self _ spots c.clear.ensures.store
-        (c.statements.ensures.after ∙ ap (λ r. left_in r (store_of c.statements.new.scratch)) c.in-Ok.is) in
+    (c.statements.ensures.after ∙ ap (λ r. left_in r (store_of c.statements.new.scratch)) c.in-Ok.is) in
     runs_ok _ _ _ _ _ _ none left (finished _ c.clear.new.self c.statements.new.scratch c.lay-total.result c.statements.ensures.room spots (c.lay-total.ensures.end ∙ ap (end_of 0) (sym c.clear.ensures.room.spots)))
 
 pub returns-in-Ok-clause-locals : goal.returns-in-Ok-clause-locals
@@ -45,7 +44,7 @@ returns-in-Err-clause-found g c =
     let none : None ≡ first_trap (seen_by N c.args.views.now) = sym c.in_default.is ∙ c.first_trap.ensures.trap ∙ ap first_trap (seen_is N c.args.views.now) in
     let spots = ap (map sides_of) c.clear.ensures.room.spots ∙ c.lay-total.ensures.spots in
     let left = left_names N c.args.s.now c.args.x c.args.y c.args.views.now (map (free_sides c.args.matrices.now (sizes_of c.args.s.now)) c.args.outs.now) c.args.body.now c.clear.new.self _ spots c.clear.ensures.store
-        (c.statements.ensures.after ∙ ap (λ r. left_in r (store_of c.statements.new.scratch)) c.in-Err.is) in
+    (c.statements.ensures.after ∙ ap (λ r. left_in r (store_of c.statements.new.scratch)) c.in-Err.is) in
     runs_err _ _ _ _ _ none left
 
 pub returns-in-Err-clause-locals : goal.returns-in-Err-clause-locals

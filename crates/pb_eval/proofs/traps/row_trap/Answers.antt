@@ -1,4 +1,4 @@
-use Rattle.std.proofs.Common.{◌∙◌, sym}
+use Rattle.std.proofs.Common.{◌∙◌}
 use Rattle.pb_eval.proofs.TrapLemmas.{row_end, row_trapped, row_value}
 use Rattle.pb_eval.proofs.traps.row_trap.Goals as goal
 

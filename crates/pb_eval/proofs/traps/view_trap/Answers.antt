@@ -1,4 +1,4 @@
-use Rattle.std.proofs.Common.{◌∙◌, ap, sym}
+use Rattle.std.proofs.Common.{◌∙◌}
 use Rattle.pb_eval.proofs.TrapLemmas.{rows_end, rows_none, rows_some}
 use Rattle.pb_eval.proofs.traps.view_trap.Goals as goal
 

@@ -1,6 +1,6 @@
-use Rattle.std.proofs.Common.{◌≡◌, drop}
+use Rattle.std.proofs.Common.{◌≡◌}
 use Rattle.pb_model.specs.Equations.{first_trap}
-use Rattle.pb_eval.specs.Traps.{outcomes_from, rows_seen, views_seen}
+use Rattle.pb_eval.specs.Traps.{rows_seen}
 use Rattle.pb_eval.proofs.traps.view_trap.Given as goal
 
 abbrev pub invariant-loop-y : goal.invariant-loop-y

@@ -1,6 +1,5 @@
 use Rattle.std.proofs.Common.{◌≡◌, ◌<◌, ◌≤◌, length, ◌∙◌, sym, ap, rules, arith, to_z, of_z, w64, None}
 use Rattle.std.proofs.lemmas.Result.{err_from_is_err_and}
-use Rattle.pb_eval.specs.Stored.{bound, store_of}
 use Rattle.pb_eval.specs.Working.{decided}
 use Rattle.pb_eval.proofs.ArgumentLemmas.{operand_open, pair_both, pair_first, pair_second}
 use Rattle.pb_eval.proofs.ExprLemmas.{operated_same, values_end, values_err, values_ok, values_same}

@@ -1,4 +1,4 @@
-use Rattle.std.proofs.Common.{◌≡◌, ◌<◌, ◌≤◌, ◌∙◌, sym, ap, rules, arith, length, true, false, not, to_z, of_z, w64}
+use Rattle.std.proofs.Common.{◌≡◌, ◌<◌, ◌≤◌, ◌∙◌, sym, ap, rules, arith, length, not, to_z, of_z, w64}
 use Rattle.pb_program.specs.declared.statement.Stmt.{If, Stmt, the_lemmas}
 use Rattle.pb_model.specs.Bodies.{is_zero}
 use Rattle.pb_eval.specs.Stored.{bound, store_of}

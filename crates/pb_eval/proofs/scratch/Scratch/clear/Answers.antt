@@ -1,5 +1,4 @@
-use Rattle.std.proofs.Common.{◌≡◌, ◌<◌, ◌∙◌, ℕ, pos, sym, subst, arith, length, get_or, IsTrue}
-use Rattle.pb_eval.specs.Outputs.{end_of}
+use Rattle.std.proofs.Common.{ℕ, sym, subst, arith, IsTrue}
 use Rattle.pb_eval.specs.Spots.{are_laid}
 use Rattle.pb_eval.specs.Stored.{store_of}
 use Rattle.pb_eval.proofs.LayLemmas.{all_zero, end_fits}

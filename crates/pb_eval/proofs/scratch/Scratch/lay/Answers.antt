@@ -2,7 +2,7 @@ use Rattle.std.proofs.Common.{◌≡◌, ◌<◌, ◌≤◌, ◌*◌, ◌+◌, �
 use Rattle.std.proofs.lemmas.Grind.{common_steps}
 use Rattle.pb_linear.specs.Sizes.{sizes_of}
 use Rattle.pb_program.specs.declared.view.Read.{Read}
-use Rattle.pb_eval.specs.Outputs.{free_by, free_sides, numbers_in}
+use Rattle.pb_eval.specs.Outputs.{free_by, free_sides}
 use Rattle.pb_eval.proofs.OutLemmas.{at_matrix, rest_next, sides_here, taken_next}
 use Rattle.pb_eval.proofs.scratch.Scratch.lay.Goals as goal
 
@@ -73,4 +73,3 @@ loop-out-preserved c =
       locals = c.lay_one.ensures.locals ∙ c.loop-out.invariant.locals;
       numbers = c.lay_one.ensures.numbers ∙ c.loop-out.invariant.numbers;
     }
-

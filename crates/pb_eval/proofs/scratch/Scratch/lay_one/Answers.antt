@@ -1,4 +1,4 @@
-use Rattle.std.proofs.Common.{◌≡◌, true, rules, arith, IsTrue}
+use Rattle.std.proofs.Common.{◌≡◌, true, arith}
 use Rattle.std.specs.Result.{is_ok}
 use Rattle.std.proofs.lemmas.Grind.{common_steps}
 use Rattle.pb_eval.proofs.LayLemmas.{end_pushed, laid_pushed}

@@ -1,4 +1,4 @@
-use Rattle.std.proofs.Common.{◌≡◌, ◌∙◌, rules, arith, to_z, of_z, w64}
+use Rattle.std.proofs.Common.{◌≡◌, ◌∙◌, rules, to_z, of_z, w64}
 use Rattle.pb_eval.proofs.CellLemmas.{nth_flat, nth_there}
 use Rattle.pb_eval.proofs.shown.Shown.nth.Goals as goal
 

@@ -1,4 +1,4 @@
-use Rattle.std.proofs.Common.{◌≡◌, ◌-ℤ◌, pos, arith, rules, to_z, of_z, w64}
+use Rattle.std.proofs.Common.{arith}
 use Rattle.std.proofs.lemmas.Int.{ints}
 use Rattle.pb_eval.proofs.TurnLemmas.{turns_few, turns_many, turns_none}
 use Rattle.pb_eval.proofs.turns.Turns.new.Goals as goal
