@@ -74,7 +74,7 @@ extent_one z = let e : z +ℤ pos 1 -ℤ z ≡ pos 1 = omega (arith, ints) in ap
 extent_from : (z : ℤ) → natural (z -ℤ pos 0) ≡ natural z
 extent_from z = let e : z -ℤ pos 0 ≡ z = omega (arith, ints) in ap natural e
 
-free_at : (c : CoordinateValue) (sizes : List ℕ) (x y : ℤ) → c.x ≡ pos 0 → c.y ≡ pos 0 → coordinate_at c sizes x y ≡ exact_value c.rest sizes
+pub free_at : (c : CoordinateValue) (sizes : List ℕ) (x y : ℤ) → c.x ≡ pos 0 → c.y ≡ pos 0 → coordinate_at c sizes x y ≡ exact_value c.rest sizes
 free_at c sizes x y ex ey = rw (ex, ey) (omega (arith, ints))
 
 flat : (b : Bool) (s : Span) (n : ℕ) → extent s ≡ n → extent (if b then one_place (pos 0) else s) ≡ (if b then 1 else n)

@@ -17,3 +17,5 @@ pub mod CutLemmas
 pub mod HeldLemmas
 pub mod GiveLemmas
 pub mod PlacedLemmas
+pub mod SameLemmas
+pub mod RegionLemmas

@@ -7,6 +7,7 @@
 mod body;
 mod cell;
 mod expression;
+mod laws;
 mod laying;
 mod numbers;
 mod place;
@@ -24,4 +25,5 @@ mod traps;
 mod turns;
 
 pub use body::run_body;
+pub use laws::a_rule_for_regions_means_the_same_at_each_cell;
 pub use scratch::Scratch;
