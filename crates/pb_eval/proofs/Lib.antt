@@ -19,3 +19,4 @@ pub mod GiveLemmas
 pub mod PlacedLemmas
 pub mod SameLemmas
 pub mod RegionLemmas
+pub mod RoomLemmas

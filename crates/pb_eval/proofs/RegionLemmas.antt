@@ -1,12 +1,11 @@
 -- A rule for regions has the same views, and gives the same, at each cell.
-use Rattle.std.proofs.Common.{◌≡◌, ◌∙◌, refl, sym, ap, subst, ℕ, ◌≤◌, ℤ, pos, Bool, true, false, List, [], ◌∷◌, ◌++◌, length, map, Option, Some, None, Ok, Err, Result, arith}
+use Rattle.std.proofs.Common.{◌≡◌, ◌∙◌, refl, sym, ap, subst, ℕ, ◌≤◌, ℤ, pos, Bool, List, [], ◌∷◌, ◌++◌, map, Option, Some, None, Ok, Err, Result, arith}
 use Rattle.std.specs.Prelude.{◌==◌, if◌then◌else◌, slice_get}
 use Rattle.std.specs.List.{AllByRecursion, flat_map}
 use Rattle.std.specs.Option.{option_map_or}
 use Rattle.pb_values.specs.declared.outcome.Kind.{Kind}
 use Rattle.pb_values.specs.declared.outcome.Outcome.{Outcome}
 use Rattle.pb_values.specs.declared.outcome.Trap.{Trap}
-use Rattle.pb_program.specs.declared.rule.RuleKind.{RuleKind}
 use Rattle.pb_program.specs.declared.rule.RuleKind.TheVariants as kind
 use Rattle.pb_program.specs.declared.view.Read.{Read}
 use Rattle.pb_program.specs.declared.view.ReadView.{ReadView}
@@ -16,7 +15,7 @@ use Rattle.pb_program.specs.Forms.{CoordinateValue, DeclValue, coordinate_at}
 use Rattle.pb_program.specs.Stmts.{stmts}
 use Rattle.pb_program.specs.Trees.{ProgRule}
 use Rattle.pb_program.specs.WellFormed.{IsFree, IsRule, IsView, KindFits, around, by_output, variables}
-use Rattle.pb_model.specs.Bodies.{Bindings, Store, left_by, outputs_from}
+use Rattle.pb_model.specs.Bodies.{Store, left_by, outputs_from}
 use Rattle.pb_model.specs.Cells.{Cell, cells_of, cells_of_view, natural, reads}
 use Rattle.pb_model.specs.Equations.{after_body, bindings, corner, cut_up, first_trap, number_in, rule_gives, shown_area, sides_by, trap_of, trap_place, unless_trapped, view_sides}
 use Rattle.pb_eval.proofs.CutLemmas.{free_at}
@@ -124,4 +123,4 @@ module _ (matrices : List DeclValue) (sizes : List ℕ) (c d : Cell) where
     gives_same t k seen =
         ap (λ L. unless_trapped (first_trap seen) (after_body L (λ st. outputs_from 0 st (map (view_sides matrices sizes c) r.outs)) (trap_of matrices sizes c t k r))) (body_same (map number_in seen))
         ∙ ap (unless_trapped (first_trap seen)) (after_same (left_by (bindings matrices sizes d r (map number_in seen)) (stmts r.body)) (λ st. outputs_from 0 st (map (view_sides matrices sizes c) r.outs)) (λ st. outputs_from 0 st (map (view_sides matrices sizes d) r.outs))
-          (trap_of matrices sizes c t k r) (trap_of matrices sizes d t k r) (λ st. ap (outputs_from 0 st) (sides_same r.outs outs_are_free)) (trap_same t k))
+        (trap_of matrices sizes c t k r) (trap_of matrices sizes d t k r) (λ st. ap (outputs_from 0 st) (sides_same r.outs outs_are_free)) (trap_same t k))

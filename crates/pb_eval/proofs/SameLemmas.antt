@@ -1,11 +1,9 @@
 -- A body that names no rule variable means the same at all of their values.
-use Rattle.std.proofs.Common.{◌≡◌, ◌∙◌, refl, sym, ap, ℕ, zero, suc, ◌+◌, ◌<◌, ◌≤◌, ℤ, pos, ◌+ℤ◌, Bool, true, false, not, List, [], ◌∷◌, Option, Some, None, Ok, Err, Result, arith}
+use Rattle.std.proofs.Common.{◌≡◌, ◌∙◌, refl, ap, ℕ, zero, suc, ◌+◌, ℤ, pos, ◌+ℤ◌, Bool, true, false, not, List, [], ◌∷◌, Ok, Err, Result, arith}
 use Rattle.std.specs.Prelude.{if◌then◌else◌, unsigned_abs}
 use Rattle.std.specs.List.{AllByRecursion}
 use Rattle.pb_values.specs.declared.outcome.Kind.{Kind}
 use Rattle.pb_values.specs.Checked.{checked_result}
-use Rattle.pb_syntax.specs.declared.tree.expression.Operator.{Operator}
-use Rattle.pb_syntax.specs.declared.tree.expression.Operator.TheVariants as operator
 use Rattle.pb_program.specs.declared.meaning.Callee.{Callee}
 use Rattle.pb_program.specs.declared.meaning.Callee.TheVariants as callee
 use Rattle.pb_program.specs.declared.meaning.Function.TheVariants as function

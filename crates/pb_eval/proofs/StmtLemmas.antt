@@ -38,10 +38,10 @@ pub assign_room : (n : Named) (x : Expr) → room_in (Assign n x) ≡ local_room
 unfolding room_in
 assign_room n x = search (rules, the_lemmas)
 
-if_seen : (at : ℕ) (test : Expr) (body : Vec Stmt) → bare_stmt (If at test body None) ≡ if_stmt at (bare test) (stmts (map bare_stmt body.items))
+pub if_seen : (at : ℕ) (test : Expr) (body : Vec Stmt) → bare_stmt (If at test body None) ≡ if_stmt at (bare test) (stmts (map bare_stmt body.items))
 if_seen at test body = search (rules, the_lemmas)
 
-else_seen : (at : ℕ) (test : Expr) (body otherwise : Vec Stmt) → bare_stmt (If at test body (Some otherwise)) ≡ if_else at (bare test) (stmts (map bare_stmt body.items)) (stmts (map bare_stmt otherwise.items))
+pub else_seen : (at : ℕ) (test : Expr) (body otherwise : Vec Stmt) → bare_stmt (If at test body (Some otherwise)) ≡ if_else at (bare test) (stmts (map bare_stmt body.items)) (stmts (map bare_stmt otherwise.items))
 else_seen at test body otherwise = search (rules, the_lemmas)
 
 for_seen : (at : ℕ) (n : Named) (x y : Expr) (body : Vec Stmt) → bare_stmt (For at n x y body) ≡ for_stmt at n (bare x) (bare y) (stmts (map bare_stmt body.items))

@@ -84,13 +84,6 @@ pub(crate) fn natural(i: i64) -> Option<u64>
 }
 
 impl<'a, N: NamesTurn> Scene<'a, N> {
-    fn first<C: CellReader>(&self, what: Meaning, scratch: &Scratch, port: &mut Port<C, N>) -> i64
-        ensures number { result ≡ slice_index_or (view_of (bound self.now scratch.now) (store_of scratch.now) what).cells 0 (pos 0) }
-        ensures same_reference { port.new.reader.ghost_name ≡ port.old.reader.ghost_name }
-    {
-        self.shown(scratch, what).first(scratch, port)
-    }
-
     /// The number that a name stands for.
     #[tactic(auto, unfolding(pb_model::specs::Bodies::number_of, crate::specs::Stored::bound))]
     pub(crate) fn named<C: CellReader>(
@@ -104,12 +97,12 @@ impl<'a, N: NamesTurn> Scene<'a, N> {
     {
         match what {
             Meaning::Size(k) => self.size(k),
-            Meaning::RuleX => self.x(),
-            Meaning::RuleY => self.y(),
+            Meaning::RuleX => self.variables().0,
+            Meaning::RuleY => self.variables().1,
             Meaning::Number(k) => scratch.local(k),
-            Meaning::Output(_) => self.first(what, scratch, port),
-            Meaning::Read(_) => self.first(what, scratch, port),
-            Meaning::Matrix(_) => self.first(what, scratch, port),
+            Meaning::Output(_) => self.shown(scratch, what).first(scratch, port),
+            Meaning::Read(_) => self.shown(scratch, what).first(scratch, port),
+            Meaning::Matrix(_) => self.shown(scratch, what).first(scratch, port),
         }
     }
 

@@ -13,6 +13,7 @@ mod numbers;
 mod place;
 mod port;
 mod products;
+mod room;
 mod run;
 mod scene;
 mod scratch;
@@ -26,4 +27,5 @@ mod turns;
 
 pub use body::run_body;
 pub use laws::a_rule_for_regions_means_the_same_at_each_cell;
+pub use room::{locals_room, outs_room};
 pub use scratch::Scratch;

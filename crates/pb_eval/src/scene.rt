@@ -45,18 +45,14 @@ impl<'a, N: NamesTurn> Scene<'a, N> {
         }
     }
 
-    #[tactic(auto, using(crate::proofs::SceneLemmas::x_is))]
-    pub(crate) fn x(&self) -> i64
-        ensures { result ≡ self.now.x }
+    /// The rule variables.
+    #[inline(always)]
+    #[tactic(auto, using(crate::proofs::SceneLemmas::x_is, crate::proofs::SceneLemmas::y_is))]
+    pub(crate) fn variables(&self) -> (i64, i64)
+        ensures x { result.0 ≡ self.now.x }
+        ensures y { result.1 ≡ self.now.y }
     {
-        self.x as i64
-    }
-
-    #[tactic(auto, using(crate::proofs::SceneLemmas::y_is))]
-    pub(crate) fn y(&self) -> i64
-        ensures { result ≡ self.now.y }
-    {
-        self.y as i64
+        (self.x as i64, self.y as i64)
     }
 
     /// What a read shows.
