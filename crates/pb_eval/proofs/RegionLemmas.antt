@@ -1,7 +1,8 @@
 -- A rule for regions has the same views, and gives the same, at each cell.
-use Rattle.std.proofs.Common.{◌≡◌, ◌∙◌, refl, sym, ap, subst, ℕ, ◌≤◌, ℤ, pos, Bool, List, [], ◌∷◌, ◌++◌, map, Option, Some, None, Ok, Err, Result, arith}
+use Rattle.std.proofs.Common.{◌≡◌, ◌∙◌, refl, sym, ap, subst, ℕ, ◌<◌, ◌≤◌, ◌≢◌, ℤ, pos, Bool, List, [], ◌∷◌, ◌++◌, length, map, Option, Some, None, Ok, Err, Result, arith}
 use Rattle.std.specs.Prelude.{◌==◌, if◌then◌else◌, slice_get}
-use Rattle.std.specs.List.{AllByRecursion, flat_map}
+use Rattle.std.proofs.lemmas.List.Elements.{All-cons, All-nil}
+use Rattle.std.specs.List.{All, AllByRecursion, flat_map}
 use Rattle.std.specs.Option.{option_map_or}
 use Rattle.pb_values.specs.declared.outcome.Kind.{Kind}
 use Rattle.pb_values.specs.declared.outcome.Outcome.{Outcome}
@@ -18,6 +19,7 @@ use Rattle.pb_program.specs.WellFormed.{IsFree, IsRule, IsView, KindFits, around
 use Rattle.pb_model.specs.Bodies.{Store, left_by, outputs_from}
 use Rattle.pb_model.specs.Cells.{Cell, cells_of, cells_of_view, natural, reads}
 use Rattle.pb_model.specs.Equations.{after_body, bindings, corner, cut_up, first_trap, number_in, rule_gives, shown_area, sides_by, trap_of, trap_place, unless_trapped, view_sides}
+use Rattle.pb_eval.specs.CanRun.{IsRunnable}
 use Rattle.pb_eval.proofs.CutLemmas.{free_at}
 use Rattle.pb_eval.proofs.SameLemmas.{left_same}
 
@@ -124,3 +126,11 @@ module _ (matrices : List DeclValue) (sizes : List ℕ) (c d : Cell) where
         ap (λ L. unless_trapped (first_trap seen) (after_body L (λ st. outputs_from 0 st (map (view_sides matrices sizes c) r.outs)) (trap_of matrices sizes c t k r))) (body_same (map number_in seen))
         ∙ ap (unless_trapped (first_trap seen)) (after_same (left_by (bindings matrices sizes d r (map number_in seen)) (stmts r.body)) (λ st. outputs_from 0 st (map (view_sides matrices sizes c) r.outs)) (λ st. outputs_from 0 st (map (view_sides matrices sizes d) r.outs))
         (trap_of matrices sizes c t k r) (trap_of matrices sizes d t k r) (λ st. ap (outputs_from 0 st) (sides_same r.outs outs_are_free)) (trap_same t k))
+
+-- ---- what `run_body` asks of a rule
+views_there : (n v count : ℕ) (rs : List Read) → AllByRecursion (IsView n v count) rs → All (λ o. o.matrix < count) rs
+views_there n v count [] h = All-nil (λ o. o.matrix < count)
+views_there n v count (r ∷ rs) h = All-cons (λ o. o.matrix < count) r rs h.0.matrix (views_there n v count rs h.1)
+
+pub runnable : (n inputs transforms : ℕ) (matrices : List DeclValue) (r : ProgRule) → IsRule n inputs (length matrices) transforms r → r.kind ≢ kind.Plan → IsRunnable matrices r
+runnable n inputs transforms matrices r well plain = record { kind = plain; fits = well.kind; few = omega (arith, well.some_output); there = views_there n (variables r.outs) (length matrices) r.outs well.outs }

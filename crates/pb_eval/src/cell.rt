@@ -121,19 +121,13 @@ impl<'a, N: NamesTurn> Scene<'a, N> {
         self.shown(scratch, what).cell(scratch, port, i, j)
     }
 
-    /// The width of a view.
-    #[tactic(auto, using(crate::proofs::CellLemmas::wide_shown, crate::proofs::CellLemmas::width_is))]
-    pub(crate) fn width(&self, what: Meaning, scratch: &Scratch) -> i64
-        ensures { result ≡ pos (view_of (bound self.now scratch.now) (store_of scratch.now) what).width }
+    /// The width and the height of a view.
+    #[tactic(auto, using(crate::proofs::CellLemmas::wide_shown, crate::proofs::CellLemmas::width_is, crate::proofs::CellLemmas::tall_shown, crate::proofs::CellLemmas::height_is))]
+    pub(crate) fn sides(&self, what: Meaning, scratch: &Scratch) -> (i64, i64)
+        ensures width { result.0 ≡ pos (view_of (bound self.now scratch.now) (store_of scratch.now) what).width }
+        ensures height { result.1 ≡ pos (view_of (bound self.now scratch.now) (store_of scratch.now) what).height }
     {
-        self.shown(scratch, what).width() as i64
-    }
-
-    /// The height of a view.
-    #[tactic(auto, using(crate::proofs::CellLemmas::tall_shown, crate::proofs::CellLemmas::height_is))]
-    pub(crate) fn height(&self, what: Meaning, scratch: &Scratch) -> i64
-        ensures { result ≡ pos (view_of (bound self.now scratch.now) (store_of scratch.now) what).height }
-    {
-        self.shown(scratch, what).height() as i64
+        let shown = self.shown(scratch, what);
+        (shown.width() as i64, shown.height() as i64)
     }
 }

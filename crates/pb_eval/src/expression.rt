@@ -33,8 +33,8 @@ impl<'a, N: NamesTurn> Scene<'a, N> {
             Expr::Cell { view, coordinates } => {
                 self.cell_of(view.what, coordinates, scratch, port)
             }
-            Expr::Width(view) => Ok(self.width(view.what, scratch)),
-            Expr::Height(view) => Ok(self.height(view.what, scratch)),
+            Expr::Width(view) => Ok(self.sides(view.what, scratch).0),
+            Expr::Height(view) => Ok(self.sides(view.what, scratch).1),
             Expr::Signed { sign, operand, .. } => {
                 negated(*sign, self.value(operand, scratch, port)?)
             }

@@ -26,6 +26,6 @@ mod traps;
 mod turns;
 
 pub use body::run_body;
-pub use laws::a_rule_for_regions_means_the_same_at_each_cell;
+pub use laws::{a_computing_rule_can_be_run, a_rule_for_regions_means_the_same_at_each_cell};
 pub use room::{locals_room, outs_room};
 pub use scratch::Scratch;

@@ -57,7 +57,6 @@ impl<'a, N: NamesTurn> Scene<'a, N> {
     }
 
     /// The numbers of a loop.
-    #[tactic(auto)]
     fn turns<C: CellReader>(
         &self,
         start: &Expr,
