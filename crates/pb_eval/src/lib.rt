@@ -1,7 +1,8 @@
 //! How a computing rule is run for a cell.
 //!
-//! In: a rule of an accepted program, sizes, a cell, its reads as views, and a reader that tells their cells. Out: the numbers
-//! of the rule's outputs, or a trap. The theorem is `run_body`: it is what the rule gives.
+//! In: a rule of a well-formed program, sizes, a cell, its reads as views, and a reader that tells their cells. Out: the numbers
+//! of the rule's outputs, or a trap. The theorem is `run_body`: it is just what the rule gives. It takes no memory: a `Scratch`
+//! has the room, and `locals_room` and `outs_room` say how much.
 #![tactic(auto)]
 
 mod body;

@@ -46,7 +46,8 @@ impl Scratch {
         })
     }
 
-    /// The number with this number among those of the outputs. It is one that the last run answered, if that answered more.
+    /// A number of the outputs, counted from 0, output by output, each row by row; after a run that answered more numbers than
+    /// `k`.
     #[tactic(auto, using(crate::proofs::SceneLemmas::get_or_any), unfolding(crate::specs::Running::numbers_of, crate::specs::Running::outs_of))]
     pub fn out(&self, k: u64) -> i64
         requires { k < outs_of self.now }
