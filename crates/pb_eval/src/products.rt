@@ -1,0 +1,97 @@
+ghost use Rattle.std.specs.Prelude.{◌≡◌, ◌*◌, ◌<◌, pos, slice_index_or};
+ghost use Rattle.pb_model.specs.Bodies.{dot_product, view_of};
+ghost use Rattle.pb_eval.specs.Places.{grid_shown, height_of, IsShown, width_of};
+ghost use Rattle.pb_eval.specs.Stored.{bound, store_of};
+
+use crate::port::{NamesTurn, Port};
+use crate::scene::Scene;
+use crate::scratch::Scratch;
+use crate::shown::Shown;
+use pb_program::Meaning;
+use pb_values::{CellReader, Kind, add, mul};
+
+impl Shown {
+    /// How many cells there are.
+    #[inline]
+    fn cells<N: NamesTurn>(&self, scratch: &Scratch) -> u64
+        requires { IsShown N.turn scratch.now.numbers.items self.now }
+        ensures { result ≡ height_of self.now * width_of self.now }
+    {
+        self.height() * self.width()
+    }
+
+    /// The number of a cell, counted from 0, row by row.
+    #[inline]
+    fn nth<C: CellReader, N: NamesTurn>(
+        &self,
+        scratch: &Scratch,
+        port: &mut Port<C, N>,
+        i: u64,
+    ) -> i64
+        requires shown { IsShown N.turn scratch.now.numbers.items self.now }
+        requires inside { i < height_of self.now * width_of self.now }
+        ensures number { result ≡ slice_index_or (grid_shown N.turn scratch.now.numbers.items self.now).cells i (pos 0) }
+        ensures same_reference { port.new.reader.ghost_name ≡ port.old.reader.ghost_name }
+    {
+        if self.height() == 1 {
+            return self.number(scratch, port, i, 0);
+        }
+        self.number(scratch, port, i % self.width(), i / self.width())
+    }
+
+    /// The sum of the products of cells, of two views of one number of cells.
+    #[tactic(auto, using(crate::proofs::ProductLemmas::dot_other, crate::proofs::ProductLemmas::dot_ok, crate::proofs::ProductLemmas::dot_err, crate::proofs::ProductLemmas::dot_end, crate::proofs::ProductLemmas::dot_start))]
+    fn dot<C: CellReader, N: NamesTurn>(
+        &self,
+        other: &Shown,
+        scratch: &Scratch,
+        port: &mut Port<C, N>,
+    ) -> Result<i64, Kind>
+        requires shown { IsShown N.turn scratch.now.numbers.items self.now }
+        requires other { IsShown N.turn scratch.now.numbers.items other.now }
+        ensures dot { result ≡ dot_product (grid_shown N.turn scratch.now.numbers.items self.now).cells (grid_shown N.turn scratch.now.numbers.items other.now).cells }
+        ensures same_reference { port.new.reader.ghost_name ≡ port.old.reader.ghost_name }
+    {
+        let cells = self.cells::<N>(scratch);
+        if cells != other.cells::<N>(scratch) {
+            return Err(Kind::BadShape);
+        }
+        let mut total = 0;
+        for i in 0..cells {
+            let left = self.nth(scratch, port, i);
+            match with_product(total, left, other.nth(scratch, port, i)) {
+                Ok(next) => total = next,
+                Err(kind) => return Err(kind),
+            }
+        }
+        Ok(total)
+    }
+}
+
+ghost use Rattle.pb_eval.specs.Places.{plus_product};
+
+/// A sum, and a product added to it.
+#[inline]
+fn with_product(total: i64, left: i64, right: i64) -> Result<i64, Kind>
+    ensures { result ≡ plus_product total left right }
+{
+    add(total, mul(left, right)?)
+}
+
+impl<'a, N: NamesTurn> Scene<'a, N> {
+    /// The sum of the products of the cells of two views.
+    pub(crate) fn dot<C: CellReader>(
+        &self,
+        what: Meaning,
+        other: Meaning,
+        scratch: &Scratch,
+        port: &mut Port<C, N>,
+    ) -> Result<i64, Kind>
+        ensures dot { result ≡ dot_product (view_of (bound self.now scratch.now) (store_of scratch.now) what).cells (view_of (bound self.now scratch.now) (store_of scratch.now) other).cells }
+        ensures same_reference { port.new.reader.ghost_name ≡ port.old.reader.ghost_name }
+    {
+        let left = self.shown(scratch, what);
+        let right = self.shown(scratch, other);
+        left.dot(&right, scratch, port)
+    }
+}

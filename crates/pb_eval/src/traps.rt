@@ -1,0 +1,59 @@
+ghost use Rattle.std.specs.Prelude.{◌≡◌, ◌<◌};
+ghost use Rattle.std.specs.List.{All};
+ghost use Rattle.pb_model.specs.Equations.{first_trap};
+ghost use Rattle.pb_eval.specs.Shown.{IsTold};
+ghost use Rattle.pb_eval.specs.Traps.{outcomes_from, rows_seen, views_seen};
+
+use crate::port::{NamesTurn, Port};
+use pb_values::{CellReader, Outcome, Trap, View};
+
+/// The first trap in a row of a view.
+#[inline]
+fn row_trap<C: CellReader, N: NamesTurn>(view: &View, y: u64, port: &mut Port<C, N>) -> Option<Trap>
+    requires told { IsTold N.turn view.now }
+    requires row { y < view.now.shape.h }
+    ensures trap { result ≡ first_trap (outcomes_from N.turn view.now y 0) }
+    ensures same_reference { port.new.reader.ghost_name ≡ port.old.reader.ghost_name }
+{
+    for x in 0..view.shape.w {
+        match port.outcome(view.place(x, y)) {
+            Outcome::Value(_) => (),
+            Outcome::Trapped(trap) => return Some(trap),
+        }
+    }
+    None
+}
+
+/// The first trap in a view.
+fn view_trap<C: CellReader, N: NamesTurn>(view: &View, port: &mut Port<C, N>) -> Option<Trap>
+    requires { IsTold N.turn view.now }
+    ensures trap { result ≡ first_trap (rows_seen N.turn view.now 0) }
+    ensures same_reference { port.new.reader.ghost_name ≡ port.old.reader.ghost_name }
+{
+    // A view without columns may have any number of rows.
+    for y in 0..view.shape.h {
+        match row_trap(view, y, port) {
+            None => (),
+            Some(trap) => return Some(trap),
+        }
+    }
+    None
+}
+
+/// The first trap among the cells of views.
+pub(crate) fn first_trap<C: CellReader, N: NamesTurn>(
+    views: &[View],
+    port: &mut Port<C, N>,
+) -> Option<Trap>
+    requires { All (IsTold N.turn) views.now }
+    ensures trap { result ≡ first_trap (views_seen N.turn views.now) }
+    ensures same_reference { port.new.reader.ghost_name ≡ port.old.reader.ghost_name }
+{
+    for view in views {
+        match view_trap(view, port) {
+            None => (),
+            Some(trap) => return Some(trap),
+        }
+    }
+    None
+}
