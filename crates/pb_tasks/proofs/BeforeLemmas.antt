@@ -1,6 +1,6 @@
 -- What a job reads is made by jobs before it.
-use Rattle.std.proofs.Common.{◌≡◌, ◌≢◌, ◌∙◌, refl, sym, ap, subst, inl, inr, ◌⊎◌, ⊎_elim, ℕ, zero, suc, ◌<◌, ◌≤◌, ℤ, pos, Bool, true, false, ◌&&◌, ◌||◌, List, [], ◌∷◌, length, map, slice_get, slice_index, Option, Some, None, arith}
-use Rattle.std.specs.Prelude.{◌==◌, filter, nat_lt, slice_index_or}
+use Rattle.std.proofs.Common.{◌≡◌, ◌∙◌, refl, sym, ap, subst, inl, inr, ◌⊎◌, ⊎_elim, ℕ, zero, suc, ◌<◌, ◌≤◌, pos, Bool, true, false, ◌&&◌, ◌||◌, List, [], ◌∷◌, length, map, slice_get, slice_index, Option, Some, None, arith}
+use Rattle.std.specs.Prelude.{◌==◌, nat_lt, slice_index_or}
 use Rattle.std.specs.List.{Contains, enumerate_from, flat_map, list_any, range_with_len}
 use Rattle.std.specs.Option.{option_map_or}
 use Rattle.std.proofs.lemmas.Bool.{and_parts, eq-eqb, eqb-true}
@@ -18,18 +18,17 @@ use Rattle.pb_program.specs.Forms.{DeclValue}
 use Rattle.pb_program.specs.Trees.{ProgRule, ProgTransform}
 use Rattle.pb_program.specs.declared.view.Read.{Read}
 use Rattle.pb_region.specs.Boxes.{is_wide}
-use Rattle.pb_base.proofs.ListLemmas.{at_in, filter_in, flat_in, in_at, in_filter, in_flat, in_head, in_map, in_none, in_tail, map_in}
+use Rattle.pb_base.proofs.ListLemmas.{filter_in, flat_in, in_at, in_filter, in_flat, in_head, in_map, in_none, in_tail, map_in}
 use Rattle.pb_model.specs.Cells.{Cell, ReadsCell}
 use Rattle.pb_model.specs.Chosen.{chosen_rule}
-use Rattle.pb_model.specs.Lawful.{lawful}
 use Rattle.pb_model.proofs.LawfulLemmas.{in_lawful}
 use Rattle.pb_check.specs.Orders.{AnalysisValue}
-use Rattle.pb_check.specs.Ranked.{HasRank, IsIn as IsInNode, IsMadeCell, StandsBelow}
+use Rattle.pb_check.specs.Ranked.{HasRank, IsMadeCell, StandsBelow}
 use Rattle.pb_check.proofs.FirstLemmas.{some_same}
 use Rattle.pb_check.proofs.RankedLemmas.{lawful_among}
 use Rattle.pb_check.proofs.WaitLemmas.{chosen_falls}
 use Rattle.pb_frame.specs.Choices.{IsInstance}
-use Rattle.pb_frame.specs.Frames.{HoldsCell, JobValue, block_job, chosen_wides, corner_of, has_place, in_layer, is_cell_rule, is_wide_rule, of_rule, parts_of as parts_for, rect_of, wide_job}
+use Rattle.pb_frame.specs.Frames.{JobValue, chosen_wides, corner_of, has_place, in_layer, is_wide_rule, parts_of as parts_for, rect_of}
 use Rattle.pb_frame.specs.declared.part.FramePart.{FramePart}
 use Rattle.pb_frame.proofs.PartLemmas.{corner_in, corner_made, held_area, in_node, made_in, nodes_are, of_part}
 use Rattle.pb_links.specs.Links.{predecessors}
@@ -39,9 +38,9 @@ use Rattle.pb_links.proofs.LawLemmas.{before-shares}
 use Rattle.pb_tasks.specs.Boxes.{boxes_by, part_area, part_box, part_boxes, places_of, rect_from, shown_at, spot_of, whole_box, whole_boxes}
 use Rattle.pb_tasks.specs.Made.{IsMadeBefore, IsMadeBy, jobs_for}
 use Rattle.pb_tasks.proofs.FlatLemmas.{start}
-use Rattle.pb_tasks.proofs.JobLemmas.{IsBlockAt, IsPartOf, IsPlaced, IsWideAt, of_layer, whole, at_map, earlier_layer, kind_of, map_at, part_of, placed, same_place}
-use Rattle.pb_tasks.proofs.MadeLemmas.{among, chosen, made_by, made_cell, made_once, made_rule}
-use Rattle.pb_tasks.proofs.ReadingLemmas.{Reading, choices, is_handled, reading, wide_handled}
+use Rattle.pb_tasks.proofs.JobLemmas.{IsBlockAt, IsPlaced, IsWideAt, of_layer, at_map, earlier_layer, kind_of, map_at, part_of, placed, same_place}
+use Rattle.pb_tasks.proofs.MadeLemmas.{chosen, made_by, made_cell, made_rule}
+use Rattle.pb_tasks.proofs.ReadingLemmas.{is_handled, reading, wide_handled}
 use Rattle.pb_tasks.proofs.SpreadLemmas.{IsSpread, covers, in_rect, not_apart, part_spread, rect_in, shown_is, whole_spread}
 use Rattle.pb_tasks.proofs.WideLemmas.{shown_same}
 
@@ -72,7 +71,7 @@ module _ (config : ConfigValue) (number : ℕ) (t : ProgTransform) (a : Analysis
   abbrev pub jobs : List JobValue
   jobs = jobs_for config number t a sizes grain
 
-  abbrev parts : List FramePart
+  abbrev pub parts : List FramePart
   parts = parts_for config number t sizes a.nodes
 
   abbrev pub places : List PlacesValue
@@ -148,7 +147,7 @@ module _ (config : ConfigValue) (number : ℕ) (t : ProgTransform) (a : Analysis
   tall_wide : (r : Rect) → has_place r ≡ true → (r.x0 < r.x1) × (r.y0 < r.y1)
   tall_wide r h = let p = and_parts (nat_lt r.x0 r.x1) (nat_lt r.y0 r.y1) h in (grind (arith, nat_tests, p.0), grind (arith, nat_tests, p.1))
 
-  some_places : (part : FramePart) → Contains parts part → (part.rect.x0 < part.rect.x1) × (part.rect.y0 < part.rect.y1)
+  pub some_places : (part : FramePart) → Contains parts part → (part.rect.x0 < part.rect.x1) × (part.rect.y0 < part.rect.y1)
   some_places part h = let f = of_part number t a sizes i config part h in tall_wide part.rect (ap (λ (q : FramePart). has_place q.rect) f.3 ∙ f.2)
 
   part_boxed : (j : ℕ) (job : JobValue) (e : slice_get jobs j ≡ Some job) → job.rule ≡ None → (s : Spot) → Contains (flat_map (part_boxes t sizes) job.parts) s → Boxed job s
@@ -172,11 +171,24 @@ module _ (config : ConfigValue) (number : ℕ) (t : ProgTransform) (a : Analysis
         wide = inl none;
       }
 
+  -- a job of a rule has a part
+  pub first_part : (j : ℕ) (job : JobValue) → slice_get jobs j ≡ Some job → (k : ℕ) → job.rule ≡ Some k → (part : FramePart) × Contains job.parts part
+  first_part j job e k some = first (placed t a.order grain parts j job e) (kind_of t a.order grain parts j job (placed t a.order grain parts j job e))
+    where
+      first : (p : IsPlaced t a.order grain parts j job) → ((m : ℕ) × IsWideAt t a.order grain parts p.layer p.place job m) ⊎ IsBlockAt t a.order grain parts p.layer p.value p.place job → (part : FramePart) × Contains job.parts part
+      first p (inl w) =
+          let m = w.0 in
+          let here = in_layer a.order parts p.layer in
+          let test = filter_in (λ n. is_wide_rule t n && list_any (λ (q : FramePart). q.rule == n) here) (range_with_len 0 (length t.rules)) m (in_at (chosen_wides t here) p.place m w.1.0) in
+          let found = some_any (λ (q : FramePart). q.rule == m) here (and_parts (is_wide_rule t m) (list_any (λ (q : FramePart). q.rule == m) here) test.1).1 in
+          (found.0, subst (λ (b : JobValue). Contains b.parts found.0) (sym w.1.1) (in_filter (λ (q : FramePart). q.rule == m) here found.0 found.1 found.2))
+      first p (inr b) = absurd (let no : Some k ≡ None = sym some ∙ ap (λ (c : JobValue). c.rule) b.1 in cc)
+
   whole_boxed : (j : ℕ) (job : JobValue) (e : slice_get jobs j ≡ Some job) (k : ℕ) → job.rule ≡ Some k → (s : Spot) → Contains (whole_boxes t sizes k) s → Boxed job s
   whole_boxed j job e k some s h =
       let r = in_option (λ (rule : ProgRule). map (whole_box t.matrices sizes) rule.reads) (slice_get t.rules k) s h in
       let q = map_in (whole_box t.matrices sizes) r.0.reads s r.2 in
-      let part = first (placed t a.order grain parts j job e) (kind_of t a.order grain parts j job (placed t a.order grain parts j job e)) in
+      let part = first_part j job e k some in
       let of = part_of t a.order grain parts j job (placed t a.order grain parts j job e) part.0 part.1 in
       let same = of.wide k some in
       let wide : is_wide r.0.kind ≡ true = sym (ap (λ o. option_map_or (λ (p : ProgRule). is_wide p.kind) o false) r.1) ∙ same.1 in
@@ -197,15 +209,6 @@ module _ (config : ConfigValue) (number : ℕ) (t : ProgTransform) (a : Analysis
             (shown_same i.program number t i.well_formed i.sound i.there k r.0 r.1 wide q.0 d q.1 sizes (pos 0) (pos 0) (pos x) (pos y));
         wide = inr wide;
       }
-    where
-      first : (p : IsPlaced t a.order grain parts j job) → ((m : ℕ) × IsWideAt t a.order grain parts p.layer p.place job m) ⊎ IsBlockAt t a.order grain parts p.layer p.value p.place job → (part : FramePart) × Contains job.parts part
-      first p (inl w) =
-          let m = w.0 in
-          let here = in_layer a.order parts p.layer in
-          let test = filter_in (λ n. is_wide_rule t n && list_any (λ (q : FramePart). q.rule == n) here) (range_with_len 0 (length t.rules)) m (in_at (chosen_wides t here) p.place m w.1.0) in
-          let found = some_any (λ (q : FramePart). q.rule == m) here (and_parts (is_wide_rule t m) (list_any (λ (q : FramePart). q.rule == m) here) test.1).1 in
-          (found.0, subst (λ (b : JobValue). Contains b.parts found.0) (sym w.1.1) (in_filter (λ (q : FramePart). q.rule == m) here found.0 found.1 found.2))
-      first p (inr b) = absurd (let no : Some k ≡ None = sym some ∙ ap (λ (c : JobValue). c.rule) b.1 in cc)
 
   pub boxed : (j : ℕ) (job : JobValue) → slice_get jobs j ≡ Some job → (s : Spot) → Contains (boxes_by t sizes job.rule job.parts) s → Boxed job s
   boxed j job e s h = by job.rule refl h
@@ -293,30 +296,35 @@ module _ (config : ConfigValue) (number : ℕ) (t : ProgTransform) (a : Analysis
 
     -- the job has a box with the place that is read
     box_has : (o : Option ℕ) → m.job.rule ≡ o → HasSpot (boxes_by t sizes o m.job.parts) shown.matrix shown.x shown.y
-    box_has None none =
-        (part_box t.matrices sizes m.part.rect read,
-        in_flat (part_boxes t sizes) m.job.parts m.part (part_box t.matrices sizes m.part.rect read) (in_at m.job.parts k m.part m.has)
-        (subst (λ o. Contains (option_map_or (λ (r : ProgRule). map (part_box t.matrices sizes m.part.rect) r.reads) o []) (part_box t.matrices sizes m.part.rect read)) (sym of_part_rule) (in_map (part_box t.matrices sizes m.part.rect) rule.reads read reads.declared)),
-        reads.shows.same,
-        in_rect (part_area t.matrices sizes m.part.rect read) shown.x shown.y (covers t.matrices sizes read decl reads.shows.there m.part.rect c.x c.y m.holds.place (pos shown.x) (pos shown.y) reads.shows.inside))
+    box_has None none = (
+      part_box t.matrices sizes m.part.rect read,
+      in_flat (part_boxes t sizes) m.job.parts m.part (part_box t.matrices sizes m.part.rect read) (in_at m.job.parts k m.part m.has)
+          (subst (λ o. Contains (option_map_or (λ (r : ProgRule). map (part_box t.matrices sizes m.part.rect) r.reads) o []) (part_box t.matrices sizes m.part.rect read)) (sym of_part_rule) (in_map (part_box t.matrices sizes m.part.rect) rule.reads read reads.declared)),
+      reads.shows.same,
+      in_rect (part_area t.matrices sizes m.part.rect read) shown.x shown.y (covers t.matrices sizes read decl reads.shows.there m.part.rect c.x c.y m.holds.place (pos shown.x) (pos shown.y) reads.shows.inside),
+    )
     box_has (Some n) some =
         let of = part_of t a.order grain parts j m.job (placed t a.order grain parts j m.job m.is) m.part (in_at m.job.parts k m.part m.has) in
         let same = of.wide n some in
         let at : slice_get t.rules n ≡ Some rule = ap (slice_get t.rules) (sym same.0) ∙ of_part_rule in
         let wide : is_wide rule.kind ≡ true = sym (ap (λ o. option_map_or (λ (p : ProgRule). is_wide p.kind) o false) at) ∙ same.1 in
-        let area : area_of sizes (pos c.x) (pos c.y) read decl ≡ shown_at t.matrices sizes read 0 0 = shown_same i.program number t i.well_formed i.sound i.there n rule at wide read decl reads.declared sizes (pos c.x) (pos c.y) (pos 0) (pos 0) ∙ sym (shown_is t.matrices sizes read decl reads.shows.there 0 0) in
-        (whole_box t.matrices sizes read,
-        subst (λ o. Contains (option_map_or (λ (r : ProgRule). map (whole_box t.matrices sizes) r.reads) o []) (whole_box t.matrices sizes read)) (sym at) (in_map (whole_box t.matrices sizes) rule.reads read reads.declared),
-        reads.shows.same,
-        in_rect (shown_at t.matrices sizes read 0 0) shown.x shown.y (subst (λ (b : Area). IsIn b (pos shown.x) (pos shown.y)) area reads.shows.inside))
+        let area : area_of sizes (pos c.x) (pos c.y) read decl ≡ shown_at t.matrices sizes read 0 0 = shown_same i.program number t i.well_formed i.sound i.there n rule at wide read decl reads.declared sizes (pos c.x) (pos c.y) (pos 0) (pos 0) ∙ sym (shown_is t.matrices sizes read decl reads.shows.there 0 0) in (
+          whole_box t.matrices sizes read,
+          subst (λ o. Contains (option_map_or (λ (r : ProgRule). map (whole_box t.matrices sizes) r.reads) o []) (whole_box t.matrices sizes read)) (sym at) (in_map (whole_box t.matrices sizes) rule.reads read reads.declared),
+          reads.shows.same,
+          in_rect (shown_at t.matrices sizes read 0 0) shown.x shown.y (subst (λ (b : Area). IsIn b (pos shown.x) (pos shown.y)) area reads.shows.inside),
+        )
 
     boxes_have : HasSpot (boxes_of places j) shown.matrix shown.x shown.y
     boxes_have = let b = box_has m.job.rule refl in (b.0, at_box j m.job b.0 m.is b.1, b.2, b.3)
 
     parts_have : (u l : ℕ) (d : IsMadeBy jobs a.nodes shown u l) → HasSpot (parts_of places u) shown.matrix shown.x shown.y
-    parts_have u l d =
-        (spot_of a.nodes d.part, at_part u d.job d.part d.is (in_at d.job.parts l d.part d.has),
-        ap (λ o. option_map_or (λ (n : NodeValue). n.matrix) o 0) d.holds.there ∙ d.holds.matrix, d.holds.place)
+    parts_have u l d = (
+      spot_of a.nodes d.part,
+      at_part u d.job d.part d.is (in_at d.job.parts l d.part d.has),
+      ap (λ o. option_map_or (λ (n : NodeValue). n.matrix) o 0) d.holds.there ∙ d.holds.matrix,
+      d.holds.place,
+    )
 
     own_block : (u l : ℕ) (d : IsMadeBy jobs a.nodes shown u l) → u ≡ j → d.job.rule ≡ None
     own_block u l d same =

@@ -1,20 +1,17 @@
 -- The boxes of views, as what their windows show.
-use Rattle.std.proofs.Common.{◌≡◌, ◌∙◌, refl, sym, ap, subst, ℕ, zero, suc, ◌+◌, ◌-◌, ◌<◌, ◌≤◌, ◌^◌, ℤ, pos, negsuc, ◌≤ℤ◌, List, [], ◌∷◌, ◌++◌, length, map, take, get_or, slice_get, Some, arith}
-use Rattle.std.specs.Prelude.{unsigned_abs}
+use Rattle.std.proofs.Common.{◌≡◌, ◌∙◌, refl, sym, ap, subst, ℕ, zero, suc, ◌+◌, ◌-◌, ◌<◌, ℤ, pos, List, [], ◌∷◌, ◌++◌, length, map, take, get_or, slice_get, Some, arith}
 use Rattle.std.specs.List.{All}
 use Rattle.std.specs.Option.{option_map_or}
-use Rattle.std.proofs.lemmas.Int.{ints}
-use Rattle.std.proofs.lemmas.Option.{slice_get-get_or, slice_get_within}
+use Rattle.std.proofs.lemmas.Option.{slice_get_within}
 use Rattle.pb_linear.specs.Numbers.{exact_value}
 use Rattle.pb_values.specs.declared.rect.Rect.{Rect}
 use Rattle.pb_values.specs.declared.view.View.{View}
 use Rattle.pb_program.specs.Areas.{Area, area_of, from_start}
 use Rattle.pb_program.specs.Forms.{DeclValue}
-use Rattle.pb_program.specs.Trees.{ProgRule}
 use Rattle.pb_program.specs.declared.view.Read.{Read}
-use Rattle.pb_region.specs.Small.{IsSmallRead, IsSmallRule}
+use Rattle.pb_region.specs.Small.{IsSmallRead}
 use Rattle.pb_region.specs.Within.{IsWithin}
-use Rattle.pb_model.specs.Cells.{Cell, natural}
+use Rattle.pb_model.specs.Cells.{natural}
 use Rattle.pb_views.specs.Hulls.{AreWithin, hull_of, joined}
 use Rattle.pb_views.specs.Windows.{AreLaid, AreSteady, IsRect, IsWindow, shown_by}
 use Rattle.pb_views.specs.declared.window.Window.{Window}

@@ -1,8 +1,6 @@
 -- Where the elements of lists stand that are made one after another.
-use Rattle.std.proofs.Common.{◌≡◌, ◌∙◌, refl, sym, ap, subst, inl, inr, ◌⊎◌, ℕ, zero, suc, ◌+◌, ◌-◌, ◌≤◌, ◌<◌, Bool, true, false, List, [], ◌∷◌, ◌++◌, length, map, slice_get, Option, Some, None, arith}
-use Rattle.std.specs.Prelude.{filter}
-use Rattle.std.specs.List.{Contains, enumerate_from, flat_map}
-use Rattle.std.proofs.Math.Bool.{cond}
+use Rattle.std.proofs.Common.{◌≡◌, ◌∙◌, refl, sym, ap, inl, inr, ℕ, zero, suc, ◌+◌, ◌-◌, ◌<◌, List, [], ◌∷◌, ◌++◌, length, slice_get, Some, arith}
+use Rattle.std.specs.List.{enumerate_from, flat_map}
 use Rattle.std.proofs.lemmas.Bool.{cases_lt}
 
 module _ {A : Type 0} where

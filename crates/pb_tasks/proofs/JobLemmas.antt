@@ -8,16 +8,14 @@ use Rattle.std.proofs.lemmas.Bool.{and_parts, cases_lt, eq-eqb, eqb-true}
 use Rattle.std.proofs.lemmas.List.{length-map}
 use Rattle.pb_values.specs.declared.rect.Rect.{Rect}
 use Rattle.pb_graph.specs.Layerings.{LayerValue, LayeringValue}
-use Rattle.pb_program.specs.Configs.{ConfigValue}
 use Rattle.pb_program.specs.Trees.{ProgRule, ProgTransform}
 use Rattle.pb_region.specs.Boxes.{is_wide}
-use Rattle.pb_base.proofs.ListLemmas.{at_in, filter_in, in_at, in_cases, in_filter, in_head, in_map, in_none, in_range, in_tail, map_in, range_in}
-use Rattle.pb_check.specs.Orders.{AnalysisValue}
+use Rattle.pb_base.proofs.ListLemmas.{at_in, filter_in, in_at, in_cases, in_filter, in_map, in_none, in_range, map_in}
 use Rattle.pb_check.proofs.FirstLemmas.{some_same}
 use Rattle.pb_check.proofs.LawfulLemmas.{both}
-use Rattle.pb_frame.specs.Frames.{JobValue, block_job, block_parts, blocks, chosen_wides, cut_by, greatest, has_block, has_place, in_layer, is_block_part, is_cell_rule, is_in_layer, is_wide_rule, layer_jobs, of_rule, squares, wide_job, within}
+use Rattle.pb_frame.specs.Frames.{JobValue, block_job, blocks, chosen_wides, cut_by, greatest, has_block, has_place, in_layer, is_block_part, is_cell_rule, is_in_layer, is_wide_rule, layer_jobs, squares, wide_job, within}
 use Rattle.pb_frame.specs.declared.part.FramePart.{FramePart}
-use Rattle.pb_tasks.proofs.FlatLemmas.{StandsAt, at_flat, at_numbered, flat_at, numbered_at, start, start_before, within as inside}
+use Rattle.pb_tasks.proofs.FlatLemmas.{at_flat, at_numbered, flat_at, numbered_at, start, start_before, within as inside}
 use Rattle.pb_tasks.proofs.RiseLemmas.{Rises, rises_filter, rises_map, rises_one, rises_range}
 
 -- ---- two lists one after the other
@@ -219,12 +217,15 @@ module _ (t : ProgTransform) (order : LayeringValue) (grain : ℕ) (all : List F
       let parts = in_layer order all l in
       let same = eq-eqb part.rule part.rule refl in
       let listed : Contains (wides_in l) part.rule = in_filter (λ k. is_wide_rule t k && list_any (λ (q : FramePart). q.rule == k) parts) (range_with_len 0 (length t.rules)) part.rule (in_range (length t.rules) part.rule below)
-          (both (is_wide_rule t part.rule) (list_any (λ (q : FramePart). q.rule == part.rule) parts) wide (any_in (λ (q : FramePart). q.rule == part.rule) parts part (in_own part h) same)) in
+      (both (is_wide_rule t part.rule) (list_any (λ (q : FramePart). q.rule == part.rule) parts) wide (any_in (λ (q : FramePart). q.rule == part.rule) parts part (in_own part h) same)) in
       let m = at_in (wides_in l) part.rule listed in
       let job = wide_job l parts part.rule in
-      let early : m.0 < length (wide_jobs l) = omega (arith, inside (wides_in l) m.0 part.rule m.1, length-map (wides_in l) (wide_job l parts)) in
-      (start of_layer (enumerate_from 0 order.layers) l + m.0, job, job_at l v m.0 job there (get_left (wide_jobs l) (block_jobs l v) m.0 early ∙ at_map (wide_job l parts) (wides_in l) m.0 part.rule m.1),
-      in_filter (λ (q : FramePart). q.rule == part.rule) parts part (in_own part h) same)
+      let early : m.0 < length (wide_jobs l) = omega (arith, inside (wides_in l) m.0 part.rule m.1, length-map (wides_in l) (wide_job l parts)) in (
+        start of_layer (enumerate_from 0 order.layers) l + m.0,
+        job,
+        job_at l v m.0 job there (get_left (wide_jobs l) (block_jobs l v) m.0 early ∙ at_map (wide_job l parts) (wides_in l) m.0 part.rule m.1),
+        in_filter (λ (q : FramePart). q.rule == part.rule) parts part (in_own part h) same,
+      )
 
   pub block_has : (part : FramePart) (v : LayerValue) → Contains all part → slice_get order.layers (layer_of part) ≡ Some v → has_place part.rect ≡ true → is_cell_rule t part.rule ≡ true → (j : ℕ) × (job : JobValue) × (slice_get jobs j ≡ Some job) × Contains job.parts part
   block_has part v h there some cell =
@@ -236,9 +237,12 @@ module _ (t : ProgTransform) (order : LayeringValue) (grain : ℕ) (all : List F
       let is_part : is_block_part t sq part ≡ true = both (is_cell_rule t part.rule) (has_place (cut_by sq part.rect)) cell (ap has_place (whole_cut v grain parts part own) ∙ some) in
       let has : has_block t parts sq ≡ true = any_in (is_block_part t sq) parts part own is_part in
       let first : slice_get (blocks t v grain parts) 0 ≡ Some sq = ap (λ b. slice_get (cond b (sq ∷ []) []) 0) has in
-      let at_block : slice_get (of_layer (l, v)) (length (wide_jobs l) + 0) ≡ Some job = get_right (wide_jobs l) (block_jobs l v) 0 ∙ at_map (block_job t l parts) (blocks t v grain parts) 0 sq first in
-      (start of_layer (enumerate_from 0 order.layers) l + (length (wide_jobs l) + 0), job, job_at l v (length (wide_jobs l) + 0) job there at_block,
-      subst (Contains job.parts) (whole_within v grain parts part own) (in_map (within sq) (filter (is_block_part t sq) parts) part (in_filter (is_block_part t sq) parts part own is_part)))
+      let at_block : slice_get (of_layer (l, v)) (length (wide_jobs l) + 0) ≡ Some job = get_right (wide_jobs l) (block_jobs l v) 0 ∙ at_map (block_job t l parts) (blocks t v grain parts) 0 sq first in (
+        start of_layer (enumerate_from 0 order.layers) l + (length (wide_jobs l) + 0),
+        job,
+        job_at l v (length (wide_jobs l) + 0) job there at_block,
+        subst (Contains job.parts) (whole_within v grain parts part own) (in_map (within sq) (filter (is_block_part t sq) parts) part (in_filter (is_block_part t sq) parts part own is_part)),
+      )
 
   not_both : (k : ℕ) → is_wide_rule t k ≡ true → is_cell_rule t k ≡ true → ⊥
   not_both k wide cell = by (slice_get t.rules k) wide cell

@@ -1,5 +1,5 @@
 -- Each cell that rules make is made by one job, once.
-use Rattle.std.proofs.Common.{◌≡◌, ◌∙◌, refl, sym, ap, subst, inl, inr, ◌⊎◌, ⊎_elim, ℕ, zero, suc, ◌<◌, Bool, true, false, not, List, [], ◌∷◌, length, map, slice_get, slice_index, Option, Some, None, arith}
+use Rattle.std.proofs.Common.{◌≡◌, ◌∙◌, refl, sym, ap, subst, ℕ, zero, suc, ◌<◌, Bool, true, false, not, List, [], ◌∷◌, length, slice_get, slice_index, Some, arith}
 use Rattle.std.specs.Prelude.{filter}
 use Rattle.std.specs.List.{Contains, enumerate_from}
 use Rattle.std.specs.Option.{option_map_or}
@@ -19,11 +19,11 @@ use Rattle.pb_check.specs.Ranked.{IsMadeCell}
 use Rattle.pb_check.proofs.CoverLemmas.{has_lawful}
 use Rattle.pb_check.proofs.FirstLemmas.{some_same}
 use Rattle.pb_frame.specs.Choices.{IsInstance}
-use Rattle.pb_frame.specs.Frames.{HoldsCell, JobValue, has_cell, has_place, is_cell_rule, is_wide_rule, part_of as part_for, parts_of, rect_of}
+use Rattle.pb_frame.specs.Frames.{JobValue, has_cell, has_place, part_of as part_for, parts_of}
 use Rattle.pb_frame.specs.declared.part.FramePart.{FramePart}
 use Rattle.pb_frame.proofs.PartLemmas.{held_chosen, held_made, node_layer, of_part, one_part, some_part}
 use Rattle.pb_tasks.specs.Made.{IsMadeBy, jobs_for}
-use Rattle.pb_tasks.proofs.JobLemmas.{IsPartOf, block_has, one_job, part_of, placed, rising_parts, wide_has}
+use Rattle.pb_tasks.proofs.JobLemmas.{block_has, one_job, part_of, placed, rising_parts, wide_has}
 use Rattle.pb_tasks.proofs.RiseLemmas.{Rises, rises_filter, rises_map, rises_numbered, rises_one}
 
 module _ (config : ConfigValue) (number : ℕ) (t : ProgTransform) (a : AnalysisValue) (sizes : List ℕ) (grain : ℕ) (i : IsInstance number t a sizes) where

@@ -1,13 +1,12 @@
 -- A read of a rule of a segment, as the order of segments knows it.
-use Rattle.std.proofs.Common.{◌≡◌, ◌∙◌, refl, sym, ap, subst, inl, inr, ◌⊎◌, ⊎_elim, ℕ, ◌<◌, ◌≤◌, ℤ, pos, Bool, true, false, ◌&&◌, not, List, slice_get, slice_index, Some, arith}
+use Rattle.std.proofs.Common.{◌≡◌, ◌∙◌, refl, sym, ap, subst, inl, inr, ◌⊎◌, ⊎_elim, ℕ, ◌<◌, ◌≤◌, ℤ, Bool, true, false, ◌&&◌, not, List, slice_get, slice_index, Some, arith}
 use Rattle.std.specs.Prelude.{◌==◌, IsTrue, filter, nat_le}
 use Rattle.std.specs.List.{Contains, enumerate_from}
 use Rattle.std.proofs.lemmas.Bool.{cases_Bool, eq-eqb}
 use Rattle.std.proofs.lemmas.Bool.Decides.{nat_tests}
-use Rattle.pb_linear.specs.Sizes.{InRange, leasts_of}
+use Rattle.pb_linear.specs.Sizes.{InRange}
 use Rattle.pb_linear.specs.declared.boxes.ReadBox.{ReadBox}
 use Rattle.pb_graph.specs.Edges.{Choices, apart, touches}
-use Rattle.pb_graph.specs.Layerings.{LayeringValue}
 use Rattle.pb_graph.specs.Nodes.{NodeValue}
 use Rattle.pb_graph.specs.Ranks.{ApartOn, IsHandled, IsReadOf}
 use Rattle.pb_graph.proofs.HandledLemmas.{apart_on, handled}
@@ -19,7 +18,7 @@ use Rattle.pb_region.specs.Boxes.{is_wide}
 use Rattle.pb_region.specs.Ends.{area_at}
 use Rattle.pb_region.specs.Reads.{ReadValue, is_made, read_of, read_value, reads_of}
 use Rattle.pb_region.proofs.AreaLemmas.{ends_area}
-use Rattle.pb_base.proofs.ListLemmas.{flat_in, in_filter, in_flat, in_map, map_in}
+use Rattle.pb_base.proofs.ListLemmas.{in_filter, in_flat, in_map, map_in}
 use Rattle.pb_check.specs.Orders.{AnalysisValue, made_reads}
 use Rattle.pb_check.proofs.LawfulLemmas.{at_numbered}
 use Rattle.pb_frame.specs.Choices.{IsInstance}

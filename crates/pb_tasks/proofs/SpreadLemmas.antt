@@ -1,5 +1,5 @@
 -- The box of what a job reads ends where what its cells read ends.
-use Rattle.std.proofs.Common.{◌≡◌, ◌∙◌, refl, sym, ap, subst, inl, inr, ◌⊎◌, ℕ, ◌-◌, ◌<◌, ◌≤◌, ℤ, pos, negsuc, ◌+ℤ◌, ◌*ℤ◌, ◌≤ℤ◌, ◌<ℤ◌, Bool, List, slice_get, Option, Some, arith}
+use Rattle.std.proofs.Common.{◌≡◌, ◌∙◌, sym, ap, subst, inl, inr, ◌⊎◌, ℕ, ◌-◌, ◌<◌, ◌≤◌, ℤ, pos, negsuc, ◌≤ℤ◌, ◌<ℤ◌, List, slice_get, Some, arith}
 use Rattle.std.specs.Prelude.{◌==◌, if◌then◌else◌}
 use Rattle.std.specs.Int.{int_max, int_min}
 use Rattle.std.specs.Option.{option_map_or}
@@ -12,7 +12,7 @@ use Rattle.pb_linear.specs.declared.vform.SymBox.{SymBox}
 use Rattle.pb_values.specs.Views.{HasPlace}
 use Rattle.pb_values.specs.declared.rect.Rect.{Rect}
 use Rattle.pb_graph.specs.Ranks.{ApartOn, OnEach}
-use Rattle.pb_program.specs.Areas.{Area, IsIn, Span, area_by, area_of, by_dims, from_start, one_place}
+use Rattle.pb_program.specs.Areas.{Area, IsIn, Span, area_by, area_of, from_start, one_place}
 use Rattle.pb_program.specs.Forms.{CoordinateValue, DeclValue, coordinate_at}
 use Rattle.pb_program.specs.declared.view.Read.{Read}
 use Rattle.pb_program.specs.declared.view.ReadView.{ReadView}

@@ -1,8 +1,7 @@
 -- Rules that aren't for single cells have no rule variables: they show and apply the same at all of their values.
-use Rattle.std.proofs.Common.{◌≡◌, ◌∙◌, refl, sym, ap, subst, ℕ, ℤ, pos, ◌+ℤ◌, ◌*ℤ◌, Bool, true, false, List, [], ◌∷◌, length, slice_get, Option, Some, None, arith}
-use Rattle.std.specs.Prelude.{◌==◌, if◌then◌else◌, filter}
+use Rattle.std.proofs.Common.{◌≡◌, refl, sym, ap, subst, ℕ, ℤ, pos, ◌*ℤ◌, true, List, [], ◌∷◌, length, slice_get, Some, arith}
+use Rattle.std.specs.Prelude.{◌==◌, if◌then◌else◌}
 use Rattle.std.specs.List.{AllByRecursion, Contains}
-use Rattle.std.specs.Option.{option_map_or}
 use Rattle.std.proofs.Math.IntN.{zero-*ℤ}
 use Rattle.std.proofs.lemmas.Int.{ints}
 use Rattle.pb_linear.specs.Numbers.{exact_value}
@@ -11,13 +10,12 @@ use Rattle.pb_program.specs.declared.rule.RuleKind.TheVariants as kind
 use Rattle.pb_program.specs.declared.view.Read.{Read}
 use Rattle.pb_program.specs.declared.view.ReadView.{ReadView}
 use Rattle.pb_program.specs.declared.view.ReadView.TheVariants as view
-use Rattle.pb_program.specs.Areas.{Area, Span, area_by, area_of, by_dims, from_start, one_place}
-use Rattle.pb_program.specs.Conditions.{Applies, Condition, Holds, conditions}
+use Rattle.pb_program.specs.Areas.{Span, area_by, area_of, by_dims, from_start, one_place}
+use Rattle.pb_program.specs.Conditions.{Applies, Holds, conditions}
 use Rattle.pb_program.specs.Forms.{CoordinateValue, DeclValue, coordinate_at}
 use Rattle.pb_program.specs.Trees.{ProgRule, ProgTransform}
 use Rattle.pb_program.specs.WellFormed.{IsCoordinate, IsFree, IsRule, IsTransform, IsView, IsWellFormed, KindFits, variables}
 use Rattle.pb_region.specs.Boxes.{is_wide}
-use Rattle.pb_region.specs.Inside.{guards, is_guarding}
 use Rattle.pb_region.proofs.FreeLemmas.{all_guards}
 use Rattle.pb_region.proofs.SmallLemmas.{at_place}
 use Rattle.pb_types.specs.Types.{PlanIsSound}
@@ -25,7 +23,6 @@ use Rattle.pb_types.proofs.SoundLemmas.{plans_sound}
 use Rattle.pb_base.proofs.ListLemmas.{at_in}
 use Rattle.pb_check.specs.Phases.{IsSound}
 use Rattle.pb_calls.proofs.SameLemmas.{guards_anywhere}
-use Rattle.pb_tasks.specs.Boxes.{shown_at}
 
 -- ---- coordinates without rule variables
 no_variables : (outs : List Read) → AllByRecursion IsFree outs → variables outs ≡ 0

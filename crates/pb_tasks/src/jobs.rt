@@ -53,7 +53,14 @@ fn add_part(
     ensures { OnOk result (boxes.new.items ≡ boxes.old.items ++ part_boxes (bare_transform transform.now) (sizes_of s.now) part.now) }
 {
     let rule = &transform.rules[part.rule as usize];
-    add_over(boxes, &transform.matrices, &rule.reads, views, s, &part.rect)
+    add_over(
+        boxes,
+        &transform.matrices,
+        &rule.reads,
+        views,
+        s,
+        &part.rect,
+    )
 }
 
 fn part_boxes(

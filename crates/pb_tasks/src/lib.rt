@@ -10,4 +10,7 @@ mod jobs;
 mod laws;
 
 pub use jobs::places;
-pub use laws::scratch;
+pub use laws::{
+    a_frame_has_the_jobs_of_its_instance, each_cell_is_made_once, jobs_have_places,
+    predecessors_stand_before, what_is_read_is_made_before,
+};

@@ -1,5 +1,5 @@
 use Rattle.pb_linear.specs.Sizes.{sizes_of}
-use Rattle.pb_tasks.specs.Boxes.{part_box, whole_box}
+use Rattle.pb_tasks.specs.Boxes.{whole_box}
 use Rattle.pb_tasks.proofs.BoxLemmas.{inside, next_box, next_whole, next_at}
 use Rattle.pb_tasks.proofs.boxes.add_whole.Goals as goal
 

@@ -7,7 +7,7 @@ use Rattle.pb_linear.specs.Sizes.{sizes_of}
 use Rattle.pb_program.specs.Forms.{DeclValue}
 use Rattle.pb_program.specs.Rules.{RuleValue}
 use Rattle.pb_program.specs.Transforms.{TransformValue}
-use Rattle.pb_program.specs.Trees.{ProgRule, bare_rule, bare_transform}
+use Rattle.pb_program.specs.Trees.{ProgRule, bare_rule}
 use Rattle.pb_program.specs.declared.view.Read.{Read}
 use Rattle.pb_region.proofs.RuleLemmas.{held_at}
 use Rattle.pb_check.proofs.FirstLemmas.{some_same}

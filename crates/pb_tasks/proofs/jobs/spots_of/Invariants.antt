@@ -1,4 +1,4 @@
-use Rattle.std.proofs.Common.{◌≡◌, ◌++◌, map, take}
+use Rattle.std.proofs.Common.{◌≡◌, map, take}
 use Rattle.pb_tasks.specs.Boxes.{spot_of}
 use Rattle.pb_tasks.proofs.jobs.spots_of.Given as goal
 
