@@ -116,8 +116,10 @@ module _ (x0 x x1 y0 y y1 : ℕ) (left : x0 ≤ x) (right : x ≤ x1) (low : y0 
   fixed s = (min_of s.low s.low s.low s.low s.low (inl (inl (omega (arith, ints)))), max_of s.high s.high s.high s.high s.high (inl (inl (omega (arith, ints)))))
 
   pub single : (lx ly lr : ℤ) → Holds4 (λ u v. one_place (lr +ℤ (lx *ℤ pos u +ℤ ly *ℤ pos v)))
-  single lx ly lr = (min_of (at lx ly lr x0 y0) (at lx ly lr x1 y0) (at lx ly lr x0 y1) (at lx ly lr x1 y1) (at lx ly lr x y) (plain_low lx ly lr),
-      max_of (at lx ly lr x0 y0 +ℤ pos 1) (at lx ly lr x1 y0 +ℤ pos 1) (at lx ly lr x0 y1 +ℤ pos 1) (at lx ly lr x1 y1 +ℤ pos 1) (at lx ly lr x y +ℤ pos 1) (some_high lx ly lr (pos 1)))
+  single lx ly lr = (
+    min_of (at lx ly lr x0 y0) (at lx ly lr x1 y0) (at lx ly lr x0 y1) (at lx ly lr x1 y1) (at lx ly lr x y) (plain_low lx ly lr),
+    max_of (at lx ly lr x0 y0 +ℤ pos 1) (at lx ly lr x1 y0 +ℤ pos 1) (at lx ly lr x0 y1 +ℤ pos 1) (at lx ly lr x1 y1 +ℤ pos 1) (at lx ly lr x y +ℤ pos 1) (some_high lx ly lr (pos 1)),
+  )
 
   pub pair : (lx ly lr mx my mr : ℤ) → Holds4 (λ u v. record { low = lr +ℤ (lx *ℤ pos u +ℤ ly *ℤ pos v); high = mr +ℤ (mx *ℤ pos u +ℤ my *ℤ pos v) })
   pair lx ly lr mx my mr = (min_of (at lx ly lr x0 y0) (at lx ly lr x1 y0) (at lx ly lr x0 y1) (at lx ly lr x1 y1) (at lx ly lr x y) (plain_low lx ly lr), max_of (at mx my mr x0 y0) (at mx my mr x1 y0) (at mx my mr x0 y1) (at mx my mr x1 y1) (at mx my mr x y) (plain_high mx my mr))
