@@ -1,0 +1,375 @@
+-- The tasks of an instance are a graph.
+use Rattle.std.proofs.Common.{◌≡◌, ◌∙◌, refl, sym, ap, subst, ⊎_elim, ℕ, zero, suc, ◌+◌, ◌-◌, ◌≤◌, ◌<◌, ℤ, pos, negsuc, ◌<ℤ◌, List, [], ◌∷◌, length, map, slice_get, Some, arith}
+use Rattle.std.specs.Prelude.{slice_index_or}
+use Rattle.std.specs.List.{AllZip, Contains, fold, range_with_len, sum_by}
+use Rattle.std.proofs.lemmas.Bool.{cases_lt}
+use Rattle.std.proofs.lemmas.Int.{ints}
+use Rattle.std.proofs.lemmas.List.{length-map}
+use Rattle.std.proofs.lemmas.Option.{slice_get_within}
+use Rattle.pb_linear.specs.Numbers.{exact_value}
+use Rattle.pb_values.specs.Views.{cell_of, row_cells, view_cells}
+use Rattle.pb_values.specs.declared.shape.Shape.{Shape}
+use Rattle.pb_values.specs.declared.view.View.{View}
+use Rattle.pb_graph.specs.Nodes.{NodeValue}
+use Rattle.pb_program.specs.Configs.{ConfigValue, IsValid}
+use Rattle.pb_program.specs.Forms.{DeclValue}
+use Rattle.pb_program.specs.Trees.{ProgTransform}
+use Rattle.pb_base.proofs.ListLemmas.{at_in, flat_in, in_at, in_flat, in_map, in_none, in_range, map_in, range_in}
+use Rattle.pb_model.specs.Cells.{Cell, natural}
+use Rattle.pb_check.specs.Orders.{AnalysisValue}
+use Rattle.pb_check.specs.Ranked.{IsMadeCell}
+use Rattle.pb_check.proofs.FirstLemmas.{some_same}
+use Rattle.pb_frame.specs.Choices.{IsInstance}
+use Rattle.pb_frame.specs.Frames.{JobValue}
+use Rattle.pb_frame.specs.declared.part.FramePart.{FramePart}
+use Rattle.pb_links.specs.Links.{link_count as count_links, precedes, predecessors, successors}
+use Rattle.pb_links.specs.Spots.{PlacesValue}
+use Rattle.pb_links.proofs.LawLemmas.{after-others, before-others, mirrored}
+use Rattle.pb_links.proofs.RisingLemmas.{rising-once, rising-picked}
+use Rattle.pb_taskgraph.specs.Graphs.{EachOnce, GraphValue, IsGraph, IsLinked, IsPartition, TaskValue, after_of, before_of, cells_of, link_count, task_cells}
+use Rattle.pb_taskgraph.specs.declared.task.Part.{Part}
+use Rattle.pb_tasks.specs.Boxes.{places_of}
+use Rattle.pb_tasks.specs.Made.{IsMadeBy, jobs_for}
+use Rattle.pb_tasks.proofs.BeforeLemmas.{stands_before}
+use Rattle.pb_tasks.proofs.JobLemmas.{at_map, map_at}
+use Rattle.pb_tasks.proofs.MadeLemmas.{made_by, made_cell, made_once}
+use Rattle.pb_views.specs.Layouts.{AreInARow, cell_count, shape_of}
+use Rattle.pb_plan.specs.Tasks.{AreTasks, IsPartFor, IsTaskFor, IsWithinLimits, graph_of}
+use Rattle.pb_plan.proofs.NumberLemmas.{IsNumbered, before, number_below, number_once, number_some, number_within, view_at}
+use Rattle.pb_plan.proofs.OnceLemmas.{Once, once_each, once_flat, once_map, once_range}
+
+-- ---- the cells of a view
+in_view : (v : View) (n : ℕ) → Contains (view_cells v) n → (x : ℕ) × (y : ℕ) × (x < v.shape.w) × (y < v.shape.h) × (cell_of v x y ≡ n)
+in_view v n h =
+    let row = flat_in (row_cells v) (range_with_len 0 v.shape.h) n h in
+    let cell = map_in (λ x. cell_of v x row.0) (range_with_len 0 v.shape.w) n row.2 in
+    (cell.0, row.0, range_in v.shape.w cell.0 cell.1, range_in v.shape.h row.0 row.1, cell.2)
+
+view_in : (v : View) (x y : ℕ) → x < v.shape.w → y < v.shape.h → Contains (view_cells v) (cell_of v x y)
+view_in v x y on_x on_y =
+    in_flat (row_cells v) (range_with_len 0 v.shape.h) y (cell_of v x y) (in_range v.shape.h y on_y) (in_map (λ u. cell_of v u y) (range_with_len 0 v.shape.w) x (in_range v.shape.w x on_x))
+
+once_view : (v : View) → ((x y u w : ℕ) → x < v.shape.w → y < v.shape.h → u < v.shape.w → w < v.shape.h → cell_of v x y ≡ cell_of v u w → (x ≡ u) × (y ≡ w)) → Once (view_cells v)
+once_view v one =
+    once_flat (row_cells v) (range_with_len 0 v.shape.h)
+    (λ k y at. once_map (λ x. cell_of v x y) (range_with_len 0 v.shape.w) (once_range v.shape.w) (λ x u hx hu same. (one x y u y (range_in v.shape.w x hx) (range_in v.shape.h y (in_at (range_with_len 0 v.shape.h) k y at)) (range_in v.shape.w u hu) (range_in v.shape.h y (in_at (range_with_len 0 v.shape.h) k y at)) same).0))
+    (λ k l y w b at_k at_l hk hl.
+    let p = map_in (λ x. cell_of v x y) (range_with_len 0 v.shape.w) b hk in
+    let q = map_in (λ x. cell_of v x w) (range_with_len 0 v.shape.w) b hl in
+    let same = one p.0 y q.0 w (range_in v.shape.w p.0 p.1) (range_in v.shape.h y (in_at (range_with_len 0 v.shape.h) k y at_k)) (range_in v.shape.w q.0 q.1) (range_in v.shape.h w (in_at (range_with_len 0 v.shape.h) l w at_l)) (p.2 ∙ sym q.2) in
+    once_range v.shape.h k l y at_k (at_l ∙ ap Some (sym same.1)))
+
+-- ---- parts side by side
+zip_at : {A B : Type 0} (R : A → B → Type 0) (xs : List A) (ys : List B) → AllZip R xs ys → (k : ℕ) (y : B) → slice_get ys k ≡ Some y → (x : A) × (slice_get xs k ≡ Some x) × R x y
+zip_at R [] [] h k y e = absurd (cc)
+zip_at R [] (z ∷ ys) h k y e = absurd h
+zip_at R (x ∷ xs) [] h k y e = absurd h
+zip_at R (x ∷ xs) (z ∷ ys) h zero y e = (x, refl, subst (R x) (some_same z y e) h.0)
+zip_at R (x ∷ xs) (z ∷ ys) h (suc k) y e = zip_at R xs ys h.1 k y e
+
+at_zip : {A B : Type 0} (R : A → B → Type 0) (xs : List A) (ys : List B) → AllZip R xs ys → (k : ℕ) (x : A) → slice_get xs k ≡ Some x → (y : B) × (slice_get ys k ≡ Some y) × R x y
+at_zip R [] [] h k x e = absurd (cc)
+at_zip R [] (z ∷ ys) h k x e = absurd h
+at_zip R (w ∷ xs) [] h k x e = absurd h
+at_zip R (w ∷ xs) (z ∷ ys) h zero x e = (z, refl, subst (λ a. R a z) (some_same w x e) h.0)
+at_zip R (w ∷ xs) (z ∷ ys) h (suc k) x e = at_zip R xs ys h.1 k x e
+
+in_index : {A : Type 0} (xss : List (List A)) (u : ℕ) (s : A) → Contains (slice_index_or xss u []) s → (xs : List A) × (slice_get xss u ≡ Some xs) × Contains xs s
+in_index [] u s h = absurd (in_none s h)
+in_index (xs ∷ xss) zero s h = (xs, refl, h)
+in_index (xs ∷ xss) (suc u) s h = in_index xss u s h
+
+index_is : {A : Type 0} (xss : List (List A)) (u : ℕ) (xs : List A) → slice_get xss u ≡ Some xs → slice_index_or xss u [] ≡ xs
+index_is [] u xs e = absurd (cc)
+index_is (ys ∷ xss) zero xs e = some_same ys xs e
+index_is (ys ∷ xss) (suc u) xs e = index_is xss u xs e
+
+some_at : {A : Type 0} (xs : List A) (k : ℕ) → k < length xs → (x : A) × (slice_get xs k ≡ Some x)
+some_at [] k b = absurd (omega (arith, b))
+some_at (x ∷ xs) zero b = (x, refl)
+some_at (x ∷ xs) (suc k) b = some_at xs k (omega (arith, b))
+
+module _ (config : ConfigValue) (number : ℕ) (t : ProgTransform) (a : AnalysisValue) (sizes : List ℕ) (grain : ℕ) (i : IsInstance number t a sizes) (valid : IsValid i.program config) (views : List View) (row : AreInARow 0 sizes t.matrices views) where
+  abbrev pub jobs : List JobValue
+  jobs = jobs_for config number t a sizes grain
+
+  natural_above : (k : ℕ) (z : ℤ) → pos k <ℤ z → k < natural z
+  natural_above k (pos m) h = omega (arith, ints, h)
+  natural_above k (negsuc m) h = absurd (omega (arith, ints, h))
+
+  -- each cell that is made has a number
+  pub numbered : (c : Cell) → IsMadeCell t sizes c → (n : ℕ) × IsNumbered sizes 0 t.matrices views row c.matrix c.x c.y n
+  numbered c made =
+      let v = view_at sizes 0 t.matrices views row c.matrix made.cell.decl made.cell.there in
+      (cell_of v.0 c.x c.y, record { decl = made.cell.decl; there = made.cell.there; view = v.0; at = v.1; on_x = natural_above c.x (exact_value made.cell.decl.w sizes) made.cell.before_x; on_y = natural_above c.y (exact_value made.cell.decl.h sizes) made.cell.before_y; is = refl })
+
+  module _ (tasks : List TaskValue) (are : AreTasks t a.nodes sizes views jobs tasks) where
+    abbrev pub graph : GraphValue
+    graph = graph_of t sizes tasks
+
+    -- a place of a part of a task is a cell of the job
+    pub record FromPart (j k n : ℕ) : Type 0 where
+      pub cell : Cell
+      pub made : IsMadeBy jobs a.nodes cell j k
+      pub is_number : IsNumbered sizes 0 t.matrices views row cell.matrix cell.x cell.y n
+
+    abbrev from_part : (j : ℕ) (job : JobValue) (is : slice_get jobs j ≡ Some job) (k : ℕ) (from : FramePart) (has : slice_get job.parts k ≡ Some from) (part : Part) (p : IsPartFor t a.nodes views from part) (x y n : ℕ)
+        → x < part.view.shape.w → y < part.view.shape.h → cell_of part.view x y ≡ n → FromPart j k n
+    from_part j job is k from has part p x y n on_x on_y same =
+        let wide : x < from.rect.x1 - from.rect.x0 = omega (arith, on_x, ap (λ (s : Shape). s.w) p.cells.shape) in
+        let tall : y < from.rect.y1 - from.rect.y0 = omega (arith, on_y, ap (λ (s : Shape). s.h) p.cells.shape) in
+        let c : Cell = record { matrix = p.node.matrix; x = from.rect.x0 + x; y = from.rect.y0 + y } in
+        let made : IsMadeBy jobs a.nodes c j k = record { job = job; is = is; part = from; has = has; holds = record { node = p.node; there = p.there; matrix = refl; place = record { left = omega arith; right = omega (arith, wide); low = omega arith; high = omega (arith, tall) } } } in
+        let cell = (made_cell config number t a sizes grain i c j k made).cell in
+        let decl : cell.decl ≡ p.decl = some_same cell.decl p.decl (sym cell.there ∙ p.declared) in
+        record {
+          cell = c;
+          made = made;
+          is_number = record {
+            decl = p.decl;
+            there = p.declared;
+            view = p.view;
+            at = p.at;
+            on_x = subst (λ (d : DeclValue). c.x < (shape_of sizes d).w) decl (natural_above c.x (exact_value cell.decl.w sizes) cell.before_x);
+            on_y = subst (λ (d : DeclValue). c.y < (shape_of sizes d).h) decl (natural_above c.y (exact_value cell.decl.h sizes) cell.before_y);
+            is = sym same ∙ p.cells.cells x y wide tall;
+          };
+        }
+
+    pub cell_from : (j n : ℕ) → Contains (cells_of graph j) n → (k : ℕ) × FromPart j k n
+    unfolding cells_of
+    cell_from j n h =
+        let l = in_index (map task_cells tasks) j n h in
+        let task = map_at task_cells tasks j l.0 l.1 in
+        let job = some_at jobs j (omega (arith, slice_get_within tasks j task.0 task.1, are.count)) in
+        let is = are.each j job.0 task.0 job.1 task.1 in
+        let in_part = flat_in (λ (part : Part). view_cells part.view) task.0.parts n (subst (λ (cs : List ℕ). Contains cs n) (sym task.2) l.2) in
+        let k = at_in task.0.parts in_part.0 in_part.1 in
+        let from = zip_at (IsPartFor t a.nodes views) job.0.parts task.0.parts is.parts k.0 in_part.0 k.1 in
+        let place = in_view in_part.0.view n in_part.2 in
+        (k.0, from_part j job.0 job.1 k.0 from.0 from.1 in_part.0 from.2 place.0 place.1 n place.2 place.3 place.4)
+
+    task_at : (j : ℕ) (job : JobValue) → slice_get jobs j ≡ Some job → (task : TaskValue) × (slice_get tasks j ≡ Some task) × IsTaskFor t a.nodes sizes views jobs j job task
+    task_at j job e =
+        let task = some_at tasks j (omega (arith, slice_get_within jobs j job e, are.count)) in
+        (task.0, task.1, are.each j job task.0 e task.1)
+
+    cells_are : (j : ℕ) (task : TaskValue) → slice_get tasks j ≡ Some task → cells_of graph j ≡ task_cells task
+    unfolding cells_of
+    cells_are j task e = index_is (map task_cells tasks) j (task_cells task) (at_map task_cells tasks j task e)
+
+    pub cell_to : (c : Cell) (j k n : ℕ) → IsMadeBy jobs a.nodes c j k → IsNumbered sizes 0 t.matrices views row c.matrix c.x c.y n → Contains (cells_of graph j) n
+    cell_to c j k n m number =
+        let task = task_at j m.job m.is in
+        let part = at_zip (IsPartFor t a.nodes views) m.job.parts task.0.parts task.2.parts k m.part m.has in
+        let p = part.2 in
+        let place = m.holds.place in
+        let node : p.node ≡ m.holds.node = some_same p.node m.holds.node (sym p.there ∙ m.holds.there) in
+        let matrix : p.node.matrix ≡ c.matrix = ap (λ (q : NodeValue). q.matrix) node ∙ m.holds.matrix in
+        let view : p.view ≡ number.view = some_same p.view number.view (sym p.at ∙ ap (slice_get views) matrix ∙ number.at) in
+        let x = c.x - m.part.rect.x0 in
+        let y = c.y - m.part.rect.y0 in
+        let wide : x < m.part.rect.x1 - m.part.rect.x0 = omega (arith, place.left, place.right) in
+        let tall : y < m.part.rect.y1 - m.part.rect.y0 = omega (arith, place.low, place.high) in
+        let back_x : m.part.rect.x0 + x ≡ c.x = omega (arith, place.left) in
+        let back_y : m.part.rect.y0 + y ≡ c.y = omega (arith, place.low) in
+        let is : cell_of part.0.view x y ≡ n = p.cells.cells x y wide tall ∙ ap (λ u. cell_of p.view u (m.part.rect.y0 + y)) back_x ∙ ap (λ v. cell_of p.view c.x v) back_y ∙ ap (λ (v : View). cell_of v c.x c.y) view ∙ sym number.is in
+        let there : Contains (view_cells part.0.view) (cell_of part.0.view x y) = view_in part.0.view x y (omega (arith, wide, ap (λ (s : Shape). s.w) p.cells.shape)) (omega (arith, tall, ap (λ (s : Shape). s.h) p.cells.shape)) in
+        subst (λ (cs : List ℕ). Contains cs n) (sym (cells_are j task.0 task.1)) (in_flat (λ (q : Part). view_cells q.view) task.0.parts part.0 n (in_at task.0.parts k part.0 part.1) (subst (Contains (view_cells part.0.view)) is there))
+
+    -- two numbers that are one are of one cell
+    same_cell : (n : ℕ) (c d : Cell) → IsNumbered sizes 0 t.matrices views row c.matrix c.x c.y n → IsNumbered sizes 0 t.matrices views row d.matrix d.x d.y n → c ≡ d
+    same_cell n c d p q = let e = number_once sizes 0 t.matrices views row c.matrix c.x c.y d.matrix d.x d.y n p q in λ i. record { matrix = e.0 i; x = e.1 i; y = e.2 i }
+
+    pub one_task : (j l n : ℕ) → Contains (cells_of graph j) n → Contains (cells_of graph l) n → j ≡ l
+    one_task j l n p q =
+        let f = cell_from j n p in
+        let g = cell_from l n q in
+        let same = same_cell n f.1.cell g.1.cell f.1.is_number g.1.is_number in
+        (made_once config number t a sizes grain i g.1.cell j f.0 l g.0 (subst (λ (c : Cell). IsMadeBy jobs a.nodes c j f.0) same f.1.made) g.1.made).0
+
+    pub once_in : (j : ℕ) (task : TaskValue) → slice_get tasks j ≡ Some task → Once (task_cells task)
+    once_in j task e =
+        let job = some_at jobs j (omega (arith, slice_get_within tasks j task e, are.count)) in
+        let is = are.each j job.0 task job.1 e in
+        once_flat (λ (q : Part). view_cells q.view) task.parts
+        (λ k part at.
+        let from = zip_at (IsPartFor t a.nodes views) job.0.parts task.parts is.parts k part at in
+        once_view part.view (λ x y u v on_x on_y on_u on_v same.
+        let f = from_part j job.0 job.1 k from.0 from.1 part from.2 x y (cell_of part.view u v) on_x on_y same in
+        let g = from_part j job.0 job.1 k from.0 from.1 part from.2 u v (cell_of part.view u v) on_u on_v refl in
+        let e = number_once sizes 0 t.matrices views row f.cell.matrix f.cell.x f.cell.y g.cell.matrix g.cell.x g.cell.y (cell_of part.view u v) f.is_number g.is_number in
+        (omega (arith, e.1), omega (arith, e.2))))
+        (λ k l p q b at_p at_q in_p in_q.
+        let from_p = zip_at (IsPartFor t a.nodes views) job.0.parts task.parts is.parts k p at_p in
+        let from_q = zip_at (IsPartFor t a.nodes views) job.0.parts task.parts is.parts l q at_q in
+        let place_p = in_view p.view b in_p in
+        let place_q = in_view q.view b in_q in
+        let f = from_part j job.0 job.1 k from_p.0 from_p.1 p from_p.2 place_p.0 place_p.1 b place_p.2 place_p.3 place_p.4 in
+        let g = from_part j job.0 job.1 l from_q.0 from_q.1 q from_q.2 place_q.0 place_q.1 b place_q.2 place_q.3 place_q.4 in
+        let same = same_cell b f.cell g.cell f.is_number g.is_number in
+        (made_once config number t a sizes grain i g.cell j k j l (subst (λ (c : Cell). IsMadeBy jobs a.nodes c j k) same f.made) g.made).1)
+
+    -- ---- all cells but the given ones
+    cells_of_past : (j : ℕ) → length tasks ≤ j → cells_of graph j ≡ []
+    unfolding cells_of
+    cells_of_past j past = none (map task_cells tasks) j (omega (arith, past, length-map tasks task_cells))
+      where
+        none : (xss : List (List ℕ)) (u : ℕ) → length xss ≤ u → slice_index_or xss u [] ≡ []
+        none [] u h = refl
+        none (xs ∷ xss) zero h = absurd (omega (arith, h))
+        none (xs ∷ xss) (suc u) h = none xss u (omega (arith, h))
+
+    pub cells_once : (j : ℕ) → EachOnce (cells_of graph j)
+    cells_once j = ⊎_elim
+        (λ (here : j < length tasks). let task = some_at tasks j here in subst EachOnce (sym (cells_are j task.0 task.1)) (once_each (task_cells task.0) (once_in j task.0 task.1)))
+        (λ (past : length tasks ≤ j). subst EachOnce (sym (cells_of_past j past)) (λ p q below_p below_q same. absurd (omega (arith, below_p))))
+        (cases_lt j (length tasks))
+
+    given_all : (m : ℕ) → before sizes t.matrices m ≤ cell_count sizes t.matrices
+    given_all m = all t.matrices m
+      where
+        all : (ds : List DeclValue) (k : ℕ) → before sizes ds k ≤ cell_count sizes ds
+        all ds zero = omega arith
+        all [] (suc k) = omega arith
+        all (d ∷ ds) (suc k) = omega (arith, all ds k)
+
+    given_mono : (m n : ℕ) → m ≤ n → before sizes t.matrices m ≤ before sizes t.matrices n
+    given_mono m n h = mono t.matrices m n h
+      where
+        mono : (ds : List DeclValue) (m n : ℕ) → m ≤ n → before sizes ds m ≤ before sizes ds n
+        mono ds zero n h = omega arith
+        mono [] (suc m) n h = omega arith
+        mono (d ∷ ds) (suc m) zero h = absurd (omega (arith, h))
+        mono (d ∷ ds) (suc m) (suc n) h = omega (arith, mono ds m n (omega (arith, h)))
+
+    pub is_partition : IsPartition graph
+    is_partition = record {
+      inputs = given_all t.inputs;
+      past = λ j n h.
+          let f = cell_from j n h in
+          let within = number_within sizes 0 t.matrices views row f.1.cell.matrix f.1.cell.x f.1.cell.y n f.1.is_number in
+          let made = made_cell config number t a sizes grain i f.1.cell j f.0 f.1.made in
+          (omega (arith, within.0, given_mono t.inputs f.1.cell.matrix made.made), omega (arith, number_below sizes 0 t.matrices views row f.1.cell.matrix f.1.cell.x f.1.cell.y n f.1.is_number));
+      some = λ n late below.
+          let m = number_some sizes 0 t.matrices views row n below in
+          let c : Cell = record { matrix = m.0; x = m.1; y = m.2 } in
+          let zero_less : 0 + n ≡ n = omega arith in
+          let is = subst (λ k. IsNumbered sizes 0 t.matrices views row m.0 m.1 m.2 k) zero_less m.3 in
+          let made = made_of m.0 m.1 m.2 n is late in
+          let by = made_by config number t a sizes grain i valid c made in
+          (by.0, omega (arith, slice_get_within jobs by.0 by.2.job by.2.is, are.count), cell_to c by.0 by.1 n by.2 is);
+      one = λ j l n p q. one_task j l n p q;
+      once = cells_once;
+    }
+      where
+        below_natural : (k : ℕ) (z : ℤ) → k < natural z → pos k <ℤ z
+        below_natural k (pos m) h = omega (arith, ints, h)
+        below_natural k (negsuc m) h = absurd (omega (arith, h))
+
+        made_of : (m x y n : ℕ) → IsNumbered sizes 0 t.matrices views row m x y n → before sizes t.matrices t.inputs ≤ n → IsMadeCell t sizes (record { matrix = m; x = x; y = y })
+        made_of m x y n c late = record {
+          cell = record { in_range = i.in_range; decl = c.decl; there = c.there; before_x = below_natural x (exact_value c.decl.w sizes) c.on_x; before_y = below_natural y (exact_value c.decl.h sizes) c.on_y };
+          made = ⊎_elim
+              (λ (less : m < t.inputs). absurd (omega (arith, late, (number_within sizes 0 t.matrices views row m x y n c).1, given_mono (m + 1) t.inputs (omega (arith, less)))))
+              (λ (more : t.inputs ≤ m). more)
+              (cases_lt m t.inputs);
+        }
+
+    -- ---- links
+    abbrev places : List PlacesValue
+    places = map (places_of t a.nodes sizes) jobs
+
+    before_is : (j : ℕ) (task : TaskValue) → slice_get tasks j ≡ Some task → before_of graph j ≡ predecessors places j
+    unfolding before_of
+    before_is j task e =
+        let job = some_at jobs j (omega (arith, slice_get_within tasks j task e, are.count)) in
+        index_is (map (λ (x : TaskValue). x.before) tasks) j task.before (at_map (λ (x : TaskValue). x.before) tasks j task e) ∙ (are.each j job.0 task job.1 e).before
+
+    after_is : (j : ℕ) (task : TaskValue) → slice_get tasks j ≡ Some task → after_of graph j ≡ successors places j
+    unfolding after_of
+    after_is j task e =
+        let job = some_at jobs j (omega (arith, slice_get_within tasks j task e, are.count)) in
+        index_is (map (λ (x : TaskValue). x.after) tasks) j task.after (at_map (λ (x : TaskValue). x.after) tasks j task e) ∙ (are.each j job.0 task job.1 e).after
+
+    in_before : (j u : ℕ) → Contains (before_of graph j) u → Contains (predecessors places j) u
+    unfolding before_of
+    in_before j u h =
+        let l = in_index (map (λ (x : TaskValue). x.before) tasks) j u h in
+        let task = map_at (λ (x : TaskValue). x.before) tasks j l.0 l.1 in
+        subst (λ (xs : List ℕ). Contains xs u) (before_is j task.0 task.1) h
+
+    in_after : (j u : ℕ) → Contains (after_of graph j) u → Contains (successors places j) u
+    unfolding after_of
+    in_after j u h =
+        let l = in_index (map (λ (x : TaskValue). x.after) tasks) j u h in
+        let task = map_at (λ (x : TaskValue). x.after) tasks j l.0 l.1 in
+        subst (λ (xs : List ℕ). Contains xs u) (after_is j task.0 task.1) h
+
+    as_many : length places ≡ length tasks
+    as_many = length-map jobs (places_of t a.nodes sizes) ∙ sym are.count
+
+    before_in : (j u : ℕ) → Contains (predecessors places j) u → Contains (before_of graph j) u
+    before_in j u h =
+        let task = some_at tasks j (omega (arith, as_many, (after-others places u j ((mirrored places j u).0 h)).0)) in
+        subst (λ (xs : List ℕ). Contains xs u) (sym (before_is j task.0 task.1)) h
+
+    after_in : (j u : ℕ) → Contains (successors places j) u → Contains (after_of graph j) u
+    after_in j u h =
+        let task = some_at tasks j (omega (arith, as_many, (before-others places u j ((mirrored places u j).1 h)).0)) in
+        subst (λ (xs : List ℕ). Contains xs u) (sym (after_is j task.0 task.1)) h
+
+    lists_once : (of : ℕ → List ℕ) (given : ℕ → List ℕ) → ((j : ℕ) (task : TaskValue) → slice_get tasks j ≡ Some task → of j ≡ given j) → ((j u : ℕ) → Contains (of j) u → j < length tasks) → ((j : ℕ) → EachOnce (given j)) → (j : ℕ) → EachOnce (of j)
+    lists_once of given same inside once j = ⊎_elim
+        (λ (here : j < length tasks). let task = some_at tasks j here in subst EachOnce (sym (same j task.0 task.1)) (once j))
+        (λ (past : length tasks ≤ j). λ p q below_p below_q e. let x = some_at (of j) p below_p in absurd (omega (arith, past, inside j x.0 (in_at (of j) p x.0 x.1))))
+        (cases_lt j (length tasks))
+
+    before_inside : (j u : ℕ) → Contains (before_of graph j) u → j < length tasks
+    before_inside j u h = omega (arith, as_many, (after-others places u j ((mirrored places j u).0 (in_before j u h))).0)
+
+    after_inside : (j u : ℕ) → Contains (after_of graph j) u → j < length tasks
+    after_inside j u h = omega (arith, as_many, (before-others places u j ((mirrored places u j).1 (in_after j u h))).0)
+
+    before_once : (j : ℕ) → EachOnce (predecessors places j)
+    unfolding predecessors
+    before_once j = rising-once (predecessors places j) (rising-picked (λ u. precedes places u j) (length places))
+
+    after_once : (j : ℕ) → EachOnce (successors places j)
+    unfolding successors
+    after_once j = rising-once (successors places j) (rising-picked (λ u. precedes places j u) (length places))
+
+    pub is_linked : IsLinked graph
+    is_linked = record {
+      smaller = λ j u h. stands_before config number t a sizes grain i valid j u (in_before j u h);
+      mirrored = λ j u. (λ h. after_in u j ((mirrored places j u).0 (in_before j u h)), λ h. before_in j u ((mirrored places j u).1 (in_after u j h)));
+      before_once = lists_once (before_of graph) (predecessors places) before_is before_inside before_once;
+      after_once = lists_once (after_of graph) (successors places) after_is after_inside after_once;
+    }
+
+    -- ---- how many links there are
+    map_range : {A B : Type 0} (f : A → B) (g : ℕ → B) (s : ℕ) (xs : List A) → ((k : ℕ) (x : A) → slice_get xs k ≡ Some x → f x ≡ g (s + k)) → map f xs ≡ map g (range_with_len s (length xs))
+    map_range f g s [] h = refl
+    map_range f g s (x ∷ xs) h =
+        let here : f x ≡ g s = h 0 x refl ∙ (let e : s + 0 ≡ s = omega arith in ap g e) in
+        rw (here, map_range f g (s + 1) xs (λ k y e. h (suc k) y e ∙ (let e : s + suc k ≡ (s + 1) + k = omega arith in ap g e))) refl
+
+    sum_map : {A B : Type 0} (f : A → B) (g : B → ℕ) (n : ℕ) (xs : List A) → fold (λ m y. m + g y) n (map f xs) ≡ fold (λ m x. m + g (f x)) n xs
+    sum_map f g n [] = refl
+    sum_map f g n (x ∷ xs) = sum_map f g (n + g (f x)) xs
+
+    links_are : link_count graph ≡ count_links places
+    links_are =
+        let befores : map (λ (x : TaskValue). x.before) tasks ≡ map (predecessors places) (range_with_len 0 (length tasks)) = map_range (λ (x : TaskValue). x.before) (predecessors places) 0 tasks (λ k task e.
+        let job = some_at jobs k (omega (arith, slice_get_within tasks k task e, are.count)) in
+        (are.each k job.0 task job.1 e).before ∙ (let z : k ≡ 0 + k = omega arith in ap (predecessors places) z)) in
+        sym (sum_map (λ (x : TaskValue). x.before) length 0 tasks) ∙ ap (sum_by length) befores ∙ ap (λ n. sum_by length (map (predecessors places) (range_with_len 0 n))) (sym as_many)
+
+    pub is_graph : IsWithinLimits t a.nodes sizes jobs → IsGraph graph
+    is_graph limits = record {
+      partition = is_partition;
+      linked = is_linked;
+      few_cells = limits.cells;
+      few_tasks = omega (arith, limits.tasks, are.count);
+      few_links = omega (arith, limits.links, links_are);
+    }

@@ -1,0 +1,3 @@
+pub mod GraphLemmas
+pub mod NumberLemmas
+pub mod OnceLemmas
