@@ -1,0 +1,5 @@
+pub mod HitLemmas
+pub mod LawLemmas
+pub mod RisingLemmas
+pub mod TableLemmas
+pub mod TurnLemmas

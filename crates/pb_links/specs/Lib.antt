@@ -1,0 +1,4 @@
+pub mod Links
+pub mod Owners
+pub mod Spots
+pub mod Turned
