@@ -4,7 +4,6 @@ use Rattle.std.proofs.lemmas.Int.{ints}
 use Rattle.std.specs.Prelude.{is_some, slice_get}
 use Rattle.std.specs.List.{All, flat_map}
 use Rattle.std.specs.Option.{option_map_or}
-use Rattle.std.proofs.lemmas.List.Elements.{All-cons, All-nil}
 use Rattle.std.proofs.lemmas.Option.{slice_get-get_or}
 use Rattle.pb_linear.specs.Numbers.{exact_value}
 use Rattle.pb_values.specs.declared.outcome.Outcome.{Outcome}
@@ -13,7 +12,7 @@ use Rattle.pb_program.specs.declared.rule.RuleKind.TheVariants as kind
 use Rattle.pb_program.specs.declared.view.Read.{Read}
 use Rattle.pb_program.specs.declared.view.ReadView.{ReadView}
 use Rattle.pb_program.specs.declared.view.ReadView.TheVariants as view
-use Rattle.pb_program.specs.Areas.{Area, area_by, area_of, from_start}
+use Rattle.pb_program.specs.Areas.{area_by, area_of, from_start}
 use Rattle.pb_program.specs.Forms.{DeclValue}
 use Rattle.pb_program.specs.Trees.{ProgRule, ProgTransform}
 use Rattle.pb_program.specs.WellFormed.{IsRule, IsTransform, IsWellFormed}

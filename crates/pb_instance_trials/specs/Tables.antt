@@ -1,5 +1,5 @@
 -- A table of outcomes that is read.
-use Rattle.std.specs.Prelude.{ℕ, pos, List, [], Some, slice_get}
+use Rattle.std.specs.Prelude.{pos, List, [], Some, slice_get}
 use Rattle.std.specs.Option.{option_map_or}
 use Rattle.pb_values.specs.Cells.{Turn}
 use Rattle.pb_values.specs.declared.outcome.Outcome.{Outcome}

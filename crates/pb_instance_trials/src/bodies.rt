@@ -14,10 +14,10 @@ ghost use Rattle.pb_eval.specs.CanRun.{AreReads, IsRunnable, OfRule, shape_sides
 ghost use Rattle.pb_eval.specs.Running.{outs_of};
 ghost use Rattle.pb_instance_trials.specs.Tables.{told_by};
 
-use crate::programs::{accepted, one, program};
+use crate::programs::{accepted, are_small, one, program};
 use pb_check::Accepted;
 use pb_eval::{Scratch, locals_room, outs_room, run_body};
-use pb_linear::{SIZE_TOP, Sizes};
+use pb_linear::Sizes;
 use pb_program::{Decl, Prog, Read, ReadView, Rule, RuleKind, Transform};
 use pb_values::{CellReader, Kind, MOST_SIDE, Outcome, Shape, Trap, View};
 use pb_views::shape_of;
@@ -39,12 +39,6 @@ impl CellReader for Table {
             None => Outcome::Value(0),
         }
     }
-}
-
-fn are_small(s: &Sizes) -> bool
-    ensures { IsTrue result → All (λ size. size ≤ SIZE_TOP) s.now.of }
-{
-    s.of.iter().all(|size| *size <= SIZE_TOP)
 }
 
 fn has_sides(view: &View, w: u64, h: u64) -> bool

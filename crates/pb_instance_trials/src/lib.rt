@@ -9,4 +9,6 @@ mod entering;
 #[cfg(test)]
 mod frames;
 #[cfg(test)]
+mod layouts;
+#[cfg(test)]
 mod programs;

@@ -1,13 +1,15 @@
 //! Accepted programs, and their sizes.
-ghost use Rattle.std.specs.Prelude.{◌≡◌, IsTrue};
+ghost use Rattle.std.specs.Prelude.{◌≡◌, ◌≤◌, IsTrue};
+ghost use Rattle.std.specs.List.{All};
+ghost use Rattle.pb_linear.specs.declared.sizes.TheConstants.{SIZE_TOP};
 ghost use Rattle.pb_linear.specs.Sizes.{InRange, leasts_of, sizes_of};
 ghost use Rattle.pb_program.specs.Trees.{bare_prog};
 ghost use Rattle.pb_program.specs.WellFormed.{IsWellFormed};
 ghost use Rattle.pb_check.specs.Ranked.{OfTransform};
 
 use pb_check::{Accepted, accept};
-use pb_linear::{Ranges, Sizes};
-use pb_program::{Prog, Transform};
+use pb_linear::{SIZE_TOP, Sizes};
+use pb_program::Prog;
 use pb_syntax::Refusal;
 use std::alloc::{AllocError, Global};
 
@@ -43,6 +45,12 @@ pub(crate) fn two(n: u64, m: u64) -> Sizes {
         count: 2,
         of: [n, m, 0, 0, 0, 0, 0, 0],
     }
+}
+
+pub(crate) fn are_small(s: &Sizes) -> bool
+    ensures { IsTrue result → All (λ size. size ≤ SIZE_TOP) s.now.of }
+{
+    s.of.iter().all(|size| *size <= SIZE_TOP)
 }
 
 // The program that a text is, which is accepted.
