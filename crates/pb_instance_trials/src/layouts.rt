@@ -1,5 +1,5 @@
 //! Matrices one after the other among the cells of a run.
-ghost use Rattle.std.specs.Prelude.{◌+◌, ◌≤◌, ◌^◌, IsTrue};
+ghost use Rattle.std.specs.Prelude.{◌+◌, ◌≤◌, IsTrue};
 ghost use Rattle.std.specs.List.{All};
 ghost use Rattle.pb_linear.specs.Sizes.{sizes_of};
 ghost use Rattle.pb_linear.specs.declared.sizes.TheConstants.{SIZE_TOP};
@@ -28,12 +28,12 @@ fn is_small(decl: &Decl, s: &Sizes) -> bool
     shape.cells() <= 1_000_000
 }
 
-// Whether these are two small matrices.
+// Whether these are two small matrices, so that they have room in a run.
 #[tactic(auto, using(crate::proofs::LayoutLemmas::short_pair, crate::proofs::LayoutLemmas::few_pair))]
-fn can_be_laid(decls: &[Decl], s: &Sizes) -> bool
+pub(crate) fn can_be_laid(decls: &[Decl], s: &Sizes) -> bool
     requires { All (λ size. size ≤ SIZE_TOP) s.now.of }
     ensures short { IsTrue result → All (HasShortSides (sizes_of s.now)) decls.now }
-    ensures few { IsTrue result → cell_count (sizes_of s.now) decls.now ≤ 2 ^ 32 }
+    ensures few { IsTrue result → cell_count (sizes_of s.now) decls.now ≤ 2000000 }
 {
     let [first, second] = decls else {
         return false;

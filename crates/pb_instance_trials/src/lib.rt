@@ -11,4 +11,6 @@ mod frames;
 #[cfg(test)]
 mod layouts;
 #[cfg(test)]
+mod places;
+#[cfg(test)]
 mod programs;

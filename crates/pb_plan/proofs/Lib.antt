@@ -1,3 +1,4 @@
 pub mod GraphLemmas
+pub mod LaidLemmas
 pub mod NumberLemmas
 pub mod OnceLemmas
