@@ -72,7 +72,7 @@ module _ (sizes : List ℕ) where
   before_next (c ∷ ds) zero d e = omega (arith, ap (area_at sizes) (some_same c d e))
   before_next (c ∷ ds) (suc m) d e = let at : suc m + 1 ≡ suc (m + 1) = omega arith in omega (arith, before_next ds m d e, ap (before (c ∷ ds)) at)
 
-  before_mono : (ds : List DeclValue) (m n : ℕ) → m ≤ n → before ds m ≤ before ds n
+  pub before_mono : (ds : List DeclValue) (m n : ℕ) → m ≤ n → before ds m ≤ before ds n
   before_mono ds zero n h = omega arith
   before_mono [] (suc m) n h = omega arith
   before_mono (d ∷ ds) (suc m) zero h = absurd (omega (arith, h))
