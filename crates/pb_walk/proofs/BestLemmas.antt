@@ -10,9 +10,9 @@ use Rattle.std.proofs.lemmas.Option.{get_or_from_slice_get, slice_get-get_or}
 use Rattle.pb_linear.specs.declared.boxes.Step.{Step}
 use Rattle.pb_walk.specs.declared.course.Course.{Course}
 use Rattle.pb_walk.specs.declared.cursor.Cursor.{Cursor}
-use Rattle.pb_walk.specs.declared.spot.Spot.{Spot}
+use Rattle.pb_walk.specs.declared.stop.Stop.{Stop}
 use Rattle.pb_walk.specs.Cursors.{IsBest, IsFirstOf, head, steps_of}
-use Rattle.pb_walk.specs.Orders.{by_list, compare}
+use Rattle.pb_walk.specs.Orders.{by_place, compare}
 use Rattle.pb_walk.proofs.OrderLemmas.{compare_total}
 
 -- ---- a total order
@@ -52,10 +52,10 @@ below_or_same j k h = by (j == k) refl
 same_item : (cs : List Cursor) (j k : ℕ) (c x : Cursor) → j ≡ k → slice_get cs j ≡ Some c → slice_get cs k ≡ Some x → c ≡ x
 same_item cs j k c x e f g = let both : Some c ≡ Some x = sym f ∙ ap (slice_get cs) e ∙ g in cc
 
-list_anywhere : (steps : List Step) (j k : ℕ) (x y : Cursor) → by_list steps (head 0 x) (head 0 y) ≡ by_list steps (head j x) (head k y)
-list_anywhere [] j k x y = refl
-list_anywhere (s ∷ []) j k x y = refl
-list_anywhere (s ∷ t ∷ _) j k x y = refl
+place_anywhere : (steps : List Step) (j k : ℕ) (x y : Cursor) → by_place steps (head 0 x) (head 0 y) ≡ by_place steps (head j x) (head k y)
+place_anywhere [] j k x y = refl
+place_anywhere (s ∷ []) j k x y = refl
+place_anywhere (s ∷ t ∷ _) j k x y = refl
 
 pub item_at : (cs : List Cursor) (k : ℕ) (x : Cursor) → k < length cs → x ≡ get_or cs k x → slice_get cs k ≡ Some x
 item_at cs k x h e = rw (slice_get-get_or cs k x h, ← e) refl
@@ -80,7 +80,7 @@ module _ (course : Course) (cs : List Cursor) (k : ℕ) (x : Cursor) (there : sl
       | inl same ↦
           let item : c ≡ x = same_item cs j k c x same at there in
           let same_head : head j c ≡ head k x = λ i. head (same i) (item i) in
-          ap (λ (s : Spot). is_lt (compare (steps_of course) s (head b f.cursor))) same_head ∙ g (sym (ap (λ (y : Cursor). y.done) item) ∙ left)
+          ap (λ (s : Stop). is_lt (compare (steps_of course) s (head b f.cursor))) same_head ∙ g (sym (ap (λ (y : Cursor). y.done) item) ∙ left)
       | inr less ↦ f.first j c less at left
     ];
   }
@@ -95,7 +95,7 @@ module _ (course : Course) (cs : List Cursor) (k : ℕ) (x : Cursor) (there : sl
       | inl same ↦
           let item : c ≡ x = same_item cs j k c x same at there in
           let same_head : head j c ≡ head k x = λ i. head (same i) (item i) in
-          ap (λ (s : Spot). is_lt (compare (steps_of course) s (head k x))) same_head ∙ not_itself (compare_total (steps_of course)) (head k x)
+          ap (λ (s : Stop). is_lt (compare (steps_of course) s (head k x))) same_head ∙ not_itself (compare_total (steps_of course)) (head k x)
       | inr less ↦ before j c less at open_
     ];
   }
@@ -103,32 +103,32 @@ module _ (course : Course) (cs : List Cursor) (k : ℕ) (x : Cursor) (there : sl
   pub none_taken : IsBest course cs k None → x.done ≡ false → IsFirstOf course cs (k + 1) k
   none_taken none left = one_taken left (λ j c h at open_. absurd (differ c open_ (none j c h at)))
 
-  later_piece : (o : Ordering) (r : Ordering) → r ≡ Greater → (o ≡ Less → ⊥) → (z : Ordering) → is_lt (ordering_then o (ordering_then r z)) ≡ false
-  later_piece Less r e n z = absurd (n refl)
-  later_piece Equal r e n z = rw e refl
-  later_piece Greater r e n z = refl
+  later_piece : (o r : Ordering) → r ≡ Greater → (o ≡ Less → ⊥) → is_lt (ordering_then o r) ≡ false
+  later_piece Less r e n = absurd (n refl)
+  later_piece Equal r e n = ap is_lt e
+  later_piece Greater r e n = refl
 
   -- the piece that was found stays where the new one's next place doesn't stand before its
-  pub best_kept : (b : ℕ) (f : IsFirstOf course cs k b) → (by_list (steps_of course) (head k x) (head b f.cursor) ≡ Less → ⊥) → IsFirstOf course cs (k + 1) b
+  pub best_kept : (b : ℕ) (f : IsFirstOf course cs k b) → (by_place (steps_of course) (head k x) (head b f.cursor) ≡ Less → ⊥) → IsFirstOf course cs (k + 1) b
   best_kept b f n =
       let after : nat_cmp k b ≡ Greater = sym (nat_cmp_is k b Greater f.below) in
-      one_kept b f (λ left. later_piece (by_list (steps_of course) (head k x) (head b f.cursor)) (nat_cmp k b) after n (ordering_then (nat_cmp x.y f.cursor.y) (nat_cmp x.x f.cursor.x)))
+      one_kept b f (λ left. later_piece (by_place (steps_of course) (head k x) (head b f.cursor)) (nat_cmp k b) after n)
 
-  pub best_moved : (b : ℕ) (f : IsFirstOf course cs k b) → x.done ≡ false → by_list (steps_of course) (head k x) (head b f.cursor) ≡ Less → IsFirstOf course cs (k + 1) k
+  pub best_moved : (b : ℕ) (f : IsFirstOf course cs k b) → x.done ≡ false → by_place (steps_of course) (head k x) (head b f.cursor) ≡ Less → IsFirstOf course cs (k + 1) k
   best_moved b f left l =
-      let less : compare (steps_of course) (head k x) (head b f.cursor) ≡ Less = rw l refl in
+      let less : compare (steps_of course) (head k x) (head b f.cursor) ≡ Less = ap (λ (o : Ordering). ordering_then o (nat_cmp k b)) l in
       one_taken left (λ j c h at open_. not_before (compare_total (steps_of course)) (head j c) (head b f.cursor) (head k x) less (f.first j c h at open_))
 
   pub best_done : (found : Option ℕ) → IsBest course cs k found → x.done ≡ true → IsBest course cs (k + 1) found
   best_done None none done = none_more none done
   best_done (Some b) f done = one_kept b f (λ left. absurd (differ x left done))
 
-  pub best_kept_by : (b : ℕ) (f : IsFirstOf course cs k b) (y : Cursor) → y ≡ get_or cs b y → (by_list (steps_of course) (head 0 x) (head 0 y) ≡ Less → ⊥) → IsFirstOf course cs (k + 1) b
+  pub best_kept_by : (b : ℕ) (f : IsFirstOf course cs k b) (y : Cursor) → y ≡ get_or cs b y → (by_place (steps_of course) (head 0 x) (head 0 y) ≡ Less → ⊥) → IsFirstOf course cs (k + 1) b
   best_kept_by b f y at n =
       let same : y ≡ f.cursor = at ∙ get_or_from_slice_get cs b f.cursor y f.there in
-      best_kept b f (λ e. n (ap (λ (c : Cursor). by_list (steps_of course) (head 0 x) (head 0 c)) same ∙ list_anywhere (steps_of course) k b x f.cursor ∙ e))
+      best_kept b f (λ e. n (ap (λ (c : Cursor). by_place (steps_of course) (head 0 x) (head 0 c)) same ∙ place_anywhere (steps_of course) k b x f.cursor ∙ e))
 
-  pub best_moved_by : (b : ℕ) (f : IsFirstOf course cs k b) (y : Cursor) → y ≡ get_or cs b y → x.done ≡ false → by_list (steps_of course) (head 0 x) (head 0 y) ≡ Less → IsFirstOf course cs (k + 1) k
+  pub best_moved_by : (b : ℕ) (f : IsFirstOf course cs k b) (y : Cursor) → y ≡ get_or cs b y → x.done ≡ false → by_place (steps_of course) (head 0 x) (head 0 y) ≡ Less → IsFirstOf course cs (k + 1) k
   best_moved_by b f y at left l =
       let same : y ≡ f.cursor = at ∙ get_or_from_slice_get cs b f.cursor y f.there in
-      best_moved b f left (sym (list_anywhere (steps_of course) k b x f.cursor) ∙ ap (λ (c : Cursor). by_list (steps_of course) (head 0 x) (head 0 c)) (sym same) ∙ l)
+      best_moved b f left (sym (place_anywhere (steps_of course) k b x f.cursor) ∙ ap (λ (c : Cursor). by_place (steps_of course) (head 0 x) (head 0 c)) (sym same) ∙ l)

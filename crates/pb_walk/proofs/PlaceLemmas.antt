@@ -1,16 +1,12 @@
 -- The places of pieces, as a list.
-use Rattle.std.proofs.Common.{◌≡◌, refl, ap, subst, inl, inr, ℕ, zero, suc, ◌+◌, ◌-◌, ◌<◌, ◌≤◌, ◌⊎◌, ◌==◌, Bool, true, false, eqb-true, List, [], ◌∷◌, slice_get, Option, Some, None, arith}
+use Rattle.std.proofs.Common.{◌≡◌, refl, sym, ap, subst, inl, inr, ℕ, zero, suc, ◌+◌, ◌-◌, ◌<◌, ◌≤◌, ◌⊎◌, ◌==◌, Bool, true, false, eqb-true, List, [], ◌∷◌, slice_get, Option, Some, None, arith}
 use Rattle.std.specs.Prelude.{IsSomeAnd}
 use Rattle.std.proofs.lemmas.Bool.{eqb-false}
 use Rattle.std.specs.List.{Contains, enumerate_from, range_with_len}
 use Rattle.pb_base.proofs.ListLemmas.{flat_in, in_cases, in_flat, in_head, in_map, in_none, in_tail, map_in}
-use Rattle.pb_values.specs.declared.rect.Rect.{Rect}
-use Rattle.pb_values.specs.Views.{HasPlace}
-use Rattle.pb_walk.specs.declared.spot.Spot.{Spot}
-use Rattle.pb_walk.specs.Walks.{IsPlace, places, places_of, row_of}
-
-abbrev spot : ℕ → ℕ → ℕ → Spot
-spot piece x y = record { piece = piece; x = x; y = y }
+use Rattle.pb_links.specs.declared.places.Spot.{Spot}
+use Rattle.pb_walk.specs.declared.stop.Stop.{Stop}
+use Rattle.pb_walk.specs.Walks.{IsIn, IsPlace, places, places_of, row_of, stop}
 
 first_or_later : (low k : ℕ) → low ≤ k → (low ≡ k) ⊎ (low + 1 ≤ k)
 first_or_later low k l = by (low == k) refl
@@ -33,14 +29,14 @@ in_span low (suc n) k l h = elim (first_or_later low k l) [
   | inr later ↦ in_tail low k (range_with_len (low + 1) n) (in_span (low + 1) n k later (omega arith))
 ]
 
-enumerated : (n : ℕ) (xs : List Rect) (e : ℕ × Rect) → Contains (enumerate_from n xs) e → (k : ℕ) × (e.0 ≡ n + k) × (slice_get xs k ≡ Some e.1)
+enumerated : (n : ℕ) (xs : List Spot) (e : ℕ × Spot) → Contains (enumerate_from n xs) e → (k : ℕ) × (e.0 ≡ n + k) × (slice_get xs k ≡ Some e.1)
 enumerated n [] e h = absurd (in_none e h)
 enumerated n (x ∷ xs) e h = elim (in_cases (n, x) e (enumerate_from (n + 1) xs) h) [
-  | inl same ↦ (0, omega (arith, ap (λ (p : ℕ × Rect). p.0) same), ap (λ (p : ℕ × Rect). Some p.1) same)
+  | inl same ↦ (0, omega (arith, ap (λ (p : ℕ × Spot). p.0) same), ap (λ (p : ℕ × Spot). Some p.1) same)
   | inr later ↦ let rest = enumerated (n + 1) xs e later in (suc rest.0, omega (arith, rest.1), rest.2)
 ]
 
-in_enumerated : (n k : ℕ) (xs : List Rect) (r : Rect) → slice_get xs k ≡ Some r → Contains (enumerate_from n xs) (n + k, r)
+in_enumerated : (n k : ℕ) (xs : List Spot) (r : Spot) → slice_get xs k ≡ Some r → Contains (enumerate_from n xs) (n + k, r)
 in_enumerated n k [] r e = let none : None ≡ Some r = e in absurd (cc)
 in_enumerated n zero (x ∷ xs) r e =
     let some : Some x ≡ Some r = e in
@@ -52,31 +48,37 @@ in_enumerated n (suc k) (x ∷ xs) r e =
     let there : (n + 1) + k ≡ n + suc k = omega arith in
     in_tail (n, x) (n + suc k, r) (enumerate_from (n + 1) xs) (subst (λ (i : ℕ). Contains (enumerate_from (n + 1) xs) (i, r)) there (in_enumerated (n + 1) k xs r e))
 
-pub place_in : (pieces : List Rect) (s : Spot) → Contains (places pieces) s → IsPlace pieces s
+pub place_in : (pieces : List Spot) (s : Stop) → Contains (places pieces) s → IsPlace pieces s
 place_in pieces s h =
     let piece = flat_in places_of (enumerate_from 0 pieces) s h in
-    let r = piece.0.1 in
-    let row = flat_in (row_of piece.0.0 r) (range_with_len r.y0 (r.y1 - r.y0)) s piece.2 in
-    let column = map_in (λ (x : ℕ). spot piece.0.0 x row.0) (range_with_len r.x0 (r.x1 - r.x0)) s row.2 in
+    let p = piece.0.1 in
+    let r = p.rect in
+    let row = flat_in (row_of piece.0.0 p) (range_with_len r.y0 (r.y1 - r.y0)) s piece.2 in
+    let column = map_in (λ (x : ℕ). stop piece.0.0 p.base x row.0) (range_with_len r.x0 (r.x1 - r.x0)) s row.2 in
     let number = enumerated 0 pieces piece.0 piece.1 in
     let ys = span_in r.y0 (r.y1 - r.y0) row.0 row.1 in
     let xs = span_in r.x0 (r.x1 - r.x0) column.0 column.1 in
     let same : piece.0.0 ≡ number.0 = omega (arith, number.1) in
-    let there : slice_get pieces piece.0.0 ≡ Some r = rw same number.2 in
-    let inside : IsPlace pieces (spot piece.0.0 column.0 row.0) = rw there (record { left = xs.0; right = omega arith; low = ys.0; high = omega arith }) in
+    let there : slice_get pieces piece.0.0 ≡ Some p = rw same number.2 in
+    let inside : IsPlace pieces (stop piece.0.0 p.base column.0 row.0) = rw there (refl, record { left = xs.0; right = omega arith; low = ys.0; high = omega arith }) in
     subst (IsPlace pieces) column.2 inside
 
-there_from : (o : Option Rect) (P : Rect → Type 0) → IsSomeAnd o P → (r : Rect) × (o ≡ Some r) × P r
+there_from : (o : Option Spot) (P : Spot → Type 0) → IsSomeAnd o P → (r : Spot) × (o ≡ Some r) × P r
 there_from None P h = absurd h
 there_from (Some r) P h = (r, refl, h)
 
-pub in_place : (pieces : List Rect) (s : Spot) → IsPlace pieces s → Contains (places pieces) s
+of_base : (piece base x y : ℕ) (b : ℕ) → b ≡ base → stop piece base x y ≡ stop piece b x y
+of_base piece base x y b e = λ i. stop piece (sym e i) x y
+
+pub in_place : (pieces : List Spot) (s : Stop) → IsPlace pieces s → Contains (places pieces) s
 in_place pieces s h =
-    let piece = there_from (slice_get pieces s.piece) (λ (r : Rect). HasPlace r s.x s.y) h in
-    let r = piece.0 in
-    let p = piece.2 in
-    let column = in_map (λ (x : ℕ). spot s.piece x s.y) (range_with_len r.x0 (r.x1 - r.x0)) s.x (in_span r.x0 (r.x1 - r.x0) s.x p.left (omega (arith, p.right))) in
-    let row = in_flat (row_of s.piece r) (range_with_len r.y0 (r.y1 - r.y0)) s.y s (in_span r.y0 (r.y1 - r.y0) s.y p.low (omega (arith, p.high))) column in
+    let piece = there_from (slice_get pieces s.piece) (λ (r : Spot). IsIn r s) h in
+    let p = piece.0 in
+    let r = p.rect in
+    let at = piece.2.1 in
+    let mapped = in_map (λ (x : ℕ). stop s.piece p.base x s.y) (range_with_len r.x0 (r.x1 - r.x0)) s.x (in_span r.x0 (r.x1 - r.x0) s.x at.left (omega (arith, at.right))) in
+    let column = subst (Contains (row_of s.piece p s.y)) (of_base s.piece p.base s.x s.y s.base piece.2.0) mapped in
+    let row = in_flat (row_of s.piece p) (range_with_len r.y0 (r.y1 - r.y0)) s.y s (in_span r.y0 (r.y1 - r.y0) s.y at.low (omega (arith, at.high))) column in
     let same : 0 + s.piece ≡ s.piece = omega arith in
-    let there : Contains (enumerate_from 0 pieces) (s.piece, r) = subst (λ (k : ℕ). Contains (enumerate_from 0 pieces) (k, r)) same (in_enumerated 0 s.piece pieces r piece.1) in
-    in_flat places_of (enumerate_from 0 pieces) (s.piece, r) s there row
+    let there : Contains (enumerate_from 0 pieces) (s.piece, p) = subst (λ (k : ℕ). Contains (enumerate_from 0 pieces) (k, p)) same (in_enumerated 0 s.piece pieces p piece.1) in
+    in_flat places_of (enumerate_from 0 pieces) (s.piece, p) s there row

@@ -2,14 +2,14 @@
 use Rattle.std.specs.Prelude.{◌≡◌, ℕ, ◌<◌, Bool, true, false, not, ◌||◌, List, [], ◌∷◌, map, filter, Option, Some, None, slice_get}
 use Rattle.std.specs.Ordering.{is_le, is_lt}
 use Rattle.pb_linear.specs.declared.boxes.Step.{Step}
-use Rattle.pb_values.specs.declared.rect.Rect.{Rect}
+use Rattle.pb_links.specs.declared.places.Spot.{Spot}
 use Rattle.pb_values.specs.Views.{HasPlace}
 use Rattle.pb_walk.specs.declared.course.Course.{Course}
 use Rattle.pb_walk.specs.declared.course.Course.TheVariants.{Any, One, Two}
 use Rattle.pb_walk.specs.declared.cursor.Cursor.{Cursor}
-use Rattle.pb_walk.specs.declared.spot.Spot.{Spot}
+use Rattle.pb_walk.specs.declared.stop.Stop.{Stop}
 use Rattle.pb_walk.specs.Orders.{compare}
-use Rattle.pb_walk.specs.Walks.{walk_of}
+use Rattle.pb_walk.specs.Walks.{stop, walk_of}
 
 -- the steps that a course stands for
 abbrev pub steps_of : Course → List Step
@@ -18,43 +18,39 @@ steps_of (One s) = s ∷ []
 steps_of (Two s t) = s ∷ t ∷ []
 
 -- the next place of a piece
-abbrev pub head : ℕ → Cursor → Spot
-head piece c = record { piece = piece; x = c.x; y = c.y }
+abbrev pub head : ℕ → Cursor → Stop
+head piece c = stop piece c.spot.base c.x c.y
 
 -- a piece has been gone through past a place of its own
-abbrev pub has_passed : List Step → Cursor → Spot → Bool
+abbrev pub has_passed : List Step → Cursor → Stop → Bool
 has_passed steps c s = c.done || is_lt (compare steps s (head s.piece c))
 
 -- a place is still to come: of a piece that may not be there, and of one of these
-abbrev pub is_ahead_of : List Step → Option Cursor → Spot → Bool
+abbrev pub is_ahead_of : List Step → Option Cursor → Stop → Bool
 is_ahead_of steps None s = false
 is_ahead_of steps (Some c) s = not (has_passed steps c s)
 
-abbrev pub is_ahead : List Step → List Cursor → Spot → Bool
+abbrev pub is_ahead : List Step → List Cursor → Stop → Bool
 is_ahead steps cursors s = is_ahead_of steps (slice_get cursors s.piece) s
 
 -- the whole walk, and what is left of it
-abbrev pub rects : List Cursor → List Rect
-rects cursors = map (λ c. c.rect) cursors
+abbrev pub spots : List Cursor → List Spot
+spots cursors = map (λ c. c.spot) cursors
 
-abbrev pub whole : Course → List Cursor → List Spot
-whole course cursors = walk_of (steps_of course) (rects cursors)
+abbrev pub whole : Course → List Cursor → List Stop
+whole course cursors = walk_of (steps_of course) (spots cursors)
 
-unfoldable pub left_of : Course → List Cursor → List Spot
+unfoldable pub left_of : Course → List Cursor → List Stop
 left_of course cursors = filter (is_ahead (steps_of course) cursors) (whole course cursors)
-
--- a place of a piece
-abbrev pub spot : ℕ → ℕ → ℕ → Spot
-spot piece x y = record { piece = piece; x = x; y = y }
 
 -- a cursor stands where a piece begins
 abbrev pub IsBegun : List Step → Cursor → Type 0
-IsBegun steps c = (piece x y : ℕ) → HasPlace c.rect x y → has_passed steps c (spot piece x y) ≡ false
+IsBegun steps c = (piece x y : ℕ) → HasPlace c.spot.rect x y → has_passed steps c (stop piece c.spot.base x y) ≡ false
 
 -- a cursor has passed just what the other has, and the other's next place
 pub record IsMoved (steps : List Step) (old new : Cursor) : Type 0 where
-  pub rect : new.rect ≡ old.rect
-  pub passed : (piece x y : ℕ) → HasPlace old.rect x y → has_passed steps new (spot piece x y) ≡ is_le (compare steps (spot piece x y) (head piece old))
+  pub spot : new.spot ≡ old.spot
+  pub passed : (piece x y : ℕ) → HasPlace old.spot.rect x y → has_passed steps new (stop piece old.spot.base x y) ≡ is_le (compare steps (stop piece old.spot.base x y) (head piece old))
 
 -- of the first pieces, the next place of this one stands before those of the others that aren't done
 pub record IsFirstOf (course : Course) (cursors : List Cursor) (n k : ℕ) : Type 0 where

@@ -1,26 +1,33 @@
 -- The places of some pieces, in the order of a list of steps.
-use Rattle.std.specs.Prelude.{ℕ, ◌-◌, ◌↔◌, List, [], ◌∷◌, map, slice_get, IsSomeAnd}
+use Rattle.std.specs.Prelude.{◌≡◌, ℕ, ◌-◌, ◌↔◌, List, [], ◌∷◌, map, slice_get, IsSomeAnd}
 use Rattle.std.specs.BTreeSet.{insert_key}
 use Rattle.std.specs.List.{AllPairs, Contains, enumerate_from, flat_map, range_with_len}
 use Rattle.std.specs.declared.cmp.Ordering.{Ordering}
 use Rattle.pb_linear.specs.declared.boxes.Step.{Step}
-use Rattle.pb_values.specs.declared.rect.Rect.{Rect}
+use Rattle.pb_links.specs.declared.places.Spot.{Spot}
 use Rattle.pb_values.specs.Views.{HasPlace}
-use Rattle.pb_walk.specs.declared.spot.Spot.{Spot}
+use Rattle.pb_walk.specs.declared.stop.Stop.{Stop}
 use Rattle.pb_walk.specs.Orders.{StandsBefore, compare}
 
+-- a place of a matrix that a piece has
+abbrev pub IsIn : Spot → Stop → Type 0
+IsIn p s = (s.base ≡ p.base) × HasPlace p.rect s.x s.y
+
 -- a place of one of the pieces
-abbrev pub IsPlace : List Rect → Spot → Type 0
-IsPlace pieces s = IsSomeAnd (slice_get pieces s.piece) (λ r. HasPlace r s.x s.y)
+abbrev pub IsPlace : List Spot → Stop → Type 0
+IsPlace pieces s = IsSomeAnd (slice_get pieces s.piece) (λ p. IsIn p s)
 
 -- the places of a piece with this number
-abbrev pub row_of : ℕ → Rect → ℕ → List Spot
-row_of piece r y = map (λ x. record { piece = piece; x = x; y = y }) (range_with_len r.x0 (r.x1 - r.x0))
+abbrev pub stop : ℕ → ℕ → ℕ → ℕ → Stop
+stop piece base x y = record { piece = piece; base = base; x = x; y = y }
 
-abbrev pub places_of : ℕ × Rect → List Spot
-places_of e = flat_map (row_of e.0 e.1) (range_with_len e.1.y0 (e.1.y1 - e.1.y0))
+abbrev pub row_of : ℕ → Spot → ℕ → List Stop
+row_of piece p y = map (λ x. stop piece p.base x y) (range_with_len p.rect.x0 (p.rect.x1 - p.rect.x0))
 
-abbrev pub places : List Rect → List Spot
+abbrev pub places_of : ℕ × Spot → List Stop
+places_of e = flat_map (row_of e.0 e.1) (range_with_len e.1.rect.y0 (e.1.rect.y1 - e.1.rect.y0))
+
+abbrev pub places : List Spot → List Stop
 places pieces = flat_map places_of (enumerate_from 0 pieces)
 
 -- the elements of a list in order, each once
@@ -28,16 +35,17 @@ abbrev pub sorted : {A : Type 0} → (A → A → Ordering) → List A → List 
 sorted cmp [] = []
 sorted cmp (x ∷ xs) = insert_key cmp (sorted cmp xs) x
 
--- the places of all pieces in the order of the list
-unfoldable pub walk_of : List Step → List Rect → List Spot
+-- the places of all pieces in the order of the list; with no step, by the numbers of their cells
+unfoldable pub walk_of : List Step → List Spot → List Stop
 walk_of steps pieces = sorted (compare steps) (places pieces)
 
 -- in words: just the places of the pieces, each before those that come later in the order of the list
-pub record IsWalk (steps : List Step) (pieces : List Rect) (walk : List Spot) : Type 0 where
-  pub places : (s : Spot) → Contains walk s ↔ IsPlace pieces s
+pub record IsWalk (steps : List Step) (pieces : List Spot) (walk : List Stop) : Type 0 where
+  pub places : (s : Stop) → Contains walk s ↔ IsPlace pieces s
   pub rises : (layer : ℕ) → AllPairs (StandsBefore layer steps) walk
 
--- a walk: all its places, and those that are left
+-- a walk: all its places, those that are left, and for how many pieces it has room
 pub record WalkValue : Type 0 where
-  pub all : List Spot
-  pub left : List Spot
+  pub all : List Stop
+  pub left : List Stop
+  pub room : ℕ

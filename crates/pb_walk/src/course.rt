@@ -1,9 +1,9 @@
 ghost use Rattle.std.specs.Prelude.{◌≡◌, ℕ, List};
-ghost use Rattle.pb_values.specs.declared.rect.Rect.{Rect};
-ghost use Rattle.pb_walk.specs.Cursors.{head, spot, steps_of};
-ghost use Rattle.pb_walk.specs.Orders.{by_list, by_step, compare, number_on};
+ghost use Rattle.pb_links.specs.declared.places.Spot.{Spot};
+ghost use Rattle.pb_walk.specs.Cursors.{head, steps_of};
+ghost use Rattle.pb_walk.specs.Orders.{by_cell, by_place, by_step, compare, number_on};
 ghost use Rattle.pb_walk.specs.Sweeps.{by_sweep, sign_across};
-ghost use Rattle.pb_walk.specs.Walks.{walk_of};
+ghost use Rattle.pb_walk.specs.Walks.{stop, walk_of};
 
 use crate::cursor::Cursor;
 use pb_linear::{Sign, Step};
@@ -41,6 +41,14 @@ fn by_step(step: Step, a: &Cursor, b: &Cursor) -> Ordering
     }
 }
 
+/// By the number of the matrix, and in a matrix row by row.
+fn by_cell(a: &Cursor, b: &Cursor) -> Ordering
+    ensures { result ≡ by_cell (head 0 a.now) (head 0 b.now) }
+{
+    let matrices = a.spot.base.cmp(&b.spot.base);
+    matrices.then(a.y.cmp(&b.y).then(a.x.cmp(&b.x)))
+}
+
 /// The direction on the other axis than that of the first step.
 fn sign_across(first: Step, second: Step) -> Sign
     ensures { result ≡ sign_across first second }
@@ -54,7 +62,7 @@ fn sign_across(first: Step, second: Step) -> Sign
 impl Course {
     /// The course of a list of steps.
     pub(crate) fn of(steps: &[Step]) -> Course
-        ensures { (pieces : List Rect) → walk_of (steps_of result) pieces ≡ walk_of steps.now pieces }
+        ensures { (pieces : List Spot) → walk_of (steps_of result) pieces ≡ walk_of steps.now pieces }
     {
         match steps {
             [] => Course::Any,
@@ -63,19 +71,20 @@ impl Course {
         }
     }
 
-    /// How the next places of two rectangles stand in the order of the steps.
+    /// How the next places of two rectangles stand in the order of the steps, and where they are equal in it, by their cells.
     pub(crate) fn compare(self, a: &Cursor, b: &Cursor) -> Ordering
-        ensures { result ≡ by_list (steps_of self) (head 0 a.now) (head 0 b.now) }
+        ensures { result ≡ by_place (steps_of self) (head 0 a.now) (head 0 b.now) }
     {
-        match self {
+        let listed = match self {
             Course::Any => Ordering::Equal,
             Course::One(step) => by_step(step, a, b),
             Course::Two(first, second) => by_step(first, a, b).then(by_step(second, a, b)),
-        }
+        };
+        listed.then(by_cell(a, b))
     }
 
     pub(crate) fn sweep(self) -> Sweep
-        ensures { (piece x y a b : ℕ) → compare (steps_of self) (spot piece x y) (spot piece a b) ≡ by_sweep result x y a b }
+        ensures { (piece base x y a b : ℕ) → compare (steps_of self) (stop piece base x y) (stop piece base a b) ≡ by_sweep result x y a b }
     {
         match self {
             Course::Any => Sweep {

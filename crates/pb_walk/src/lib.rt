@@ -1,7 +1,8 @@
 //! The places of a task in its own order.
 //!
-//! In: a list of steps, and the rectangles of the task's parts. Out: their places, one after another, in the order of the list. The
-//! theorem: a `Walk` gives the places of the definition, and the laws say what these are.
+//! In: a list of steps, and the rectangles of the task's parts. Out: their places, one after another, in the order of the list, and
+//! where they are equal in it by the numbers of their cells. The theorem: a `Walk` gives the places of the definition, and the laws
+//! say what these are.
 #![tactic(auto)]
 
 mod course;
@@ -9,9 +10,9 @@ mod cursor;
 mod laws;
 mod numbers;
 mod places;
-mod spot;
+mod stop;
 mod walk;
 
 pub use laws::{a_walk_rises, each_place_is_walked_once, there_is_one_walk};
-pub use spot::Spot;
+pub use stop::Stop;
 pub use walk::Walk;

@@ -6,6 +6,7 @@ ghost use Rattle.pb_walk.specs.Sweeps.{IsFirstPlace, IsLastPlace, IsNextPlace};
 use crate::course::{Course, Sweep};
 use crate::cursor::Cursor;
 use crate::numbers::{Span, first_number, next_pair};
+use pb_links::Spot;
 use pb_values::Rect;
 
 fn next_place(sweep: Sweep, rect: Rect, x: u64, y: u64) -> Option<(u64, u64)>
@@ -58,13 +59,14 @@ fn first_place(sweep: Sweep, rect: Rect) -> (u64, u64)
 
 impl Cursor {
     /// A rectangle before its first place.
-    pub(crate) fn begin(course: Course, rect: Rect) -> Cursor
-        ensures rect { result.rect ≡ rect }
+    pub(crate) fn begin(course: Course, spot: Spot) -> Cursor
+        ensures spot { result.spot ≡ spot }
         ensures begun { IsBegun (steps_of course) result }
     {
+        let rect = spot.rect;
         if rect.x0 >= rect.x1 || rect.y0 >= rect.y1 {
             return Cursor {
-                rect,
+                spot,
                 x: 0,
                 y: 0,
                 done: true,
@@ -72,7 +74,7 @@ impl Cursor {
         }
         let (x, y) = first_place(course.sweep(), rect);
         Cursor {
-            rect,
+            spot,
             x,
             y,
             done: false,
@@ -84,15 +86,15 @@ impl Cursor {
         requires { self.done ≡ false }
         ensures { IsMoved (steps_of course) self result }
     {
-        match next_place(course.sweep(), self.rect, self.x, self.y) {
+        match next_place(course.sweep(), self.spot.rect, self.x, self.y) {
             Some((x, y)) => Cursor {
-                rect: self.rect,
+                spot: self.spot,
                 x,
                 y,
                 done: false,
             },
             None => Cursor {
-                rect: self.rect,
+                spot: self.spot,
                 x: self.x,
                 y: self.y,
                 done: true,
