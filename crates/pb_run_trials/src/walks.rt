@@ -1,5 +1,8 @@
 //! Walks of rectangles.
+ghost use Rattle.std.specs.Prelude.{◌≡◌, ◌≤◌, ◌^◌, length};
+
 use pb_linear::{Sign, Step};
+use pb_links::Spot;
 use pb_values::Rect;
 use pb_walk::Walk;
 use std::alloc::{AllocError, Global};
@@ -25,18 +28,30 @@ const UP: Step = Step {
     sign: Sign::Minus,
 };
 
-fn rect(x0: u64, x1: u64, y0: u64, y1: u64) -> Rect {
-    Rect { x0, y0, x1, y1 }
+fn spot(base: u32, x0: u64, x1: u64, y0: u64, y1: u64) -> Spot {
+    let rect = Rect { x0, y0, x1, y1 };
+    Spot { base, rect }
 }
 
-// The next places, at most so many, each as its piece, its x and its y; a dot where there is none.
-fn said(alloc: Global, walk: &mut Walk, count: u32) -> Result<String, AllocError> {
+// A walk of these rectangles before its first place.
+fn begun(alloc: Global, steps: &[Step], pieces: &[Spot]) -> Result<Walk, AllocError>
+    requires { length pieces.now ≤ 2 ^ 32 }
+{
+    let mut walk = Walk::with_room(alloc, pieces.len())?;
+    walk.begin(steps, pieces);
+    Ok(walk)
+}
+
+// The next places, at most so many, each as its piece, its matrix, its x and its y; a dot where there is none.
+fn said(alloc: Global, walk: &mut Walk, count: u32) -> Result<String, AllocError>
+    ensures { walk.new.room ≡ walk.old.room }
+{
     let mut text = String::new(alloc);
     for _ in 0..count {
         match walk.next() {
-            Some(spot) => text.push_str(format!(in alloc;
-                "{}{}{} ",
-                spot.piece, spot.x, spot.y
+            Some(stop) => text.push_str(format!(in alloc;
+                "{}{}{}{} ",
+                stop.piece, stop.base, stop.x, stop.y
             )?.as_str())?,
             None => text.push_str(".")?,
         }
@@ -46,58 +61,137 @@ fn said(alloc: Global, walk: &mut Walk, count: u32) -> Result<String, AllocError
 
 // The walk of a rectangle of two columns and two rows, and one of one column beside it.
 fn beside(alloc: Global, steps: &[Step]) -> Result<String, AllocError> {
-    let mut walk = Walk::new(alloc, steps, &[rect(1, 3, 0, 2), rect(3, 4, 0, 2)])?;
+    let mut walk = begun(alloc, steps, &[spot(7, 1, 3, 0, 2), spot(7, 3, 4, 0, 2)])?;
     said(alloc, &mut walk, 7)
 }
 
 // The walk of one rectangle of two columns and two rows.
 fn alone(alloc: Global, steps: &[Step]) -> Result<String, AllocError> {
-    let mut walk = Walk::new(alloc, steps, &[rect(1, 3, 4, 6)])?;
+    let mut walk = begun(alloc, steps, &[spot(7, 1, 3, 4, 6)])?;
     said(alloc, &mut walk, 5)
 }
 
 #[test]
 fn places_of_one_rectangle_go_by_the_list(rt: HostRuntime) -> Result<(), Fail> {
     let alloc = rt.alloc();
-    assert_eq!(rt; alone(alloc, &[RIGHT])?.as_str(), "014 015 024 025 .");
-    assert_eq!(rt; alone(alloc, &[LEFT])?.as_str(), "024 025 014 015 .");
-    assert_eq!(rt; alone(alloc, &[DOWN])?.as_str(), "014 024 015 025 .");
-    assert_eq!(rt; alone(alloc, &[UP])?.as_str(), "015 025 014 024 .");
-    assert_eq!(rt; alone(alloc, &[])?.as_str(), "014 024 015 025 .");
+    assert_eq!(rt; alone(alloc, &[RIGHT])?.as_str(), "0714 0715 0724 0725 .");
+    assert_eq!(rt; alone(alloc, &[LEFT])?.as_str(), "0724 0725 0714 0715 .");
+    assert_eq!(rt; alone(alloc, &[DOWN])?.as_str(), "0714 0724 0715 0725 .");
+    assert_eq!(rt; alone(alloc, &[UP])?.as_str(), "0715 0725 0714 0724 .");
+    assert_eq!(rt; alone(alloc, &[])?.as_str(), "0714 0724 0715 0725 .");
     Ok(())
 }
 
 #[test]
 fn the_second_step_counts_where_the_first_is_equal(rt: HostRuntime) -> Result<(), Fail> {
     let alloc = rt.alloc();
-    assert_eq!(rt; alone(alloc, &[RIGHT, DOWN])?.as_str(), "014 015 024 025 .");
-    assert_eq!(rt; alone(alloc, &[RIGHT, UP])?.as_str(), "015 014 025 024 .");
-    assert_eq!(rt; alone(alloc, &[LEFT, DOWN])?.as_str(), "024 025 014 015 .");
-    assert_eq!(rt; alone(alloc, &[LEFT, UP])?.as_str(), "025 024 015 014 .");
-    assert_eq!(rt; alone(alloc, &[DOWN, RIGHT])?.as_str(), "014 024 015 025 .");
-    assert_eq!(rt; alone(alloc, &[DOWN, LEFT])?.as_str(), "024 014 025 015 .");
-    assert_eq!(rt; alone(alloc, &[UP, RIGHT])?.as_str(), "015 025 014 024 .");
-    assert_eq!(rt; alone(alloc, &[UP, LEFT])?.as_str(), "025 015 024 014 .");
+    assert_eq!(rt;
+        alone(alloc, &[RIGHT, DOWN])?.as_str(),
+        "0714 0715 0724 0725 ."
+    );
+    assert_eq!(rt;
+        alone(alloc, &[RIGHT, UP])?.as_str(),
+        "0715 0714 0725 0724 ."
+    );
+    assert_eq!(rt;
+        alone(alloc, &[LEFT, DOWN])?.as_str(),
+        "0724 0725 0714 0715 ."
+    );
+    assert_eq!(rt;
+        alone(alloc, &[LEFT, UP])?.as_str(),
+        "0725 0724 0715 0714 ."
+    );
+    assert_eq!(rt;
+        alone(alloc, &[DOWN, RIGHT])?.as_str(),
+        "0714 0724 0715 0725 ."
+    );
+    assert_eq!(rt;
+        alone(alloc, &[DOWN, LEFT])?.as_str(),
+        "0724 0714 0725 0715 ."
+    );
+    assert_eq!(rt;
+        alone(alloc, &[UP, RIGHT])?.as_str(),
+        "0715 0725 0714 0724 ."
+    );
+    assert_eq!(rt;
+        alone(alloc, &[UP, LEFT])?.as_str(),
+        "0725 0715 0724 0714 ."
+    );
     Ok(())
 }
 
 #[test]
-fn places_of_two_rectangles_go_by_the_list_and_then_by_their_pieces(
+fn places_of_two_rectangles_go_by_the_list_and_then_row_by_row(
     rt: HostRuntime,
 ) -> Result<(), Fail> {
     let alloc = rt.alloc();
     assert_eq!(rt;
         beside(alloc, &[DOWN])?.as_str(),
-        "010 020 130 011 021 131 ."
+        "0710 0720 1730 0711 0721 1731 ."
     );
-    assert_eq!(rt; beside(alloc, &[UP])?.as_str(), "011 021 131 010 020 130 .");
+    assert_eq!(rt;
+        beside(alloc, &[UP])?.as_str(),
+        "0711 0721 1731 0710 0720 1730 ."
+    );
     assert_eq!(rt;
         beside(alloc, &[LEFT])?.as_str(),
-        "130 131 020 021 010 011 ."
+        "1730 1731 0720 0721 0710 0711 ."
     );
     assert_eq!(rt;
         beside(alloc, &[DOWN, LEFT])?.as_str(),
-        "130 020 010 131 021 011 ."
+        "1730 0720 0710 1731 0721 0711 ."
+    );
+    Ok(())
+}
+
+// The walk of a rectangle of matrix 9, and of two side by side of matrix 8.
+fn of_two_matrices(alloc: Global, steps: &[Step]) -> Result<String, AllocError> {
+    let mut walk = begun(
+        alloc,
+        steps,
+        &[
+            spot(9, 0, 1, 0, 2),
+            spot(8, 2, 3, 0, 2),
+            spot(8, 0, 2, 0, 2),
+        ],
+    )?;
+    said(alloc, &mut walk, 9)
+}
+
+#[test]
+fn with_no_step_places_go_by_the_numbers_of_their_cells(rt: HostRuntime) -> Result<(), Fail> {
+    let alloc = rt.alloc();
+    assert_eq!(rt;
+        of_two_matrices(alloc, &[])?.as_str(),
+        "2800 2810 1820 2801 2811 1821 0900 0901 ."
+    );
+    Ok(())
+}
+
+#[test]
+fn places_of_two_matrices_that_are_equal_in_the_list_go_by_the_matrix(
+    rt: HostRuntime,
+) -> Result<(), Fail> {
+    let alloc = rt.alloc();
+    assert_eq!(rt;
+        of_two_matrices(alloc, &[DOWN])?.as_str(),
+        "2800 2810 1820 0900 2801 2811 1821 0901 ."
+    );
+    assert_eq!(rt;
+        of_two_matrices(alloc, &[LEFT])?.as_str(),
+        "1820 1821 2810 2811 2800 2801 0900 0901 ."
+    );
+    Ok(())
+}
+
+#[test]
+fn a_place_of_two_rectangles_comes_once_for_each(rt: HostRuntime) -> Result<(), Fail> {
+    let alloc = rt.alloc();
+    let pieces = [spot(7, 1, 3, 0, 1), spot(7, 0, 2, 0, 1)];
+    let mut walk = begun(alloc, &[], &pieces)?;
+    assert_eq!(rt;
+        said(alloc, &mut walk, 5)?.as_str(),
+        "1700 0710 1710 0720 ."
     );
     Ok(())
 }
@@ -105,25 +199,28 @@ fn places_of_two_rectangles_go_by_the_list_and_then_by_their_pieces(
 #[test]
 fn rectangles_without_places_are_passed_over(rt: HostRuntime) -> Result<(), Fail> {
     let alloc = rt.alloc();
-    let mut walk = Walk::new(
-        alloc,
-        &[RIGHT],
-        &[rect(2, 2, 0, 9), rect(5, 6, 7, 8), rect(3, 1, 0, 9)],
-    )?;
-    assert_eq!(rt; said(alloc, &mut walk, 2)?.as_str(), "157 .");
-    let mut none = Walk::new(alloc, &[RIGHT], &[])?;
+    let pieces = [
+        spot(7, 2, 2, 0, 9),
+        spot(7, 5, 6, 7, 8),
+        spot(7, 3, 1, 0, 9),
+    ];
+    let mut walk = begun(alloc, &[RIGHT], &pieces)?;
+    assert_eq!(rt; said(alloc, &mut walk, 2)?.as_str(), "1757 .");
+    let mut none = begun(alloc, &[RIGHT], &[])?;
     assert_eq!(rt; said(alloc, &mut none, 2)?.as_str(), "..");
     Ok(())
 }
 
 #[test]
-fn a_walk_can_be_started_again(rt: HostRuntime) -> Result<(), Fail> {
+fn a_walk_can_be_begun_again_with_other_rectangles(rt: HostRuntime) -> Result<(), Fail> {
     let alloc = rt.alloc();
-    let mut walk = Walk::new(alloc, &[DOWN], &[rect(0, 2, 0, 1), rect(2, 3, 0, 1)])?;
-    assert_eq!(rt; said(alloc, &mut walk, 2)?.as_str(), "000 010 ");
-    walk.start();
-    assert_eq!(rt; said(alloc, &mut walk, 4)?.as_str(), "000 010 120 .");
-    walk.start();
-    assert_eq!(rt; said(alloc, &mut walk, 1)?.as_str(), "000 ");
+    let mut walk = Walk::with_room(alloc, 2)?;
+    assert_eq!(rt; said(alloc, &mut walk, 1)?.as_str(), ".");
+    walk.begin(&[DOWN], &[spot(7, 0, 2, 0, 1), spot(7, 2, 3, 0, 1)]);
+    assert_eq!(rt; said(alloc, &mut walk, 2)?.as_str(), "0700 0710 ");
+    walk.begin(&[LEFT], &[spot(8, 0, 2, 0, 1)]);
+    assert_eq!(rt; said(alloc, &mut walk, 3)?.as_str(), "0810 0800 .");
+    walk.begin(&[], &[spot(7, 0, 1, 0, 1), spot(7, 1, 2, 0, 1)]);
+    assert_eq!(rt; said(alloc, &mut walk, 3)?.as_str(), "0700 1710 .");
     Ok(())
 }

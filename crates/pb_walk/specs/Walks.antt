@@ -17,7 +17,7 @@ IsIn p s = (s.base ≡ p.base) × HasPlace p.rect s.x s.y
 abbrev pub IsPlace : List Spot → Stop → Type 0
 IsPlace pieces s = IsSomeAnd (slice_get pieces s.piece) (λ p. IsIn p s)
 
--- the places of a piece with this number
+-- a place of a piece with this number, of this matrix; and all its places, row by row
 abbrev pub stop : ℕ → ℕ → ℕ → ℕ → Stop
 stop piece base x y = record { piece = piece; base = base; x = x; y = y }
 
