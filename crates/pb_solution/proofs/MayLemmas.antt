@@ -32,10 +32,11 @@ use Rattle.pb_check.specs.Orders.{AnalysisValue}
 use Rattle.pb_check.specs.Ranked.{HasRank, IsIn, IsMadeCell, StandsBelow}
 use Rattle.pb_check.proofs.FirstLemmas.{some_same}
 use Rattle.pb_check.proofs.RankedLemmas.{covered_is}
+use Rattle.pb_frame.specs.Choices.{IsInstance}
 use Rattle.pb_frame.specs.Frames.{JobValue, in_layer}
 use Rattle.pb_frame.specs.declared.part.FramePart.{FramePart}
 use Rattle.pb_frame.proofs.PartLemmas.{held_in}
-use Rattle.pb_taskgraph.specs.Graphs.{GraphValue, TaskValue}
+use Rattle.pb_taskgraph.specs.Graphs.{TaskValue, before_of, cells_of}
 use Rattle.pb_taskgraph.specs.Plans.{outcome_at}
 use Rattle.pb_taskgraph.specs.Turns.{MayRead}
 use Rattle.pb_tasks.specs.Made.{IsMadeBefore, IsMadeBy, jobs_for}
@@ -90,7 +91,8 @@ module _ (config : ConfigValue) (plans : Plans) (number : ℕ) (t : ProgTransfor
   abbrev jobs : List JobValue
   jobs = jobs_for config number t a sizes grain
 
-  abbrev i = run.instance
+  abbrev i : IsInstance number t a sizes
+  i = run.instance
 
   abbrev matrices : List Outcomes
   matrices = all_matrices config plans number t sizes ins
@@ -195,7 +197,9 @@ module _ (config : ConfigValue) (plans : Plans) (number : ℕ) (t : ProgTransfor
         (λ (late : k ≤ p.0). absurd (never p.0 p.1 late (below_is (lower (rank_in a.order of_job.part.node (pos c.x) (pos c.y)) (has_rank c s.piece of_job)))))
         (cases_lt p.0 k)
       where
+        rank_c : Rank
         rank_c = rank_of job.layer (steps_by a.order.layers job.layer job.rule) s
+        rank_d : Rank
         rank_d = rank_of job.layer (steps_by a.order.layers job.layer job.rule) (record { piece = l; base = d.matrix; x = d.x; y = d.y })
 
         below_is : StandsBelow t a sizes (rank_in a.order of_job.part.node (pos c.x) (pos c.y)) d → IsBelow rank_d rank_c
@@ -229,12 +233,15 @@ module _ (config : ConfigValue) (plans : Plans) (number : ℕ) (t : ProgTransfor
         inr (by (read_before config number t a sizes grain i run.valid c shown j s.piece of_job r.0 r.1 r.2 made)))
         (cases_lt shown.matrix t.inputs)
       where
+        r : (rule : ProgRule) × (slice_get t.rules (chosen_rule config number t sizes c) ≡ Some rule) × ReadsCell t.matrices sizes c rule shown
         r = read_by c shown h
+
+        inside : IsCell t sizes shown
         inside = read_inside c shown of_made h
 
-        by : IsMadeBefore t a sizes jobs c shown j → ((u : ℕ) × Contains (_) u × Contains (_) (number_in views shown)) ⊎ Contains (take n (own_order a.nodes a.order.layers views jobs j)) (number_in views shown)
+        by : IsMadeBefore t a sizes jobs c shown j → ((u : ℕ) × Contains (before_of (graph_of t sizes tasks) j) u × Contains (cells_of (graph_of t sizes tasks) u) (number_in views shown)) ⊎ Contains (take n (own_order a.nodes a.order.layers views jobs j)) (number_in views shown)
         by b = ⊎_elim
-            (λ pred. inl (b.job, before_in config number t a sizes grain i run.valid views run.row tasks run.tasks j b.job pred, cell_to config number t a sizes grain i run.valid views run.row tasks run.tasks shown b.job b.part (number_in views shown) b.made (cell_number shown inside)))
+            (λ pred. inl (b.job, before_in config number t a sizes grain i run.valid views run.row tasks run.are_tasks j b.job pred, cell_to config number t a sizes grain i run.valid views run.row tasks run.are_tasks shown b.job b.part (number_in views shown) b.made (cell_number shown inside)))
             (λ own.
             let none : job.rule ≡ None = ap (λ (q : JobValue). q.rule) (some_same job b.made.job (sym e ∙ ap (slice_get jobs) (sym own.0) ∙ b.made.is)) ∙ own.1 in
             let here : IsMadeBy jobs a.nodes shown j b.part = subst (λ q. IsMadeBy jobs a.nodes shown q b.part) own.0 b.made in

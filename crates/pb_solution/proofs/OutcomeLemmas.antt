@@ -84,7 +84,7 @@ module _ (sizes : List ℕ) where
       let o = some_at g.cells (y * (shape_of sizes d).w + x) (omega (arith, below, area_is d g s)) in
       let inx : nat_lt x g.width ≡ true = below_test x g.width (omega (arith, on_x, s.width)) in
       let iny : nat_lt y g.height ≡ true = below_test y g.height (omega (arith, on_y, s.height)) in
-      (o.0, o.1, rw (inx, iny, s.width) o.1)
+      (o.0, o.1, rw (inx, iny) (ap (λ w. slice_get g.cells (y * w + x)) s.width ∙ o.1))
 
   -- the outcome of a cell at its number is that in its matrix
   module _ (ds : List DeclValue) (vs : List View) (row : AreInARow 0 sizes ds vs) (ms : List Outcomes) (sided : AreSided ds ms) where
@@ -119,14 +119,14 @@ pub matrix_is : (sizes : List ℕ) (m : ℕ) (d : DeclValue) → matrix_cells si
 unfolding cells_of
 matrix_is sizes m d = rw (from_start_numbers (exact_value d.w sizes), from_start_numbers (exact_value d.h sizes)) refl
 
-rows_count : {A : Type 0} (f : ℕ → ℕ → A) (w a h : ℕ) → length (flat_map (λ y. map (λ x. f x y) (range_with_len 0 w)) (range_with_len a h)) ≡ h * w
-rows_count f w a zero = refl
+row_count : {A : Type 0} (g : ℕ → A) (b n : ℕ) → length (map g (range_with_len b n)) ≡ n
+row_count g b zero = refl
+row_count g b (suc n) = ap suc (row_count g (b + 1) n)
+
+pub rows_count : {A : Type 0} (f : ℕ → ℕ → A) (w a h : ℕ) → length (flat_map (λ y. map (λ x. f x y) (range_with_len 0 w)) (range_with_len a h)) ≡ h * w
+rows_count f w a zero = omega arith
 rows_count f w a (suc h) =
-    omega (arith, length-append (map (λ x. f x a) (range_with_len 0 w)) (flat_map (λ y. map (λ x. f x y) (range_with_len 0 w)) (range_with_len (a + 1) h)), row (λ x. f x a) 0 w, rows_count f w (a + 1) h)
-  where
-    row : (g : ℕ → _) (b n : ℕ) → length (map g (range_with_len b n)) ≡ n
-    row g b zero = refl
-    row g b (suc n) = ap suc (row g (b + 1) n)
+    omega (arith, length-append (map (λ x. f x a) (range_with_len 0 w)) (flat_map (λ y. map (λ x. f x y) (range_with_len 0 w)) (range_with_len (a + 1) h)), row_count (λ x. f x a) 0 w, rows_count f w (a + 1) h)
 
 module _ (config : ConfigValue) (plans : Plans) (number : ℕ) (t : ProgTransform) (sizes : List ℕ) (ins : List Outcomes) where
   -- a made matrix has its sides

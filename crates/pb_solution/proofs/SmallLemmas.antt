@@ -1,5 +1,5 @@
 -- The outcomes of a run are small.
-use Rattle.std.proofs.Common.{◌≡◌, ◌∙◌, refl, sym, ap, subst, inl, inr, ◌⊎◌, ⊎_elim, ℕ, zero, suc, ◌+◌, ◌-◌, ◌*◌, ◌≤◌, ◌<◌, ◌^◌, ℤ, pos, negsuc, ◌-ℤ◌, ◌≤ℤ◌, ◌<ℤ◌, Bool, true, false, List, [], ◌∷◌, ◌++◌, length, map, drop, get_or, slice_get, Option, Some, None, arith}
+use Rattle.std.proofs.Common.{◌≡◌, ◌∙◌, refl, sym, ap, subst, inl, inr, ◌⊎◌, ⊎_elim, ℕ, zero, suc, ◌+◌, ◌-◌, ◌*◌, ◌≤◌, ◌<◌, ◌^◌, ℤ, pos, negsuc, ◌-ℤ◌, ◌≤ℤ◌, ◌<ℤ◌, Bool, true, false, ◌&&◌, List, [], ◌∷◌, ◌++◌, length, map, drop, get_or, slice_get, Option, Some, None, arith}
 use Rattle.std.specs.Prelude.{FitsSigned, IfOk, Result, Ok, Err, nat_lt, slice_index_or, unwrap_or}
 use Rattle.std.specs.Int.{w64}
 use Rattle.std.specs.List.{All, AllByRecursion, Contains, flat_map, range_with_len}
@@ -22,7 +22,7 @@ use Rattle.pb_syntax.specs.declared.limits.TheConstants.{MOST_RULES, MOST_TRANSF
 use Rattle.pb_base.specs.Systems.{all_there, made, solved}
 use Rattle.pb_base.proofs.ListLemmas.{at_in, flat_in, in_at, in_head, in_tail, map_in, range_in}
 use Rattle.pb_program.specs.Areas.{Area, Span, area_of, from_start}
-use Rattle.pb_program.specs.Conditions.{Applies, Holds, view_conditions, written}
+use Rattle.pb_program.specs.Conditions.{Applies}
 use Rattle.pb_program.specs.Configs.{ConfigValue}
 use Rattle.pb_program.specs.Forms.{DeclValue}
 use Rattle.pb_program.specs.Stmts.{stmts}
@@ -33,24 +33,22 @@ use Rattle.pb_program.specs.declared.rule.RuleKind.TheVariants as kind
 use Rattle.pb_program.specs.declared.view.Read.{Read}
 use Rattle.pb_program.specs.declared.view.ReadView.{ReadView}
 use Rattle.pb_program.specs.declared.view.ReadView.TheVariants as view
-use Rattle.pb_types.specs.Types.{body_broken, rule_broken, transform_broken}
-use Rattle.pb_types.specs.Views.{view_broken}
 use Rattle.pb_region.specs.Within.{IsWithin}
 use Rattle.pb_region.proofs.SmallLemmas.{at_place}
-use Rattle.pb_region.proofs.WithinLemmas.{reads_within}
 use Rattle.pb_model.specs.Bodies.{Store, left_by, outputs_from}
 use Rattle.pb_model.specs.Calls.{Outcomes, Plans, call_of, cell_equation, cell_outcome, cell_reads, equations, in_matrices, made_by, made_cells, made_from, made_matrix, matrix_cells, no_outcome, rule_of}
 use Rattle.pb_model.specs.Cells.{Cell, IsCell, natural}
 use Rattle.pb_model.specs.Chosen.{chosen_rule}
 use Rattle.pb_model.specs.Equations.{after_body, bindings, corner, extent, first_trap, in_outputs, number_in, own_number, own_outcome, rule_gives, shown_area, sides_by, trap_of, trap_place, unless_trapped, view_sides}
-use Rattle.pb_model.specs.Grids.{at_place, no_grid}
+use Rattle.pb_model.specs.Grids.{at_place as in_grid, no_grid}
 use Rattle.pb_model.specs.Lawful.{IsLawful, output_holds}
 use Rattle.pb_model.proofs.FitLemmas.{Fits, HasNumber, IsSmallSide, gives_fit}
-use Rattle.pb_calls.proofs.InsideLemmas.{dims_by, none_each, none_left, none_right, view_within}
+use Rattle.pb_calls.proofs.InsideLemmas.{output_within, view_within}
 use Rattle.pb_check.specs.Orders.{AnalysisValue}
 use Rattle.pb_check.specs.Phases.{IsBounded}
 use Rattle.pb_check.specs.Ranked.{IsMadeCell}
 use Rattle.pb_check.proofs.FirstLemmas.{all_at, some_at, some_same}
+use Rattle.pb_frame.specs.Choices.{IsInstance}
 use Rattle.pb_taskgraph.specs.Graphs.{TaskValue}
 use Rattle.pb_taskgraph.specs.Plans.{IsSmall}
 use Rattle.pb_tasks.proofs.MadeLemmas.{chosen}
@@ -85,13 +83,6 @@ small_there (Some o ∷ os) h = more (all_there os) (small_there os h.1)
     more None k = tt
     more (Some xs) k = (h.0, k)
 
-zero_small : IsSmall no_outcome
-zero_small = (omega (arith, ints), omega (arith, ints))
-
-small_unwrap : (o : Option Outcome) → SmallIf o → IsSmall (unwrap_or o no_outcome)
-small_unwrap None h = zero_small
-small_unwrap (Some o) h = h
-
 -- ---- given matrices
 abbrev AreSmall : Outcomes → Type 0
 AreSmall g = All IsSmall g.cells
@@ -108,10 +99,10 @@ small_get os h k = by (slice_get os k) refl
     by None e = tt
     by (Some o) e = all_at IsSmall os k o h e
 
-small_place : (g : Outcomes) → AreSmall g → (x y : ℕ) → SmallIf (at_place g x y)
+small_place : (g : Outcomes) → AreSmall g → (x y : ℕ) → SmallIf (in_grid g x y)
 small_place g h x y = by (nat_lt x g.width) (nat_lt y g.height)
   where
-    by : (p q : Bool) → SmallIf (cond (cond p q false) (slice_get g.cells (y * g.width + x)) None)
+    by : (p q : Bool) → SmallIf (cond (p && q) (slice_get g.cells (y * g.width + x)) None)
     by true true = small_get g.cells h (y * g.width + x)
     by true false = tt
     by false q = tt
@@ -122,8 +113,8 @@ fits_small (pos n) e = grind (arith, nat_tests)
 fits_small (negsuc n) e = grind (arith, nat_tests)
 
 small_fits : (o : Outcome) → IsSmall o → HasNumber o
-small_fits (Value (pos n)) h = grind (arith, nat_tests, ints, h.0, h.1)
-small_fits (Value (negsuc n)) h = grind (arith, nat_tests, ints, h.0, h.1)
+small_fits (Value (pos n)) h = let b : n < 2 ^ 63 = omega (arith, ints, h) in grind (arith, nat_tests, b)
+small_fits (Value (negsuc n)) h = let b : n < 2 ^ 63 = omega (arith, ints, h) in grind (arith, nat_tests, b)
 small_fits (Trapped t) h = grind (arith, nat_tests)
 
 all_fits : (os : List Outcome) → AllByRecursion IsSmall os → AllByRecursion HasNumber os
@@ -143,14 +134,22 @@ dropped_fit zero vs h = h
 dropped_fit (suc n) [] h = tt
 dropped_fit (suc n) (v ∷ vs) h = dropped_fit n vs h.1
 
+zero_small : IsSmall no_outcome
+zero_small = fits_small (pos 0) zero_fits
+
+small_unwrap : (o : Option Outcome) → SmallIf o → IsSmall (unwrap_or o no_outcome)
+small_unwrap None h = zero_small
+small_unwrap (Some o) h = h
+
 module _ (matrices : List DeclValue) (sizes : List ℕ) (c : Cell) where
   outputs_fit : (outs : List Read) (vs : List ℤ) → AllByRecursion Fits vs → Fits (in_outputs matrices sizes c outs vs)
   outputs_fit [] vs h = zero_fits
-  outputs_fit (o ∷ rest) vs h = by (output_holds matrices sizes c o)
+  outputs_fit (o ∷ rest) vs h = by (output_holds matrices sizes c o) (outputs_fit rest (drop ((view_sides matrices sizes c o).0 * (view_sides matrices sizes c o).1) vs) (dropped_fit ((view_sides matrices sizes c o).0 * (view_sides matrices sizes c o).1) vs h))
     where
-      by : (b : Bool) → Fits (cond b (slice_index_or vs ((c.y - natural (shown_area matrices sizes c o).y.low) * (view_sides matrices sizes c o).0 + (c.x - natural (shown_area matrices sizes c o).x.low)) (pos 0)) (in_outputs matrices sizes c rest (drop ((view_sides matrices sizes c o).0 * (view_sides matrices sizes c o).1) vs)))
-      by true = index_fits vs ((c.y - natural (shown_area matrices sizes c o).y.low) * (view_sides matrices sizes c o).0 + (c.x - natural (shown_area matrices sizes c o).x.low)) h
-      by false = outputs_fit rest (drop ((view_sides matrices sizes c o).0 * (view_sides matrices sizes c o).1) vs) (dropped_fit ((view_sides matrices sizes c o).0 * (view_sides matrices sizes c o).1) vs h)
+      by : (b : Bool) → Fits (in_outputs matrices sizes c rest (drop ((view_sides matrices sizes c o).0 * (view_sides matrices sizes c o).1) vs))
+          → Fits (cond b (slice_index_or vs ((c.y - natural (shown_area matrices sizes c o).y.low) * (view_sides matrices sizes c o).0 + (c.x - natural (shown_area matrices sizes c o).x.low)) (pos 0)) (in_outputs matrices sizes c rest (drop ((view_sides matrices sizes c o).0 * (view_sides matrices sizes c o).1) vs)))
+      by true later = index_fits vs ((c.y - natural (shown_area matrices sizes c o).y.low) * (view_sides matrices sizes c o).0 + (c.x - natural (shown_area matrices sizes c o).x.low)) h
+      by false later = later
 
   own_fits : (k : RuleKind) (outs : List Read) (vs : List ℤ) → AllByRecursion Fits vs → Fits (own_number matrices sizes c k outs vs)
   own_fits kind.Cell outs vs h = index_fits vs 0 h
@@ -205,15 +204,6 @@ all_mapped : {A B : Type 0} (P : B → Type 0) (f : A → B) (xs : List A) → (
 all_mapped P f [] h = tt
 all_mapped P f (x ∷ xs) h = (h x (in_head x xs), all_mapped P f xs (λ y k. h y (in_tail x y xs k)))
 
--- ---- outputs lie within their matrices too
-all_parts : {A : Type 0} (P : A → Type 0) (xs ys : List A) → AllByRecursion P (xs ++ ys) → AllByRecursion P xs × AllByRecursion P ys
-all_parts P [] ys h = (tt, h)
-all_parts P (x ∷ xs) ys h = let rest = all_parts P xs ys h.1 in ((h.0, rest.0), rest.1)
-
--- the rule with its outputs as its reads
-abbrev turned : ProgRule → ProgRule
-turned r = record { kind = r.kind; priority = r.priority; outs = []; reads = r.outs; conds = []; body = r.body; plan = r.plan }
-
 sizes_small : (leasts sizes : List ℕ) → InRange leasts sizes → AllByRecursion (λ n. n < 2 ^ 63) sizes
 sizes_small [] [] h = tt
 sizes_small [] (s ∷ sizes) h = absurd h
@@ -221,7 +211,8 @@ sizes_small (l ∷ leasts) [] h = absurd h
 sizes_small (l ∷ leasts) (s ∷ sizes) h = (omega (arith, h.1), sizes_small leasts sizes h.2)
 
 module _ (config : ConfigValue) (plans : Plans) (number : ℕ) (t : ProgTransform) (a : AnalysisValue) (sizes : List ℕ) (grain : ℕ) (ins : List Outcomes) (views : List View) (tasks : List TaskValue) (run : IsRun config plans number t a sizes grain ins views tasks) where
-  abbrev i = run.instance
+  abbrev i : IsInstance number t a sizes
+  i = run.instance
 
   fits : IsTransform (length i.program) t
   fits = at_place (IsTransform (length i.program)) i.program number t i.well_formed.transforms i.there
@@ -243,24 +234,8 @@ module _ (config : ConfigValue) (plans : Plans) (number : ℕ) (t : ProgTransfor
     read_within : (q : Read) (d : DeclValue) → Contains r.reads q → slice_get t.matrices q.matrix ≡ Some d → IsWithin (area_of sizes (pos c.x) (pos c.y) q d) (exact_value d.w sizes) (exact_value d.h sizes)
     read_within q d h decl = let j = at_in r.reads q h in view_within i.program number t sizes i.well_formed i.sound i.there (chosen_rule config number t sizes c) r there j.0 q d j.1 decl i.in_range (pos c.x) (pos c.y) applies
 
-    out_right : (q : Read) → Contains r.outs q → view_broken t.matrices q ≡ []
-    out_right q h =
-        let of_transform = none_each (transform_broken i.program) i.program t i.sound.typed (in_at i.program number t i.there) in
-        let of_rule = none_each (rule_broken i.program t.matrices) t.rules r of_transform (in_at t.rules (chosen_rule config number t sizes c) r there) in
-        let views = none_left (flat_map (view_broken t.matrices) r.outs ++ flat_map (view_broken t.matrices) r.reads) (body_broken i.program r.kind r) of_rule in
-        none_each (view_broken t.matrices) r.outs q (none_left (flat_map (view_broken t.matrices) r.outs) (flat_map (view_broken t.matrices) r.reads) views) h
-
     out_within : (q : Read) (d : DeclValue) → Contains r.outs q → slice_get t.matrices q.matrix ≡ Some d → IsWithin (area_of sizes (pos c.x) (pos c.y) q d) (exact_value d.w sizes) (exact_value d.h sizes)
-    out_within q d h decl =
-        let j = at_in r.outs q h in
-        let parts = all_parts (Holds sizes (pos c.x) (pos c.y)) (flat_map (view_conditions t.matrices) r.outs ++ flat_map (view_conditions t.matrices) r.reads) (flat_map written r.conds) applies in
-        let of_outs = (all_parts (Holds sizes (pos c.x) (pos c.y)) (flat_map (view_conditions t.matrices) r.outs) (flat_map (view_conditions t.matrices) r.reads) parts.0).0 in
-        let is = at_place (IsDecl (length t.sizes)) t.matrices q.matrix d fits.matrices decl in
-        reads_within t (turned r) j.0 (length t.sizes) q d (all_at IsBounded i.program number t i.sound.bounded i.there).sides is j.1 decl (dims_by t.matrices q d decl (out_right q h)) sizes i.in_range (pos c.x) (pos c.y) (and_none (flat_map (view_conditions t.matrices) r.outs) of_outs)
-      where
-        and_none : (cs : List _) → AllByRecursion (Holds sizes (pos c.x) (pos c.y)) cs → AllByRecursion (Holds sizes (pos c.x) (pos c.y)) (cs ++ [])
-        and_none [] h = tt
-        and_none (x ∷ cs) h = (h.0, and_none cs h.1)
+    out_within q d h decl = let j = at_in r.outs q h in output_within i.program number t sizes i.well_formed i.sound i.there (chosen_rule config number t sizes c) r there j.0 q d j.1 decl i.in_range (pos c.x) (pos c.y) applies
 
     -- what a view shows is short, if it lies within its matrix
     shown_short : (q : Read) → ((d : DeclValue) → slice_get t.matrices q.matrix ≡ Some d → IsWithin (area_of sizes (pos c.x) (pos c.y) q d) (exact_value d.w sizes) (exact_value d.h sizes)) → IsShort (shown_area t.matrices sizes c q)
@@ -371,7 +346,7 @@ module _ (config : ConfigValue) (plans : Plans) (number : ℕ) (t : ProgTransfor
       (λ (low : d.matrix < t.inputs).
       let g = some_at ins d.matrix (omega (arith, low, run.given.count)) in
       let o = placed sizes inside.decl g.0 d.x d.y (run.given.each d.matrix inside.decl g.0 inside.there g.1) (side_below (exact_value inside.decl.w sizes) d.x inside.before_x) (side_below (exact_value inside.decl.h sizes) d.y inside.before_y) in
-      inl (o.0, ap (λ b. cond b (in_matrices ins d) None) (below_test sizes d.matrix t.inputs low) ∙ ap (λ (q : Outcomes). at_place q d.x d.y) (index_at ins d.matrix g.0 no_grid g.1) ∙ o.2))
+      inl (o.0, ap (λ b. cond b (in_matrices ins d) None) (below_test sizes d.matrix t.inputs low) ∙ ap (λ (q : Outcomes). in_grid q d.x d.y) (index_at ins d.matrix g.0 no_grid g.1) ∙ o.2))
       (λ (high : t.inputs ≤ d.matrix). inr (record { cell = inside; made = high }))
       (cases_lt d.matrix t.inputs)
     where

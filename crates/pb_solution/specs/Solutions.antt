@@ -56,18 +56,19 @@ module _ (nodes : List NodeValue) (layers : List LayerValue) where
 unfoldable pub outcomes_of : List Outcomes → List Outcome
 outcomes_of ms = flat_map (λ m. m.cells) ms
 
+-- the matrices of a call: those that are given, and those that it makes
+abbrev pub all_matrices : ConfigValue → Plans → ℕ → ProgTransform → List ℕ → List Outcomes → List Outcomes
+all_matrices config plans number t sizes ins = ins ++ call_of config plans number t sizes ins
+
 -- ---- a run
 -- a valid configuration, what plans make of their cells, a transform with its number and what is found of it, sizes, the
 -- matrices that are given, all matrices as views of cells, and the tasks
 module _ (config : ConfigValue) (plans : Plans) (number : ℕ) (t : ProgTransform) (a : AnalysisValue) (sizes : List ℕ) (grain : ℕ) (ins : List Outcomes) (views : List View) (tasks : List TaskValue) where
-  -- the outcomes are those of the given matrices, and of those that a call makes
-  abbrev pub all_matrices : List Outcomes
-  all_matrices = ins ++ call_of config plans number t sizes ins
-
+  -- its outcomes are those of the given matrices, and of those that the call makes
   unfoldable pub plan_of : Plan
   plan_of = record {
     graph = graph_of t sizes tasks;
-    solution = outcomes_of all_matrices;
+    solution = outcomes_of (all_matrices config plans number t sizes ins);
     order = own_order a.nodes a.order.layers views (jobs_for config number t a sizes grain);
   }
 
@@ -80,6 +81,6 @@ module _ (config : ConfigValue) (plans : Plans) (number : ℕ) (t : ProgTransfor
     pub small : All (λ (m : Outcomes). All IsSmall m.cells) ins
     pub room : HasRoom sizes t
     pub row : AreInARow 0 sizes t.matrices views
-    pub tasks : AreTasks t a.nodes sizes views (jobs_for config number t a sizes grain) tasks
+    pub are_tasks : AreTasks t a.nodes sizes views (jobs_for config number t a sizes grain) tasks
     pub within : IsWithinLimits t a.nodes sizes (jobs_for config number t a sizes grain)
     pub computes : All (λ (r : ProgRule). r.kind ≢ kind.Plan) t.rules

@@ -1,2 +1,4 @@
+pub mod Rooms
 pub mod Running
 pub mod Shown
+pub mod Unrolled

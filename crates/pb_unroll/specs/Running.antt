@@ -14,17 +14,17 @@ use Rattle.pb_model.specs.Calls.{Outcomes, Plans, no_outcome}
 use Rattle.pb_model.specs.Cells.{Cell, reads}
 use Rattle.pb_model.specs.Equations.{rule_gives}
 use Rattle.pb_check.specs.Orders.{AnalysisValue}
-use Rattle.pb_eval.specs.CanRun.{at_variables, locals_needed, outs_needed}
+use Rattle.pb_eval.specs.CanRun.{at_variables}
 use Rattle.pb_eval.specs.Running.{locals_of, outs_of}
 use Rattle.pb_eval.specs.Shown.{outcome_of}
 use Rattle.pb_frame.specs.Frames.{JobValue}
-use Rattle.pb_frame.specs.declared.part.FramePart.{FramePart}
 use Rattle.pb_plan.specs.Laid.{IsLaid, LaidValue}
 use Rattle.pb_plan.specs.Tasks.{graph_of}
 use Rattle.pb_taskgraph.specs.Graphs.{GraphValue}
 use Rattle.pb_taskgraph.specs.Plans.{Plan}
 use Rattle.pb_solution.specs.Solutions.{IsRun, plan_of}
 use Rattle.pb_views.specs.Windows.{number_in}
+use Rattle.pb_unroll.specs.Rooms.{HasRoomFor, HasRoomForJob}
 use Rattle.pb_unroll.specs.Shown.{AreRuleWindows, CanRun, WindowsValue}
 use Rattle.pb_unroll.specs.declared.room.Rooms.{Rooms}
 use Rattle.pb_unroll.specs.declared.scratch.RunScratch.{RunScratch}
@@ -64,16 +64,6 @@ unfoldable pub run_plan : RunValue → Plan
 run_plan r = plan_of r.config no_plans r.number (of_transform r) r.found (of_sizes r) r.grain (given_as r.inputs) r.laid.views r.graph.tasks
 
 -- ---- room
--- it is enough for the rule with a number
-pub record HasRoomFor (t : ProgTransform) (sizes : List ℕ) (rooms : Rooms) (k : ℕ) : Type 0 where
-  pub locals : (rule : ProgRule) → slice_get t.rules k ≡ Some rule → locals_needed rule ≤ rooms.locals
-  pub outs : (rule : ProgRule) → slice_get t.rules k ≡ Some rule → (x y : ℕ) → outs_needed t.matrices sizes (at_variables x y) rule ≤ rooms.outs
-
--- and for a job
-pub record HasRoomForJob (t : ProgTransform) (sizes : List ℕ) (rooms : Rooms) (job : JobValue) : Type 0 where
-  pub parts : All (λ (part : FramePart). HasRoomFor t sizes rooms part.rule) job.parts
-  pub pieces : length job.parts ≤ rooms.pieces
-
 -- a scratch has this room
 pub record FitsRooms (rooms : Rooms) (s : RunScratch) : Type 0 where
   pub walk : rooms.pieces ≤ s.walk.room
@@ -90,7 +80,7 @@ pub record IsRunning (r : RunValue) : Type 0 where
   pub laid : IsLaid r.config r.number r.laid.frame.sizes r.grain (of_transform r) r.found r.laid
   pub graph : r.graph ≡ graph_of (of_transform r) (of_sizes r) r.graph.tasks
   pub windows : AreRuleWindows (of_sizes r) (of_transform r).rules r.windows
-  pub rooms : All (HasRoomForJob (of_transform r) (of_sizes r) r.rooms) r.laid.frame.jobs
+  pub rooms : All (HasRoomForJob (bare_prog r.program) r.number (of_sizes r) r.rooms) r.laid.frame.jobs
 
 -- ---- running a rule
 -- the rule with this number can be run for these rule variables
@@ -98,7 +88,7 @@ pub record CanRunRule (r : RunValue) (k x y : ℕ) (turn : Turn) : Type 0 where
   pub rule : ProgRule
   pub there : slice_get (of_transform r).rules k ≡ Some rule
   pub can : CanRun (of_transform r).matrices (of_sizes r) r.laid.views rule x y turn
-  pub room : HasRoomFor (of_transform r) (of_sizes r) r.rooms k
+  pub room : HasRoomFor (bare_prog r.program) r.number (of_sizes r) r.rooms k
 
 -- what a reader tells of some cells
 abbrev pub told_of : RunValue → Turn → List Cell → List Outcome
