@@ -79,7 +79,7 @@ at_dropped xs zero k x at = let here : 0 + k ≡ k = omega arith in subst (λ i.
 at_dropped [] (suc n) k x at = absurd (cc)
 at_dropped (y ∷ xs) (suc n) k x at = let here : suc n + k ≡ suc (n + k) = omega arith in at_dropped xs n k x (subst (λ i. slice_get (y ∷ xs) i ≡ Some x) here at)
 
-map_same : {A B : Type 0} (f g : A → B) (xs : List A) → ((x : A) → Contains xs x → f x ≡ g x) → map f xs ≡ map g xs
+pub map_same : {A B : Type 0} (f g : A → B) (xs : List A) → ((x : A) → Contains xs x → f x ≡ g x) → map f xs ≡ map g xs
 map_same f g [] h = refl
 map_same f g (x ∷ xs) h = rw (h x (in_head x xs), map_same f g xs (λ y k. h y (in_tail x y xs k))) refl
 

@@ -168,18 +168,18 @@ natural_small : (z : ℤ) (most : ℕ) → z ≤ℤ pos most → natural z ≤ m
 natural_small (pos n) most h = omega (arith, ints, h)
 natural_small (negsuc n) most h = omega arith
 
-side_small : (z : ℤ) → natural z ≤ MOST_SIDE → z ≤ℤ pos MOST_SIDE
+pub side_small : (z : ℤ) → natural z ≤ MOST_SIDE → z ≤ℤ pos MOST_SIDE
 side_small (pos n) h = omega (arith, ints, h)
 side_small (negsuc n) h = omega (arith, ints)
 
 -- an area within a matrix
-record IsShort (a : Area) : Type 0 where
+pub record IsShort (a : Area) : Type 0 where
   pub wide : extent a.x ≤ MOST_SIDE
   pub tall : extent a.y ≤ MOST_SIDE
   pub left : natural a.x.low ≤ MOST_SIDE
   pub low : natural a.y.low ≤ MOST_SIDE
 
-within_short : (a : Area) (w h : ℤ) → IsWithin a w h → w ≤ℤ pos MOST_SIDE → h ≤ℤ pos MOST_SIDE → IsShort a
+pub within_short : (a : Area) (w h : ℤ) → IsWithin a w h → w ≤ℤ pos MOST_SIDE → h ≤ℤ pos MOST_SIDE → IsShort a
 within_short a w h is wide tall =
     let ex : a.x.high ≤ℤ pos MOST_SIDE = omega (arith, ints, is.x.end, wide) in
     let ey : a.y.high ≤ℤ pos MOST_SIDE = omega (arith, ints, is.y.end, tall) in

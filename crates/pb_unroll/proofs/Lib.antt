@@ -4,3 +4,6 @@ pub mod RunLemmas
 pub mod StopLemmas
 pub mod OutLemmas
 pub mod RoomLemmas
+pub mod InputLemmas
+pub mod LimitLemmas
+pub mod WindowLemmas

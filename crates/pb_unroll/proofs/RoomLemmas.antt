@@ -53,3 +53,7 @@ module _ (p : List ProgTransform) (t : ℕ) (sizes : List ℕ) where
         omega (arith, ln, locals transform rule there at),
         λ x y. omega (arith, lm, outs transform rule there at x y, few x y),
       )
+
+-- what holds of all holds of one
+pub of_item : {A : Type 0} (P : A → Type 0) (xs : List A) (i : ℕ) (x : A) → i < length xs → x ≡ get_or xs i x → All P xs → P x
+of_item P xs i x below is h = subst P (sym is) (h i x below)

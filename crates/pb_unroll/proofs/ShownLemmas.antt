@@ -48,7 +48,7 @@ last_of (z ∷ xs) x (suc k) y h e = let rest = last_of xs x k y (omega (arith, 
 pub shown_none : (matrices : List View) (x y : ℕ) (rs : List Read) (windows : List Window) (views : List View) → views ≡ [] → AreShown matrices x y rs windows 0 views
 shown_none matrices x y rs windows views e = record { count = ap length e; each = λ k r w v at_r at_w at_v. absurd (let none : slice_get [] k ≡ Some v = ap (λ (l : List View). slice_get l k) (sym e) ∙ at_v in no_one k v none) }
   where
-    no_one : (k : ℕ) (v : View) → slice_get {A = View} [] k ≡ Some v → ⊥
+    no_one : (k : ℕ) (v : View) → slice_get {X = View} [] k ≡ Some v → ⊥
     no_one k v e = absurd (cc)
 
 pub shown_more : (matrices : List View) (x y : ℕ) (rs : List Read) (windows : List Window) (k : ℕ) (old new : List View) (r : Read) (w : Window) (m v : View) → AreShown matrices x y rs windows k old → slice_get rs k ≡ Some r → slice_get windows k ≡ Some w → slice_get matrices r.matrix ≡ Some m
@@ -67,8 +67,8 @@ shown_more matrices x y rs windows k old new r w m v before at_r at_w at_m is e 
 }
   where
     longer : (l : List View) → length (l ++ v ∷ []) ≡ length l + 1
-    longer [] = refl
-    longer (z ∷ l) = ap suc (longer l)
+    longer [] = omega arith
+    longer (z ∷ l) = omega (arith, longer l)
 
 -- ---- the views of a rule
 map_flat : {A B C : Type 0} (f : B → C) (g : A → List B) (xs : List A) → map f (flat_map g xs) ≡ flat_map (λ x. map f (g x)) xs
@@ -111,3 +111,13 @@ module _ (matrices : List DeclValue) (sizes : List ℕ) (views : List View) (lai
     pub all_cells : flat_map view_cells shown ≡ map (number_in views) (reads matrices sizes c r)
     unfolding reads
     all_cells = same_flats view_cells (λ q. map (number_in views) (cells_of_view matrices sizes c q)) shown r.reads are.count (λ k v q at_v at_q. (one_shown k v q at_v at_q).1) ∙ sym (map_flat (number_in views) (cells_of_view matrices sizes c) r.reads)
+
+-- ---- while views are shown
+module _ (matrices : List View) (x y : ℕ) (rs : List Read) (windows : List Window) (within : AreWithin matrices x y rs windows) (k : ℕ) (r : Read) (w : Window) (at_r : slice_get rs k ≡ Some r) (at_w : slice_get windows k ≡ Some w) where
+  pub matrix_there : r.matrix < length matrices
+  matrix_there = slice_get_within matrices r.matrix (within k r w at_r at_w).matrix (within k r w at_r at_w).at
+
+  pub lies_within : (m : View) → slice_get matrices r.matrix ≡ Some m → IsWithin (shown_by w m x y w.view) (pos m.shape.w) (pos m.shape.h)
+  lies_within m at =
+      let l = within k r w at_r at_w in
+      subst (λ (q : View). IsWithin (shown_by w q x y w.view) (pos q.shape.w) (pos q.shape.h)) (some_same l.matrix m (sym l.at ∙ at)) l.within

@@ -71,7 +71,7 @@ module _ (v : RunValue) (is : IsRunning v) (j : ℕ) (job : JobValue) (there : s
   abbrev jobs : List JobValue
   jobs = jobs_for v.config v.number t v.found sizes v.grain
 
-  e : slice_get jobs j ≡ Some job
+  abbrev e : slice_get jobs j ≡ Some job
   e = ap (λ (l : List JobValue). slice_get l j) (sym (jobs_are v is)) ∙ there
 
   abbrev solution : List Outcome
@@ -81,13 +81,13 @@ module _ (v : RunValue) (is : IsRunning v) (j : ℕ) (job : JobValue) (there : s
     abbrev c : Cell
     c = stop_cell s
 
-    pub made : IsMadeBy jobs v.found.nodes c j s.piece
+    abbrev pub made : IsMadeBy jobs v.found.nodes c j s.piece
     made = of_job v.config no_plans v.number t v.found sizes v.grain ins views v.graph.tasks is.run j job e k s at
 
-    cell : IsMadeCell t sizes c
+    abbrev cell : IsMadeCell t sizes c
     cell = of_made v.config no_plans v.number t v.found sizes v.grain ins views v.graph.tasks is.run j job e k s at
 
-    pub part : FramePart
+    abbrev pub part : FramePart
     part = made.part
 
     pub part_there : slice_get job.parts s.piece ≡ Some part
@@ -96,10 +96,10 @@ module _ (v : RunValue) (is : IsRunning v) (j : ℕ) (job : JobValue) (there : s
     chosen_is : chosen_rule v.config v.number t sizes c ≡ part.rule
     chosen_is = made_rule v.config v.number t v.found sizes v.grain i c j s.piece made
 
-    law : IsLawful t sizes c (chosen_rule v.config v.number t sizes c)
+    abbrev law : IsLawful t sizes c (chosen_rule v.config v.number t sizes c)
     law = chosen v.config v.number t v.found sizes v.grain i is.run.valid c cell
 
-    pub rule : ProgRule
+    abbrev pub rule : ProgRule
     rule = law.rule
 
     pub rule_there : slice_get t.rules part.rule ≡ Some rule

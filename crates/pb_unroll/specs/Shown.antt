@@ -45,8 +45,8 @@ pub record IsShownFor (matrices : List View) (x y : ℕ) (r : Read) (w : Window)
   pub is : IsShown matrix w.view (shown_by w matrix x y w.view) v
 
 -- there are views for the first reads
-pub record AreShown (matrices : List View) (x y : ℕ) (reads : List Read) (windows : List Window) (count : ℕ) (views : List View) : Type 0 where
-  pub count : length views ≡ count
+pub record AreShown (matrices : List View) (x y : ℕ) (reads : List Read) (windows : List Window) (n : ℕ) (views : List View) : Type 0 where
+  pub count : length views ≡ n
   pub each : (k : ℕ) (r : Read) (w : Window) (v : View) → slice_get reads k ≡ Some r → slice_get windows k ≡ Some w → slice_get views k ≡ Some v → IsShownFor matrices x y r w v
 
 -- what a window shows lies within the matrix that its read is of

@@ -30,14 +30,18 @@ impl<'a> Run<'a> {
         ensures walk { scratch.new.walk ≡ scratch.old.walk }
         ensures stays { C.turn port.new ≡ C.turn port.old }
     {
-        let reads = &self.transform.rules[rule as usize].reads;
-        let windows = &self.windows[rule as usize].reads;
-        scratch.shown.show(reads, windows, &self.laid.views, x, y);
+        let transform = self.transform;
+        let of_rule = &transform.rules[rule as usize];
+        let windows = &self.windows[rule as usize];
+        let laid = &self.laid;
+        scratch
+            .shown
+            .show(&of_rule.reads, &windows.reads, &laid.views, x, y);
         run_body(
             self.prog,
             self.number,
             rule,
-            &self.laid.frame.sizes,
+            &laid.frame.sizes,
             x,
             y,
             &scratch.shown.views,
@@ -78,14 +82,16 @@ impl<'a> Run<'a> {
         ensures written { C.turn port.new ≡ after_all (C.turn port.old) }
         ensures fits { fits_run self.now scratch.new }
     {
-        let job = &self.laid.frame.jobs[task as usize];
-        let layer = &self.found.order().layers[job.layer as usize];
-        let parts = &self.laid.places[task as usize].parts;
-        scratch.walk.begin(&layer.steps, parts);
+        let laid = &self.laid;
+        let job = &laid.frame.jobs[task as usize];
+        let order = self.found.order();
+        let layer = &order.layers[job.layer as usize];
+        let places = &laid.places[task as usize];
+        scratch.walk.begin(&layer.steps, &places.parts);
         while let Some(stop) = scratch.walk.next() {
             let rule = job.parts[stop.piece as usize].rule;
             let outcome = self.cell(rule, stop.x, stop.y, port, scratch);
-            let cell = self.laid.views[stop.base as usize].place(stop.x, stop.y);
+            let cell = laid.views[stop.base as usize].place(stop.x, stop.y);
             port.write(cell, outcome);
         }
     }

@@ -1,15 +1,17 @@
-ghost use Rattle.std.specs.Prelude.{◌≡◌, ◌<◌, length, pos, slice_index_or};
-ghost use Rattle.std.specs.List.{flat_map};
+ghost use Rattle.std.specs.Prelude.{◌≡◌, ◌<◌, length};
+ghost use Rattle.std.specs.List.{All};
+ghost use Rattle.pb_model.specs.Calls.{Outcomes};
 ghost use Rattle.pb_unroll.specs.Running.{given_as};
 ghost use Rattle.pb_solution.specs.Solutions.{outcomes_of};
-ghost use Rattle.pb_taskgraph.specs.Plans.{outcome_at};
+ghost use Rattle.pb_taskgraph.specs.Plans.{IsSmall, outcome_at};
 
 use pb_matrix::Matrix;
 use pb_values::Outcome;
 
 /// The outcome of a cell of matrices whose cells stand one after the other.
 pub(crate) fn input_at(inputs: &[Matrix], cell: u64) -> Outcome
-    requires { cell < length (outcomes_of (given_as inputs.now)) }
+    requires below { cell < length (outcomes_of (given_as inputs.now)) }
+    requires small { All (λ (m : Outcomes). All IsSmall m.cells) (given_as inputs.now) }
     ensures { result ≡ outcome_at (outcomes_of (given_as inputs.now)) cell }
 {
     let mut left = cell;

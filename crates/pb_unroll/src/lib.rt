@@ -13,12 +13,8 @@ mod room;
 mod run;
 mod scratch;
 mod shown;
-mod unroll;
-mod wholes;
 mod windows;
-mod work;
 
 pub use pb_entry::{Count, RunRefusal, enter};
 pub use run::Run;
 pub use scratch::RunScratch;
-pub use unroll::unroll;

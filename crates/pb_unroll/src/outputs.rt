@@ -9,14 +9,16 @@ impl<'a> Run<'a> {
     pub fn watched(&self) -> &[View]
         ensures { result.now ≡ drop self.now.transform.inputs self.now.laid.views }
     {
-        &self.laid.views[self.transform.inputs as usize..]
+        let transform = self.transform;
+        &self.laid.views[transform.inputs as usize..]
     }
 
     /// The matrices that it gives.
     pub fn outputs(&self) -> &[View]
         ensures { result.now ≡ drop (self.now.transform.inputs + self.now.transform.middles) self.now.laid.views }
     {
-        let first = self.transform.inputs + self.transform.middles;
+        let transform = self.transform;
+        let first = transform.inputs + transform.middles;
         &self.laid.views[first as usize..]
     }
 }
