@@ -134,7 +134,7 @@ module _ (v : RunValue) (is : IsRunning v) (j : ℕ) (job : JobValue) (there : s
       told shown h = may-read_some (run_plan v) j start b n turn now (number_in views shown) (may shown (subst (λ (xs : List Cell). Contains xs shown) (sym reads_are) h))
 
       outcome_told : (shown : Cell) → Contains (reads t.matrices sizes (at_variables s.x s.y) rule) shown → outcome_of turn (number_in views shown) ≡ outcome_at solution (number_in views shown)
-      unfolding outcome_of run_plan
+      unfolding outcome_of run_plan plan_of
       outcome_told shown h = ap (λ o. option_map_or (λ (q : Outcome). q) o no_outcome) (may-read (run_plan v) j start b n turn now (number_in views shown) (may shown (subst (λ (xs : List Cell). Contains xs shown) (sym reads_are) h)))
 
       seen_is : told_of v turn (reads t.matrices sizes (at_variables s.x s.y) rule) ≡ map (λ d. outcome_at solution (number_in views d)) (cell_reads v.config no_plans v.number t sizes c)
