@@ -13,4 +13,6 @@ mod layouts;
 #[cfg(test)]
 mod places;
 #[cfg(test)]
+mod plans;
+#[cfg(test)]
 mod programs;

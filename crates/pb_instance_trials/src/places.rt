@@ -17,22 +17,22 @@ use std::alloc::{AllocError, Global};
 use std::test::Fail;
 
 // The cells in the middle are made by the first rule, those at the ends by the second.
-const BLUR: &str =
+pub(crate) const BLUR: &str =
     "transform Blur3 where n >= 2 from A[n] to B[n] { to (B.cell(i) b) from (A.region(i-1, i+2) a) { b = sum(a) / 3; } \
 secondary to (B.cell(i) b) from (A.cell(i) a) { b = a; } }";
 
 // A rule that isn't for single cells above another.
-const SPREAD: &str =
+pub(crate) const SPREAD: &str =
     "transform Spread from A[n] to B[n] { to (B.region(0, 1) b) from (A.cell(0) a) { } \
 to (B.region(1, n) b) from (B.cell(0) c) { } }";
 
 // Each cell but the first of a row reads the one before it, and its row of the other matrix.
-const ROWS: &str =
+pub(crate) const ROWS: &str =
     "transform R from A[w,h] to B[w,h] { to (B.cell(x,y) b) from (A.row(y) a, B.cell(x-1,y) l) { b = sum(a) + l; } \
 secondary to (B.cell(x,y) b) from (A.cell(x,y) a) { b = a; } }";
 
 // Whether a transform has two small matrices.
-fn has_room(a: &Accepted, t: u32, s: &Sizes) -> bool
+pub(crate) fn has_room(a: &Accepted, t: u32, s: &Sizes) -> bool
     requires { All (λ size. size ≤ SIZE_TOP) s.now.of }
     ensures { IsTrue result → OfTransform a.now t (λ transform found. HasRoom (sizes_of s.now) transform) }
 {

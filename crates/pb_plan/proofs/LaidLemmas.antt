@@ -71,19 +71,21 @@ module _ (number : ℕ) (t : ProgTransform) (a : AnalysisValue) (sizes : List �
     height = λ m d v there at. ap (λ (s : Shape). pos s.h) (whole_at sizes 0 t.matrices views row m d v there at).shape ∙ natural_is (exact_value d.h sizes) (tall_at m d there);
   }
 
--- the jobs of a frame can be boxed
+-- the jobs of a frame
+pub jobs_are : (config : ConfigValue) (number : ℕ) (t : ProgTransform) (a : AnalysisValue) (s : Sizes) (grain : ℕ) (f : FrameValue) → f.sizes ≡ s → IsFrame config number t a grain f → f.jobs ≡ jobs_for config number t a (sizes_of s) grain
+jobs_are config number t a s grain f same is =
+    is.jobs ∙ ap (λ (ps : List FramePart). flat_map (λ l. layer_jobs t grain (in_layer a.order ps l.0) l) (enumerate_from 0 a.order.layers)) is.parts ∙ ap (λ z. jobs_for config number t a (sizes_of z) grain) same
+
+-- they can be boxed
 module _ (config : ConfigValue) (number : ℕ) (t : ProgTransform) (a : AnalysisValue) (s : Sizes) (grain : ℕ) (i : IsInstance number t a (sizes_of s)) (valid : IsValid i.program config) (room : HasRoom (sizes_of s) t) (f : FrameValue) (same : f.sizes ≡ s) (is : IsFrame config number t a grain f) where
-  jobs_are : f.jobs ≡ jobs_for config number t a (sizes_of s) grain
-  jobs_are = is_jobs ∙ ap (λ z. jobs_for config number t a (sizes_of z) grain) same
-    where
-      is_jobs : f.jobs ≡ jobs_for config number t a (sizes_of f.sizes) grain
-      is_jobs = is.jobs ∙ ap (λ (ps : List FramePart). flat_map (λ l. layer_jobs t grain (in_layer a.order ps l.0) l) (enumerate_from 0 a.order.layers)) is.parts
+  own_jobs : f.jobs ≡ jobs_for config number t a (sizes_of s) grain
+  own_jobs = jobs_are config number t a s grain f same is
 
   pub can_be_boxed : All (λ (job : JobValue). IsJob t (sizes_of s) job.rule job.parts) f.jobs
-  can_be_boxed = subst (λ (jobs : List JobValue). All (λ (job : JobValue). IsJob t (sizes_of s) job.rule job.parts) jobs) (sym jobs_are) (are_jobs config number t a (sizes_of s) grain i valid room.sides)
+  can_be_boxed = subst (λ (jobs : List JobValue). All (λ (job : JobValue). IsJob t (sizes_of s) job.rule job.parts) jobs) (sym own_jobs) (are_jobs config number t a (sizes_of s) grain i valid room.sides)
 
   pub have_their_nodes : All (λ (job : JobValue). HasNodes a.nodes job.parts) f.jobs
-  have_their_nodes = subst (λ (jobs : List JobValue). All (λ (job : JobValue). HasNodes a.nodes job.parts) jobs) (sym jobs_are) (have_nodes config number t a (sizes_of s) grain i valid room.sides)
+  have_their_nodes = subst (λ (jobs : List JobValue). All (λ (job : JobValue). HasNodes a.nodes job.parts) jobs) (sym own_jobs) (have_nodes config number t a (sizes_of s) grain i valid room.sides)
 
 -- what is known of the transform with this number, and of what is found of it
 pub record Known (v : AcceptedValue) (config : ConfigValue) (t : ℕ) (s : Sizes) (x : TransformValue) (a : AnalysisValue) : Type 0 where

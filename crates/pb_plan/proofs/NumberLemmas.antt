@@ -78,7 +78,7 @@ module _ (sizes : List ℕ) where
   before_mono (d ∷ ds) (suc m) zero h = absurd (omega (arith, h))
   before_mono (d ∷ ds) (suc m) (suc n) h = omega (arith, before_mono ds m n (omega (arith, h)))
 
-  before_all : (ds : List DeclValue) (m : ℕ) → before ds m ≤ cell_count sizes ds
+  pub before_all : (ds : List DeclValue) (m : ℕ) → before ds m ≤ cell_count sizes ds
   before_all ds zero = omega arith
   before_all [] (suc m) = omega arith
   before_all (d ∷ ds) (suc m) = omega (arith, before_all ds m)
