@@ -1,5 +1,5 @@
-//! Trials of what a run asks of an accepted program: entering, laying out, frames and bodies, compared with answers from
-//! outside. No code, tests alone.
+//! Trials of what a run asks of an accepted program: entering, laying out, frames and bodies, and of the lines that it may end
+//! with, compared with answers from outside. No code, tests alone.
 #![tactic(auto)]
 
 #[cfg(test)]
@@ -10,6 +10,8 @@ mod entering;
 mod frames;
 #[cfg(test)]
 mod layouts;
+#[cfg(test)]
+mod lines;
 #[cfg(test)]
 mod places;
 #[cfg(test)]

@@ -11,5 +11,5 @@ mod segments;
 mod text;
 
 pub use area::write_segment;
-pub use line::refusal_line;
-pub use names::write_axis;
+pub use line::{refusal_line, write_rule};
+pub use names::{write_axis, write_matrix, write_transform};

@@ -53,8 +53,8 @@ fn write_negative(
     text.extend_from_slice(b"\n")
 }
 
-/// A rule of a transform.
-fn write_rule(
+/// Adds a rule of a transform as refusals and traps name it: `T rule 0`.
+pub fn write_rule(
     text: &mut Vec<u8>,
     program: &[Transform],
     t: u32,

@@ -18,12 +18,8 @@ pub(crate) fn write_named(text: &mut Vec<u8>, name: &[u8], at: u32) -> Result<()
     write_place(text, at)
 }
 
-/// The name of a transform, if there is one with this number.
-pub(crate) fn write_transform(
-    text: &mut Vec<u8>,
-    program: &[Transform],
-    t: u32,
-) -> Result<(), AllocError>
+/// Adds the name of a transform, if there is one with this number.
+pub fn write_transform(text: &mut Vec<u8>, program: &[Transform], t: u32) -> Result<(), AllocError>
     ensures { OnOk result (text.new.items ≡ text.old.items ++ transform_text (map bare_transform program.now) t) }
 {
     match program.get(t as usize) {
@@ -32,8 +28,8 @@ pub(crate) fn write_transform(
     }
 }
 
-/// The name of a matrix, if there is one with this number, after a point.
-pub(crate) fn write_matrix(
+/// Adds the name of a matrix of a transform, if there is one with this number, after a point.
+pub fn write_matrix(
     text: &mut Vec<u8>,
     program: &[Transform],
     t: u32,
