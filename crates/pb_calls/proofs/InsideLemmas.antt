@@ -1,14 +1,14 @@
 -- What a rule reads lies inside the matrices.
 use Rattle.std.proofs.Common.{◌≡◌, ◌∙◌, refl, sym, ap, subst, ⊎_elim, ℕ, ℤ, pos, Bool, true, false, List, [], ◌∷◌, ◌++◌, length, slice_get, Some, arith}
 use Rattle.std.specs.Prelude.{◌==◌}
-use Rattle.std.specs.List.{Contains, flat_map}
+use Rattle.std.specs.List.{AllByRecursion, Contains, flat_map}
 use Rattle.std.specs.Option.{option_map_or}
 use Rattle.std.proofs.lemmas.Bool.{eqb-true}
 use Rattle.std.proofs.lemmas.Int.{ints}
 use Rattle.pb_linear.specs.Numbers.{exact_value}
 use Rattle.pb_linear.specs.Sizes.{InRange, leasts_of}
 use Rattle.pb_program.specs.Areas.{area_of}
-use Rattle.pb_program.specs.Conditions.{Applies}
+use Rattle.pb_program.specs.Conditions.{Applies, Holds, view_conditions, written}
 use Rattle.pb_program.specs.Forms.{DeclValue}
 use Rattle.pb_program.specs.Trees.{ProgRule, ProgTransform}
 use Rattle.pb_program.specs.WellFormed.{IsDecl, IsTransform, IsWellFormed}
@@ -51,6 +51,18 @@ dims_by ms r d there e =
     let test = right_test (option_map_or (λ (d : DeclValue). d.dims == r.dims) (slice_get ms r.matrix) false) r.at e in
     sym (eqb-true d.dims r.dims (subst (λ o. option_map_or (λ (d : DeclValue). d.dims == r.dims) o false ≡ true) there test))
 
+all_parts : {A : Type 0} (P : A → Type 0) (xs ys : List A) → AllByRecursion P (xs ++ ys) → AllByRecursion P xs × AllByRecursion P ys
+all_parts P [] ys h = (tt, h)
+all_parts P (x ∷ xs) ys h = let rest = all_parts P xs ys h.1 in ((h.0, rest.0), rest.1)
+
+and_none : {A : Type 0} (P : A → Type 0) (xs : List A) → AllByRecursion P xs → AllByRecursion P (xs ++ [])
+and_none P [] h = tt
+and_none P (x ∷ xs) h = (h.0, and_none P xs h.1)
+
+-- a rule with its outputs as its reads
+abbrev turned : ProgRule → ProgRule
+turned r = record { priority = r.priority; kind = r.kind; outs = []; reads = r.outs; conds = []; body = r.body; plan = r.plan }
+
 module _ (p : List ProgTransform) (number : ℕ) (t : ProgTransform) (sizes : List ℕ) (well : IsWellFormed p) (sound : IsSound p) (at : slice_get p number ≡ Some t) where
   view_right : (k : ℕ) (rule : ProgRule) → slice_get t.rules k ≡ Some rule → (r : Read) → Contains rule.reads r → view_broken t.matrices r ≡ []
   view_right k rule there r declared =
@@ -59,7 +71,25 @@ module _ (p : List ProgTransform) (number : ℕ) (t : ProgTransform) (sizes : Li
       let views = none_left (flat_map (view_broken t.matrices) rule.outs ++ flat_map (view_broken t.matrices) rule.reads) (body_broken p rule.kind rule) of_rule in
       none_each (view_broken t.matrices) rule.reads r (none_right (flat_map (view_broken t.matrices) rule.outs) (flat_map (view_broken t.matrices) rule.reads) views) declared
 
-  -- where a rule applies, each of its views lies within its matrix
+  out_right : (k : ℕ) (rule : ProgRule) → slice_get t.rules k ≡ Some rule → (r : Read) → Contains rule.outs r → view_broken t.matrices r ≡ []
+  out_right k rule there r declared =
+      let of_transform = none_each (transform_broken p) p t sound.typed (in_at p number t at) in
+      let of_rule = none_each (rule_broken p t.matrices) t.rules rule of_transform (in_at t.rules k rule there) in
+      let views = none_left (flat_map (view_broken t.matrices) rule.outs ++ flat_map (view_broken t.matrices) rule.reads) (body_broken p rule.kind rule) of_rule in
+      none_each (view_broken t.matrices) rule.outs r (none_left (flat_map (view_broken t.matrices) rule.outs) (flat_map (view_broken t.matrices) rule.reads) views) declared
+
+  -- where a rule applies, each of its outputs lies within its matrix
+  pub output_within : (k : ℕ) (rule : ProgRule) → slice_get t.rules k ≡ Some rule → (j : ℕ) (r : Read) (d : DeclValue) → slice_get rule.outs j ≡ Some r → slice_get t.matrices r.matrix ≡ Some d → InRange (leasts_of t.ranges) sizes
+      → (x y : ℤ) → Applies t.matrices rule sizes x y → IsWithin (area_of sizes x y r d) (exact_value d.w sizes) (exact_value d.h sizes)
+  output_within k rule there j r d place decl range x y applies =
+      let fits = at_place (IsTransform (length p)) p number t well.transforms at in
+      let is = at_place (IsDecl (length t.sizes)) t.matrices r.matrix d fits.matrices decl in
+      let dims = dims_by t.matrices r d decl (out_right k rule there r (in_at rule.outs j r place)) in
+      let parts = all_parts (Holds sizes x y) (flat_map (view_conditions t.matrices) rule.outs ++ flat_map (view_conditions t.matrices) rule.reads) (flat_map written rule.conds) applies in
+      let of_outs = (all_parts (Holds sizes x y) (flat_map (view_conditions t.matrices) rule.outs) (flat_map (view_conditions t.matrices) rule.reads) parts.0).0 in
+      reads_within t (turned rule) j (length t.sizes) r d (all_at IsBounded p number t sound.bounded at).sides is place decl dims sizes range x y (and_none (Holds sizes x y) (flat_map (view_conditions t.matrices) rule.outs) of_outs)
+
+  -- and so does each of its reads
   pub view_within : (k : ℕ) (rule : ProgRule) → slice_get t.rules k ≡ Some rule → (j : ℕ) (r : Read) (d : DeclValue) → slice_get rule.reads j ≡ Some r → slice_get t.matrices r.matrix ≡ Some d → InRange (leasts_of t.ranges) sizes
       → (x y : ℤ) → Applies t.matrices rule sizes x y → IsWithin (area_of sizes x y r d) (exact_value d.w sizes) (exact_value d.h sizes)
   view_within k rule there j r d place decl range x y applies =

@@ -309,7 +309,7 @@ module _ (config : ConfigValue) (number : ℕ) (t : ProgTransform) (a : Analysis
     as_many : length places ≡ length tasks
     as_many = length-map jobs (places_of t a.nodes sizes) ∙ sym are.count
 
-    before_in : (j u : ℕ) → Contains (predecessors places j) u → Contains (before_of graph j) u
+    pub before_in : (j u : ℕ) → Contains (predecessors places j) u → Contains (before_of graph j) u
     before_in j u h =
         let task = some_at tasks j (omega (arith, as_many, (after-others places u j ((mirrored places j u).0 h)).0)) in
         subst (λ (xs : List ℕ). Contains xs u) (sym (before_is j task.0 task.1)) h

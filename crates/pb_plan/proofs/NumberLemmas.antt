@@ -67,12 +67,12 @@ module _ (sizes : List ℕ) where
   view_at first (c ∷ ds) (u ∷ vs) h zero d e = (u, refl)
   view_at first (c ∷ ds) (u ∷ vs) h (suc m) d e = view_at (first + area_at sizes c) ds vs h.1 m d e
 
-  before_next : (ds : List DeclValue) (m : ℕ) (d : DeclValue) → slice_get ds m ≡ Some d → before ds (m + 1) ≡ before ds m + area_at sizes d
+  pub before_next : (ds : List DeclValue) (m : ℕ) (d : DeclValue) → slice_get ds m ≡ Some d → before ds (m + 1) ≡ before ds m + area_at sizes d
   before_next [] m d e = absurd (cc)
   before_next (c ∷ ds) zero d e = omega (arith, ap (area_at sizes) (some_same c d e))
   before_next (c ∷ ds) (suc m) d e = let at : suc m + 1 ≡ suc (m + 1) = omega arith in omega (arith, before_next ds m d e, ap (before (c ∷ ds)) at)
 
-  before_mono : (ds : List DeclValue) (m n : ℕ) → m ≤ n → before ds m ≤ before ds n
+  pub before_mono : (ds : List DeclValue) (m n : ℕ) → m ≤ n → before ds m ≤ before ds n
   before_mono ds zero n h = omega arith
   before_mono [] (suc m) n h = omega arith
   before_mono (d ∷ ds) (suc m) zero h = absurd (omega (arith, h))

@@ -1,0 +1,5 @@
+pub mod OutcomeLemmas
+pub mod SmallLemmas
+pub mod OrderLemmas
+pub mod MayLemmas
+pub mod PlanLemmas
