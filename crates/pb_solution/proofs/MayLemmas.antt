@@ -1,25 +1,19 @@
 -- What a task may read when it makes a cell, and that each outcome is what its rule makes.
-use Rattle.std.proofs.Common.{◌≡◌, ◌∙◌, refl, sym, ap, subst, inl, inr, ◌⊎◌, ⊎_elim, ℕ, zero, suc, ◌+◌, ◌-◌, ◌≤◌, ◌<◌, ℤ, pos, negsuc, ◌<ℤ◌, List, [], ◌∷◌, ◌++◌, length, map, drop, take, slice_get, slice_index, Option, Some, None, arith}
-use Rattle.std.specs.Prelude.{◌≢◌}
-use Rattle.std.specs.List.{All, Contains}
+use Rattle.std.proofs.Common.{◌≡◌, ◌∙◌, refl, sym, ap, subst, inl, inr, ◌⊎◌, ⊎_elim, ℕ, zero, suc, ◌+◌, ◌-◌, ◌≤◌, ◌<◌, ℤ, pos, negsuc, ◌<ℤ◌, List, [], ◌∷◌, length, map, drop, take, slice_get, slice_index, Option, Some, None, arith}
+use Rattle.std.specs.List.{Contains}
 use Rattle.std.specs.Option.{option_map_or}
 use Rattle.std.proofs.lemmas.Bool.{cases_lt}
 use Rattle.std.proofs.lemmas.Int.{ints}
-use Rattle.std.proofs.lemmas.Option.{slice_get_within}
 use Rattle.pb_linear.specs.Numbers.{exact_value}
-use Rattle.pb_linear.specs.declared.boxes.Step.{Step}
 use Rattle.pb_values.specs.Views.{cell_of}
-use Rattle.pb_values.specs.declared.outcome.Outcome.{Outcome}
 use Rattle.pb_values.specs.declared.view.View.{View}
 use Rattle.pb_graph.specs.Layerings.{steps_at}
-use Rattle.pb_graph.specs.Nodes.{NodeValue}
 use Rattle.pb_graph.specs.Ranks.{IsBelow, Rank, rank_by, rank_in}
 use Rattle.pb_program.specs.Configs.{ConfigValue}
-use Rattle.pb_program.specs.Forms.{DeclValue}
 use Rattle.pb_program.specs.Trees.{ProgRule, ProgTransform}
 use Rattle.pb_program.specs.WellFormed.{IsTransform}
 use Rattle.pb_region.proofs.SmallLemmas.{at_place}
-use Rattle.pb_base.proofs.ListLemmas.{at_in, in_at, in_cases, in_head, in_map, in_tail}
+use Rattle.pb_base.proofs.ListLemmas.{at_in, in_at, in_head, in_tail}
 use Rattle.pb_model.specs.Calls.{Outcomes, Plans, cell_equation, cell_reads, made_cells, outcome_in, rule_of}
 use Rattle.pb_model.specs.Cells.{Cell, IsCell, ReadsCell, natural, reads}
 use Rattle.pb_model.specs.Chosen.{chosen_rule}
@@ -29,12 +23,11 @@ use Rattle.pb_model.proofs.ReadLemmas.{reads_are}
 use Rattle.pb_calls.proofs.InsideLemmas.{reads_inside}
 use Rattle.pb_calls.proofs.SettledLemmas.{call_settled}
 use Rattle.pb_check.specs.Orders.{AnalysisValue}
-use Rattle.pb_check.specs.Ranked.{HasRank, IsIn, IsMadeCell, StandsBelow}
+use Rattle.pb_check.specs.Ranked.{HasRank, IsMadeCell, StandsBelow}
 use Rattle.pb_check.proofs.FirstLemmas.{some_same}
 use Rattle.pb_check.proofs.RankedLemmas.{covered_is}
 use Rattle.pb_frame.specs.Choices.{IsInstance}
-use Rattle.pb_frame.specs.Frames.{JobValue, in_layer}
-use Rattle.pb_frame.specs.declared.part.FramePart.{FramePart}
+use Rattle.pb_frame.specs.Frames.{JobValue}
 use Rattle.pb_frame.proofs.PartLemmas.{held_in}
 use Rattle.pb_taskgraph.specs.Graphs.{TaskValue, before_of, cells_of}
 use Rattle.pb_taskgraph.specs.Plans.{outcome_at}
@@ -44,12 +37,12 @@ use Rattle.pb_tasks.proofs.BeforeLemmas.{own_layer, parts, read_before}
 use Rattle.pb_tasks.proofs.JobLemmas.{IsBlockAt, IsPlaced, IsWideAt, at_map, kind_of, placed}
 use Rattle.pb_tasks.proofs.MadeLemmas.{among, chosen, made_cell}
 use Rattle.pb_views.specs.Windows.{number_in}
-use Rattle.pb_walk.specs.Orders.{IsEarlier, StandsBefore, rank_of}
+use Rattle.pb_walk.specs.Orders.{IsEarlier, rank_of}
 use Rattle.pb_walk.specs.declared.stop.Stop.{Stop}
 use Rattle.pb_walk.proofs.WalkLemmas.{walk_rises}
 use Rattle.pb_plan.specs.Tasks.{graph_of}
 use Rattle.pb_plan.proofs.GraphLemmas.{before_in, cell_to}
-use Rattle.pb_plan.proofs.NumberLemmas.{IsNumbered, before, before_mono, number_within, view_at}
+use Rattle.pb_plan.proofs.NumberLemmas.{before_mono, number_within, view_at}
 use Rattle.pb_solution.specs.Solutions.{IsRun, all_matrices, job_order, outcomes_of, own_order, plan_of, steps_by, stop_cell, stops_of}
 use Rattle.pb_solution.proofs.OrderLemmas.{IsAt, made_stop, number_for, order_at, stop_made}
 use Rattle.pb_solution.proofs.OutcomeLemmas.{outcome_by, sides_are}
@@ -199,6 +192,7 @@ module _ (config : ConfigValue) (plans : Plans) (number : ℕ) (t : ProgTransfor
       where
         rank_c : Rank
         rank_c = rank_of job.layer (steps_by a.order.layers job.layer job.rule) s
+
         rank_d : Rank
         rank_d = rank_of job.layer (steps_by a.order.layers job.layer job.rule) (record { piece = l; base = d.matrix; x = d.x; y = d.y })
 

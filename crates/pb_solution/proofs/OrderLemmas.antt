@@ -1,26 +1,24 @@
 -- A task writes its own cells in its order, each once.
-use Rattle.std.proofs.Common.{◌≡◌, ◌∙◌, refl, sym, ap, subst, ℕ, zero, suc, ◌<◌, List, [], ◌∷◌, length, map, slice_get, Some, None, Option, arith}
+use Rattle.std.proofs.Common.{◌≡◌, ◌∙◌, refl, sym, ap, subst, ℕ, zero, suc, List, [], ◌∷◌, map, slice_get, Some, None, Option}
 use Rattle.std.specs.Prelude.{IsSomeAnd, slice_index_or}
 use Rattle.std.specs.List.{Contains}
 use Rattle.std.specs.Option.{option_map_or}
-use Rattle.std.proofs.lemmas.Option.{slice_get_within, slice_get-map}
 use Rattle.pb_linear.specs.declared.boxes.Step.{Step}
 use Rattle.pb_values.specs.Views.{HasPlace}
 use Rattle.pb_values.specs.declared.view.View.{View}
 use Rattle.pb_graph.specs.Nodes.{NodeValue}
 use Rattle.pb_program.specs.Configs.{ConfigValue, IsValid}
 use Rattle.pb_program.specs.Trees.{ProgTransform}
-use Rattle.pb_base.proofs.ListLemmas.{at_in, in_at, in_map, map_in}
+use Rattle.pb_base.proofs.ListLemmas.{in_at, in_map, map_in}
 use Rattle.pb_model.specs.Cells.{Cell}
 use Rattle.pb_check.specs.Orders.{AnalysisValue}
-use Rattle.pb_check.specs.Ranked.{IsMadeCell}
 use Rattle.pb_check.proofs.FirstLemmas.{some_same}
 use Rattle.pb_frame.specs.Choices.{IsInstance}
 use Rattle.pb_frame.specs.Frames.{JobValue}
 use Rattle.pb_frame.specs.declared.part.FramePart.{FramePart}
 use Rattle.pb_frame.proofs.PartLemmas.{of_part}
 use Rattle.pb_links.specs.declared.places.Spot.{Spot}
-use Rattle.pb_taskgraph.specs.Graphs.{EachOnce, TaskValue, cells_of}
+use Rattle.pb_taskgraph.specs.Graphs.{TaskValue, cells_of}
 use Rattle.pb_tasks.specs.Boxes.{spot_of}
 use Rattle.pb_tasks.specs.Made.{IsMadeBy, jobs_for}
 use Rattle.pb_tasks.proofs.BeforeLemmas.{home}
@@ -28,13 +26,12 @@ use Rattle.pb_tasks.proofs.JobLemmas.{at_map, map_at}
 use Rattle.pb_tasks.proofs.MadeLemmas.{made_cell, made_once}
 use Rattle.pb_views.specs.Layouts.{AreInARow}
 use Rattle.pb_views.specs.Windows.{number_in}
-use Rattle.pb_walk.specs.Walks.{IsPlace, walk_of}
 use Rattle.pb_walk.specs.declared.stop.Stop.{Stop}
 use Rattle.pb_walk.proofs.WalkLemmas.{in_walk, walk_in, walked_once}
 use Rattle.pb_plan.specs.Tasks.{AreTasks}
-use Rattle.pb_plan.proofs.GraphLemmas.{FromPart, cell_from, cell_to, graph, numbered}
+use Rattle.pb_plan.proofs.GraphLemmas.{cell_from, cell_to, graph, numbered}
 use Rattle.pb_plan.proofs.NumberLemmas.{IsNumbered, number_once}
-use Rattle.pb_plan.proofs.OnceLemmas.{Once, once_each, once_map}
+use Rattle.pb_plan.proofs.OnceLemmas.{Once, once_map}
 use Rattle.pb_solution.specs.Solutions.{job_order, own_order, steps_by, stop_cell, stops_of}
 
 index_is : {A : Type 0} (xss : List (List A)) (u : ℕ) (xs : List A) → slice_get xss u ≡ Some xs → slice_index_or xss u [] ≡ xs

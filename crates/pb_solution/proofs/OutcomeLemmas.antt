@@ -1,14 +1,13 @@
 -- The outcomes of matrices that stand one after the other.
-use Rattle.std.proofs.Common.{◌≡◌, ◌∙◌, refl, sym, ap, subst, ⊎_elim, ℕ, zero, suc, ◌+◌, ◌-◌, ◌*◌, ◌<◌, ◌≤◌, ℤ, pos, List, [], ◌∷◌, ◌++◌, length, map, drop, take, slice_get, Option, Some, None, arith, length-append}
+use Rattle.std.proofs.Common.{◌≡◌, ◌∙◌, refl, sym, ap, subst, ⊎_elim, ℕ, zero, suc, ◌+◌, ◌-◌, ◌*◌, ◌<◌, ◌≤◌, ℤ, pos, List, [], ◌∷◌, ◌++◌, length, map, drop, slice_get, Some, arith, length-append}
 use Rattle.std.specs.Prelude.{filter, int_le, nat_lt, slice_index_or, true, unwrap_or}
-use Rattle.std.specs.List.{Contains, flat_map, range_with_len}
+use Rattle.std.specs.List.{flat_map, range_with_len}
 use Rattle.std.proofs.lemmas.Bool.{cases_lt}
 use Rattle.std.proofs.lemmas.Bool.Decides.{nat_tests}
 use Rattle.std.proofs.lemmas.Int.{ints}
 use Rattle.std.proofs.lemmas.List.{length-map}
 use Rattle.std.proofs.lemmas.Option.{slice_get_within}
 use Rattle.pb_linear.specs.Numbers.{exact_value}
-use Rattle.pb_values.specs.Views.{cell_of}
 use Rattle.pb_values.specs.declared.outcome.Outcome.{Outcome}
 use Rattle.pb_values.specs.declared.view.View.{View}
 use Rattle.pb_program.specs.Areas.{from_start}
@@ -24,7 +23,7 @@ use Rattle.pb_tasks.proofs.FlatLemmas.{flat_at, start}
 use Rattle.pb_taskgraph.specs.Plans.{outcome_at}
 use Rattle.pb_views.specs.Layouts.{AreInARow, area_at, cell_count, shape_of}
 use Rattle.pb_views.specs.Windows.{number_in}
-use Rattle.pb_plan.proofs.NumberLemmas.{IsNumbered, before, number_is, row_below, whole_at}
+use Rattle.pb_plan.proofs.NumberLemmas.{IsNumbered, before, number_is, row_below}
 use Rattle.pb_solution.specs.Solutions.{all_matrices, outcomes_of}
 
 pub index_at : {A : Type 0} (xs : List A) (k : ℕ) (x d : A) → slice_get xs k ≡ Some x → slice_index_or xs k d ≡ x

@@ -1,6 +1,6 @@
 -- What a run of an instance stands for: the graph of its tasks, the outcomes of its cells, and the order in which each task
 -- writes its cells.
-use Rattle.std.specs.Prelude.{◌≡◌, ◌≢◌, ℕ, List, [], ◌++◌, map, Option, Some, None, slice_get, slice_index_or}
+use Rattle.std.specs.Prelude.{◌≢◌, ℕ, List, [], ◌++◌, map, Option, Some, None, slice_index_or}
 use Rattle.std.specs.List.{All, flat_map}
 use Rattle.pb_linear.specs.declared.boxes.Step.{Step}
 use Rattle.pb_values.specs.declared.outcome.Outcome.{Outcome}
