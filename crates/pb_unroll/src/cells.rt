@@ -34,9 +34,8 @@ impl<'a> Run<'a> {
         let of_rule = &transform.rules[rule as usize];
         let windows = &self.windows[rule as usize];
         let laid = &self.laid;
-        scratch
-            .shown
-            .show(&of_rule.reads, &windows.reads, &laid.views, x, y);
+        let shown = &mut scratch.shown;
+        shown.show(&of_rule.reads, &windows.reads, &laid.views, x, y);
         run_body(
             self.prog,
             self.number,
@@ -44,7 +43,7 @@ impl<'a> Run<'a> {
             &laid.frame.sizes,
             x,
             y,
-            &scratch.shown.views,
+            &shown.views,
             port,
             &mut scratch.body,
         )
