@@ -2,6 +2,7 @@ pub mod IndexLemmas
 pub mod ShownLemmas
 pub mod RunLemmas
 pub mod StopLemmas
+pub mod GiveLemmas
 pub mod OutLemmas
 pub mod RoomLemmas
 pub mod InputLemmas

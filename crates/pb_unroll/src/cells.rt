@@ -30,17 +30,16 @@ impl<'a> Run<'a> {
         ensures walk { scratch.new.walk ≡ scratch.old.walk }
         ensures stays { C.turn port.new ≡ C.turn port.old }
     {
-        let transform = self.transform;
-        let of_rule = &transform.rules[rule as usize];
-        let windows = &self.windows[rule as usize];
-        let laid = &self.laid;
+        let matrices = self.views();
+        let of_rule = self.rule(rule);
+        let windows = self.windows_of(rule);
         let shown = &mut scratch.shown;
-        shown.show(&of_rule.reads, &windows.reads, &laid.views, x, y);
+        shown.show(&of_rule.reads, &windows.reads, matrices, x, y);
         run_body(
-            self.prog,
-            self.number,
+            self.program(),
+            self.transform_number(),
             rule,
-            &laid.frame.sizes,
+            self.sizes(),
             x,
             y,
             &shown.views,
@@ -81,16 +80,12 @@ impl<'a> Run<'a> {
         ensures written { C.turn port.new ≡ after_all (C.turn port.old) }
         ensures fits { fits_run self.now scratch.new }
     {
-        let laid = &self.laid;
-        let job = &laid.frame.jobs[task as usize];
-        let order = self.found.order();
-        let layer = &order.layers[job.layer as usize];
-        let places = &laid.places[task as usize];
-        scratch.walk.begin(&layer.steps, &places.parts);
+        let job = self.job(task);
+        scratch.walk.begin(self.steps(job.layer), self.parts(task));
         while let Some(stop) = scratch.walk.next() {
             let rule = job.parts[stop.piece as usize].rule;
             let outcome = self.cell(rule, stop.x, stop.y, port, scratch);
-            let cell = laid.views[stop.base as usize].place(stop.x, stop.y);
+            let cell = self.views()[stop.base as usize].place(stop.x, stop.y);
             port.write(cell, outcome);
         }
     }
