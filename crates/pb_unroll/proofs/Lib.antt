@@ -3,6 +3,7 @@ pub mod ShownLemmas
 pub mod RunLemmas
 pub mod StopLemmas
 pub mod GiveLemmas
+pub mod CellLemmas
 pub mod OutLemmas
 pub mod RoomLemmas
 pub mod InputLemmas

@@ -5,7 +5,7 @@ ghost use Rattle.pb_model.specs.Equations.{own_outcome};
 ghost use Rattle.pb_eval.specs.CanRun.{at_variables};
 ghost use Rattle.pb_eval.specs.Running.{Gives};
 ghost use Rattle.pb_taskgraph.specs.Turns.{Begins, after_all};
-ghost use Rattle.pb_unroll.specs.Running.{CanRunRule, IsTaskBy, fits_run, given_by, of_sizes, of_transform, run_plan};
+ghost use Rattle.pb_unroll.specs.Running.{CanRunRule, IsRunning, IsTaskBy, fits_run, given_by, of_sizes, of_transform, run_plan};
 
 use crate::run::Run;
 use crate::scratch::RunScratch;
@@ -28,6 +28,7 @@ impl<'a> Run<'a> {
         ensures found { (r : ProgRule) → slice_get (of_transform self.now).rules rule ≡ Some r → Gives (given_by self.now rule r x y (C.turn port.old)) result scratch.new.body }
         ensures fits { fits_run self.now scratch.new }
         ensures walk { scratch.new.walk ≡ scratch.old.walk }
+        ensures running { IsRunning self.now }
         ensures stays { C.turn port.new ≡ C.turn port.old }
     {
         let matrices = self.views();
