@@ -11,7 +11,7 @@ use Rattle.pb_values.specs.declared.outcome.Outcome.TheVariants.{Value, Trapped}
 use Rattle.pb_values.specs.declared.outcome.Trap.{Trap}
 use Rattle.pb_base.proofs.ListLemmas.{in_head}
 use Rattle.pb_program.specs.Areas.{Area, Span, area_by, area_of, from_start, one_place}
-use Rattle.pb_program.specs.Forms.{DeclValue}
+use Rattle.pb_program.specs.Forms.{DeclValue, coordinate_at}
 use Rattle.pb_program.specs.Trees.{ProgRule, ProgTransform}
 use Rattle.pb_program.specs.WellFormed.{Binds, KindFits}
 use Rattle.pb_program.specs.declared.rule.RuleKind.{RuleKind}
@@ -38,7 +38,7 @@ one_if true z w = one_extent z
 one_if false z w = one_extent w
 
 one_side : (sizes : List ℕ) (x y : ℤ) (r : Read) (d : DeclValue) (v : ReadView) → v ≡ view.Cell → ◌≡◌ {A = ℕ × ℕ} (sides_by v (area_by sizes x y v r d)) (1, 1)
-one_side sizes x y r d view.Cell e = let a = one_extent _ in let b = one_if (r.dims == 1) (pos 0) _ in λ i. (a i, b i)
+one_side sizes x y r d view.Cell e = let a = one_extent (coordinate_at r.x0 sizes x y) in let b = one_if (r.dims == 1) (pos 0) (coordinate_at r.y0 sizes x y) in λ i. (a i, b i)
 one_side sizes x y r d view.Row e = absurd (cc)
 one_side sizes x y r d view.Column e = absurd (cc)
 one_side sizes x y r d view.Region e = absurd (cc)
