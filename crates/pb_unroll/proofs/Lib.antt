@@ -4,6 +4,7 @@ pub mod RunLemmas
 pub mod StopLemmas
 pub mod GiveLemmas
 pub mod CellLemmas
+pub mod BlockLemmas
 pub mod OutLemmas
 pub mod RoomLemmas
 pub mod InputLemmas
