@@ -9,6 +9,7 @@ use Rattle.std.proofs.lemmas.Option.{get_or_from_slice_get, slice_get_within}
 use Rattle.pb_values.specs.Cells.{Turn}
 use Rattle.pb_values.specs.Views.{IsInside, cell_of}
 use Rattle.pb_values.specs.declared.outcome.Outcome.{Outcome}
+use Rattle.pb_values.specs.declared.outcome.Outcome.TheVariants.{Value}
 use Rattle.pb_values.specs.declared.outcome.Trap.{Trap}
 use Rattle.pb_values.specs.declared.view.View.{View}
 use Rattle.pb_base.proofs.ListLemmas.{in_at}
@@ -17,7 +18,7 @@ use Rattle.pb_program.specs.declared.rule.RuleKind.{RuleKind}
 use Rattle.pb_program.specs.declared.rule.RuleKind.TheVariants as kind
 use Rattle.pb_region.specs.Boxes.{is_wide}
 use Rattle.pb_model.specs.Cells.{Cell}
-use Rattle.pb_model.specs.Equations.{own_outcome}
+use Rattle.pb_model.specs.Equations.{own_number, own_outcome}
 use Rattle.pb_check.proofs.FirstLemmas.{all_at, some_same}
 use Rattle.pb_eval.specs.CanRun.{at_variables}
 use Rattle.pb_frame.specs.Frames.{JobValue, is_cell_rule, parts_of}
@@ -51,10 +52,12 @@ cell_kind kind.Plan e = absurd (cc)
 
 -- a rule for single cells gives a cell the one number, wherever it lies
 own_same : (t : ProgTransform) (sizes : List ℕ) (r : ProgRule) → r.kind ≡ kind.Cell → (c d : Cell) (g : Result (List ℤ) Trap) → own_outcome t.matrices sizes c r g ≡ own_outcome t.matrices sizes d r g
-own_same t sizes r e c d (Ok numbers) = by r.kind e
+own_same t sizes r e c d (Ok numbers) = ap (λ n. Value n) (by r.kind e)
   where
-    by : (g : RuleKind) → g ≡ kind.Cell → own_outcome t.matrices sizes c (record { kind = g; priority = r.priority; outs = r.outs; reads = r.reads; where_ = r.where_; body = r.body }) (Ok numbers) ≡ own_outcome t.matrices sizes d r (Ok numbers)
-    by g h = refl
+    by : (g : RuleKind) → g ≡ kind.Cell → own_number t.matrices sizes c g r.outs numbers ≡ own_number t.matrices sizes d g r.outs numbers
+    by kind.Cell h = refl
+    by kind.Wide h = absurd (cc)
+    by kind.Plan h = absurd (cc)
 own_same t sizes r e c d (Err u) = refl
 
 module _ (v : RunValue) (is : IsRunning v) (j : ℕ) (job : JobValue) (there : slice_get v.laid.frame.jobs j ≡ Some job) where
@@ -85,7 +88,7 @@ module _ (v : RunValue) (is : IsRunning v) (j : ℕ) (job : JobValue) (there : s
       by (inr w) = subst (λ (b : JobValue). b.layer < length v.found.order.layers) (sym w.1) (slice_get_within v.found.order.layers at.layer at.value at.there)
 
   pub room : HasRoomForJob (bare_prog v.program) v.number sizes v.rooms job
-  room = all_at (HasRoomForJob (bare_prog v.program) v.number sizes v.rooms) v.laid.frame.jobs j job there is.rooms
+  room = all_at (HasRoomForJob (bare_prog v.program) v.number sizes v.rooms) v.laid.frame.jobs j job is.rooms there
 
   order_is : (run_plan v).order j ≡ job_order v.found.nodes v.found.order.layers v.laid.views job
   unfolding run_plan plan_of
@@ -130,7 +133,7 @@ module _ (v : RunValue) (is : IsRunning v) (j : ℕ) (job : JobValue) (there : s
         short : (s.x ≤ 2 ^ 23) × (s.y ≤ 2 ^ 23)
         short =
             let n = at_stop.numbered v is j job there a.done s stop_at in
-            let sides = all_at (HasShortSides sizes) t.matrices s.base n.decl n.there is.run.room.sides in
+            let sides = all_at (HasShortSides sizes) t.matrices s.base n.decl is.run.room.sides n.there in
             (omega (arith, n.on_x, sides.width), omega (arith, n.on_y, sides.height))
 
         -- the rule of its part
@@ -144,7 +147,7 @@ module _ (v : RunValue) (is : IsRunning v) (j : ℕ) (job : JobValue) (there : s
             within = at_stop.within v is j job there a.done s stop_at;
             told = at_stop.told v is j job there a.done s stop_at start turn b a.done (λ h. refl) a.now;
           };
-          room = all_at (λ (q : FramePart). HasRoomFor (bare_prog v.program) v.number sizes v.rooms q.rule) job.parts s.piece (at_stop.part v is j job there a.done s stop_at) part_there room.parts;
+          room = all_at (λ (q : FramePart). HasRoomFor (bare_prog v.program) v.number sizes v.rooms q.rule) job.parts s.piece (at_stop.part v is j job there a.done s stop_at) room.parts part_there;
         })
 
         pub is_cell : job.rule ≡ None → (p : FramePart) → slice_get job.parts s.piece ≡ Some p → (r : ProgRule) → slice_get t.rules p.rule ≡ Some r → r.kind ≡ kind.Cell
@@ -176,7 +179,7 @@ module _ (v : RunValue) (is : IsRunning v) (j : ℕ) (job : JobValue) (there : s
             subst (λ (n : ℕ). slice_get turn.left 0 ≡ Some (n, o)) number
             (may-write (run_plan v) j start b a.done turn a.now (number_in v.laid.views (stop_cell s)) o
             (slice_get_within ((run_plan v).order j) a.done (number_in v.laid.views (stop_cell s)) listed)
-            (get_or_from_slice_get ((run_plan v).order j) a.done 0 (number_in v.laid.views (stop_cell s)) listed)
+            (get_or_from_slice_get ((run_plan v).order j) a.done (number_in v.laid.views (stop_cell s)) 0 listed)
             (given ∙ own_same t sizes r (is_cell none q part_there r there_r) (at_variables s.x s.y) (stop_cell s) (given_by v q.rule r s.x s.y turn) ∙ at_stop.outcome_is v is j job there a.done s stop_at start turn b a.done (λ h. refl) a.now))
 
         pub more : (cell : ℕ) (o : Outcome) → slice_get turn.left 0 ≡ Some (cell, o) → (y : RunScratch) → y.walk.left ≡ drop 1 z.walk.left → fits_run v y → IsAmong v j start (after_write turn cell o) y
