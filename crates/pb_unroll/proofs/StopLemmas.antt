@@ -127,7 +127,7 @@ module _ (v : RunValue) (is : IsRunning v) (j : ℕ) (job : JobValue) (there : s
     -- ---- when so many cells are written
     module _ (start turn : Turn) (b : Begins (run_plan v) j start) (n : ℕ) (when : job.rule ≡ None → n ≡ k) (now : turn ≡ after_some n start) where
       may : (shown : Cell) → Contains (cell_reads v.config no_plans v.number t sizes c) shown → MayRead (run_plan v) j n (number_in views shown)
-      unfolding run_plan
+      unfolding run_plan plan_of
       may shown h = may_read v.config no_plans v.number t v.found sizes v.grain ins views v.graph.tasks is.run j job e k s at n when shown h
 
       pub told : (shown : Cell) → Contains (reads t.matrices sizes (at_variables s.x s.y) rule) shown → IsTrue (is_some (turn.outcomes (number_in views shown)))
@@ -155,7 +155,7 @@ module _ (v : RunValue) (is : IsRunning v) (j : ℕ) (job : JobValue) (there : s
       gives_same x seen = refl
 
       pub outcome_is : own_outcome t.matrices sizes c rule (given_by v part.rule rule s.x s.y turn) ≡ outcome_at (run_plan v).solution (number_in views c)
-      unfolding run_plan
+      unfolding run_plan plan_of
       outcome_is =
           ap (λ os. own_outcome t.matrices sizes c rule (rule_gives t.matrices sizes (at_variables s.x s.y) v.number part.rule rule os)) seen_is
           ∙ sym (is_equation v.config no_plans v.number t v.found sizes v.grain ins views v.graph.tasks is.run c cell ∙ equation_is (map (λ d. outcome_at solution (number_in views d)) (cell_reads v.config no_plans v.number t sizes c))
