@@ -9,7 +9,8 @@ use Rattle.std.proofs.lemmas.Int.{ints}
 use Rattle.std.proofs.lemmas.List.{length-map}
 use Rattle.std.proofs.lemmas.Option.{slice_get-get_or, slice_get_within}
 use Rattle.pb_linear.specs.Numbers.{exact_value}
-use Rattle.pb_linear.specs.Sizes.{leasts_of, sizes_of}
+use Rattle.pb_linear.specs.Sizes.{InRange, leasts_of, sizes_of}
+use Rattle.pb_linear.specs.declared.sizes.Sizes.{Sizes}
 use Rattle.pb_linear.specs.declared.sizes.TheConstants.{SIZE_TOP}
 use Rattle.pb_linear.proofs.SizesLemmas.{in_range_top}
 use Rattle.pb_values.specs.Checked.{fits_i64}
@@ -46,7 +47,11 @@ use Rattle.pb_check.specs.Accepting.{AcceptedValue, IsAccepted}
 use Rattle.pb_check.specs.Orders.{AnalysisValue, IsAnalysis}
 use Rattle.pb_check.specs.Ranked.{OfTransform}
 use Rattle.pb_check.proofs.FirstLemmas.{all_at, some_same}
-use Rattle.pb_entry.specs.Fitting.{AreBound, given, HasSides as HasSidesGiven}
+use Rattle.pb_entry.specs.declared.refusal.Count.{Count}
+use Rattle.pb_entry.specs.declared.refusal.Count.TheVariants.{Cells, Side}
+use Rattle.pb_entry.specs.declared.refusal.RunRefusal.{RunRefusal}
+use Rattle.pb_entry.specs.declared.refusal.RunRefusal.TheVariants.{TooLarge}
+use Rattle.pb_entry.specs.Fitting.{AreBound, AreUnfit, given, HasSides as HasSidesGiven}
 use Rattle.pb_entry.proofs.PairLemmas.{both_at}
 use Rattle.pb_eval.specs.CanRun.{IsRunnable, at_variables, outs_needed}
 use Rattle.pb_eval.specs.Outputs.{numbers_in}
@@ -59,21 +64,22 @@ use Rattle.pb_frame.proofs.FoundLemmas.{instance, numbers_of, of_these, said_of}
 use Rattle.pb_solution.proofs.SmallLemmas.{IsShort, side_small, within_short}
 use Rattle.pb_taskgraph.specs.Graphs.{TaskValue}
 use Rattle.pb_taskgraph.specs.Plans.{IsSmall}
+use Rattle.pb_taskgraph.specs.declared.limits.TheConstants.{MOST_CELLS}
 use Rattle.pb_tasks.specs.Made.{jobs_for}
 use Rattle.pb_tasks.proofs.BeforeLemmas.{home, parts, some_places}
 use Rattle.pb_tasks.proofs.BoxLemmas.{steady}
 use Rattle.pb_tasks.proofs.JobLemmas.{at_map, map_at}
 use Rattle.pb_tasks.proofs.ReadableLemmas.{rule_at}
-use Rattle.pb_views.specs.Layouts.{HasShortSides}
+use Rattle.pb_views.specs.Layouts.{HasShortSides, cell_count}
 use Rattle.pb_views.specs.Windows.{AreSteady}
 use Rattle.pb_plan.specs.Laid.{HasRoom}
-use Rattle.pb_plan.specs.Planned.{PlannedValue}
+use Rattle.pb_plan.specs.Planned.{IsPlanned, PlannedValue}
 use Rattle.pb_plan.specs.Tasks.{AreTasks, IsWithinLimits}
 use Rattle.pb_plan.proofs.LaidLemmas.{jobs_are}
 use Rattle.pb_unroll.specs.Rooms.{HasNeed, HasRoomForJob, HaveNeeds}
 use Rattle.pb_unroll.specs.Running.{IsRunning, given_as, no_plans, outcomes_in}
 use Rattle.pb_unroll.specs.Shown.{AreRuleWindows, HasSteadyViews, WindowsValue}
-use Rattle.pb_unroll.specs.Unrolled.{CanBeRun, IsWhole}
+use Rattle.pb_unroll.specs.Unrolled.{CanBeRun, IsRefused, IsTooLarge, IsWhole}
 use Rattle.pb_unroll.specs.declared.room.Rooms.{Rooms}
 use Rattle.pb_unroll.proofs.IndexLemmas.{at_zip}
 
@@ -98,6 +104,9 @@ there_is p t P h = by (slice_get p t) refl h
 
 pub of_any : (v : AcceptedValue) → IsAccepted v → (t : ℕ) (x : ProgTransform) → slice_get (bare_prog v.program) t ≡ Some x → (P : ProgTransform → AnalysisValue → Type 0) → ((a : AnalysisValue) → P x a) → OfTransform v t P
 of_any v accepted t x there P h = let a = at_zip IsAnalysis (bare_prog v.program) v.found accepted.found t x there in of_these v accepted t x a.0 there a.1 P (h a.0)
+
+of_other : (v : AcceptedValue) → IsAccepted v → (t : ℕ) (x : ProgTransform) → slice_get (bare_prog v.program) t ≡ Some x → (Q P : ProgTransform → AnalysisValue → Type 0) → OfTransform v t Q → ((a : AnalysisValue) → Q x a → P x a) → OfTransform v t P
+of_other v accepted t x there Q P h f = let a = at_zip IsAnalysis (bare_prog v.program) v.found accepted.found t x there in of_these v accepted t x a.0 there a.1 P (f a.0 (said_of v accepted t x a.0 there a.1 Q h))
 
 -- ---- matrices that are given
 fits_small : (z : ℤ) → IsTrue (fits_i64 z) → FitsSigned w64 z
@@ -265,4 +274,71 @@ module _ (v : AcceptedValue) (accepted : IsAccepted v) (config : ConfigValue) (t
     graph = ready.planned.graph;
     windows = of_rules;
     rooms = enough;
+  })
+
+-- ---- matrices that fit a transform at some sizes
+pub record Bound (v : AcceptedValue) (t : ℕ) (x : TransformValue) (inputs : List MatrixValue) (s : Sizes) : Type 0 where
+  pub there : slice_get (bare_prog v.program) t ≡ Some (bare_transform x)
+  pub count : length inputs ≡ x.inputs
+  pub bound : AreBound (bare_transform x) inputs (sizes_of s)
+
+pub is_bound : (v : AcceptedValue) (t : ℕ) (inputs : List MatrixValue) → HasTransform (bare_prog v.program) t (λ transform. length inputs ≡ transform.inputs) → (xs : List TransformValue) → xs ≡ v.program.transforms → (x : TransformValue) → x ≡ get_or xs t x
+    → (ins : List MatrixValue) → ins ≡ inputs → (s : Sizes) → HasTransform (bare_prog v.program) t (λ transform. AreBound transform ins (sizes_of s)) → Bound v t x inputs s
+is_bound v t inputs count xs held x is ins same s bound =
+    let there = transform_here v t (there_is (bare_prog v.program) t (λ transform. length inputs ≡ transform.inputs) count) xs held x is in
+    record {
+      there = there;
+      count = said (bare_prog v.program) t (bare_transform x) there (λ transform. length inputs ≡ transform.inputs) count;
+      bound = subst (λ (l : List MatrixValue). AreBound (bare_transform x) l (sizes_of s)) same (said (bare_prog v.program) t (bare_transform x) there (λ transform. AreBound transform ins (sizes_of s)) bound);
+    }
+
+-- they don't fit it
+pub is_unfit : (v : AcceptedValue) → IsAccepted v → (config : ConfigValue) (t : ℕ) (inputs : List MatrixValue) (grain : ℕ) → HasTransform (bare_prog v.program) t (λ transform. length inputs ≡ transform.inputs)
+    → (xs : List TransformValue) → xs ≡ v.program.transforms → (x : TransformValue) → x ≡ get_or xs t x
+    → (ins : List MatrixValue) → ins ≡ inputs → (e : RunRefusal) → HasTransform (bare_prog v.program) t (λ transform. AreUnfit transform ins e) → IsRefused v config t inputs grain e
+is_unfit v accepted config t inputs grain count xs held x is ins same e unfit =
+    let there = transform_here v t (there_is (bare_prog v.program) t (λ transform. length inputs ≡ transform.inputs) count) xs held x is in
+    of_any v accepted t (bare_transform x) there (λ transform found. AreUnfit transform inputs e ⊎ ((sizes : List ℕ) × AreBound transform inputs sizes × IsTooLarge config t transform found sizes grain e))
+    (λ a. inl (subst (λ (l : List MatrixValue). AreUnfit (bare_transform x) l e) same (said (bare_prog v.program) t (bare_transform x) there (λ transform. AreUnfit transform ins e) unfit)))
+
+module _ (v : AcceptedValue) (accepted : IsAccepted v) (config : ConfigValue) (t : ℕ) (x : TransformValue) (inputs : List MatrixValue) (grain : ℕ) (s : Sizes) (b : Bound v t x inputs s) where
+  pub bound_top : All (λ size. size ≤ SIZE_TOP) s.of
+  bound_top = in_range_top (leasts_of x.ranges) s b.bound.range
+
+  -- a side or the cells pass their limit
+  pub no_room : (decls : List DeclValue) → decls ≡ x.matrices → (what : Count) → ((what ≡ Side) × (All (HasShortSides (sizes_of s)) decls → ⊥)) ⊎ ((what ≡ Cells) × All (HasShortSides (sizes_of s)) decls × (MOST_CELLS < cell_count (sizes_of s) decls))
+      → IsRefused v config t inputs grain (TooLarge what)
+  no_room decls same what why = of_any v accepted t (bare_transform x) b.there (λ transform found. AreUnfit transform inputs (TooLarge what) ⊎ ((sizes : List ℕ) × AreBound transform inputs sizes × IsTooLarge config t transform found sizes grain (TooLarge what)))
+      (λ a. inr (sizes_of s, b.bound, by a why))
+    where
+      by : (a : AnalysisValue) → ((what ≡ Side) × (All (HasShortSides (sizes_of s)) decls → ⊥)) ⊎ ((what ≡ Cells) × All (HasShortSides (sizes_of s)) decls × (MOST_CELLS < cell_count (sizes_of s) decls)) → IsTooLarge config t (bare_transform x) a (sizes_of s) grain (TooLarge what)
+      by a (inl h) = subst (λ w. IsTooLarge config t (bare_transform x) a (sizes_of s) grain (TooLarge w)) (sym h.0) (subst (λ (ds : List DeclValue). All (HasShortSides (sizes_of s)) ds → ⊥) same h.1)
+      by a (inr h) = subst (λ w. IsTooLarge config t (bare_transform x) a (sizes_of s) grain (TooLarge w)) (sym h.0) (subst (λ (ds : List DeclValue). All (HasShortSides (sizes_of s)) ds × (MOST_CELLS < cell_count (sizes_of s) ds)) same (h.1, h.2))
+
+  -- or the tasks or the links
+  pub no_plan : (e : RunRefusal) → OfTransform v t (λ transform found. IsTooLarge config t transform found (sizes_of s) grain e) → IsRefused v config t inputs grain e
+  no_plan e large = of_other v accepted t (bare_transform x) b.there (λ transform found. IsTooLarge config t transform found (sizes_of s) grain e) (λ transform found. AreUnfit transform inputs e ⊎ ((sizes : List ℕ) × AreBound transform inputs sizes × IsTooLarge config t transform found sizes grain e)) large
+      (λ a h. inr (sizes_of s, b.bound, h))
+
+  -- else there is a plan
+  pub has_range : OfTransform v t (λ transform found. InRange (leasts_of transform.ranges) (sizes_of s))
+  has_range = of_any v accepted t (bare_transform x) b.there (λ transform found. InRange (leasts_of transform.ranges) (sizes_of s)) (λ a. b.bound.range)
+
+  abbrev pub Fits : List DeclValue → Type 0
+  Fits decls = All (HasShortSides (sizes_of s)) decls × (cell_count (sizes_of s) decls ≤ MOST_CELLS)
+
+  room_in : (decls : List DeclValue) → decls ≡ x.matrices → Fits decls → HasRoom (sizes_of s) (bare_transform x)
+  room_in decls same h = let k = subst Fits same h in record { sides = k.0; cells = k.1 }
+
+  pub has_room : (decls : List DeclValue) → decls ≡ x.matrices → Fits decls → OfTransform v t (λ transform found. HasRoom (sizes_of s) transform)
+  has_room decls same h = of_any v accepted t (bare_transform x) b.there (λ transform found. HasRoom (sizes_of s) transform) (λ a. room_in decls same h)
+
+  pub can_be_run : (decls : List DeclValue) → decls ≡ x.matrices → Fits decls → HasTransform (bare_prog v.program) t (λ transform. All (λ (r : ProgRule). r.kind ≢ kind.Plan) transform.rules)
+      → (p : PlannedValue) → OfTransform v t (λ transform found. IsPlanned config t s grain transform found p) → OfTransform v t (CanBeRun config t inputs grain p)
+  can_be_run decls same h computes p planned = of_other v accepted t (bare_transform x) b.there (λ transform found. IsPlanned config t s grain transform found p) (CanBeRun config t inputs grain p) planned (λ a is. record {
+    count = b.count;
+    bound = subst (λ (z : Sizes). AreBound (bare_transform x) inputs (sizes_of z)) (sym is.laid.sizes) b.bound;
+    room = subst (λ (z : Sizes). HasRoom (sizes_of z) (bare_transform x)) (sym is.laid.sizes) (room_in decls same h);
+    planned = subst (λ (z : Sizes). IsPlanned config t z grain (bare_transform x) a p) (sym is.laid.sizes) is;
+    computes = said (bare_prog v.program) t (bare_transform x) b.there (λ transform. All (λ (r : ProgRule). r.kind ≢ kind.Plan) transform.rules) computes;
   })
