@@ -1,11 +1,10 @@
 -- What a run is built of: the matrices that are given, the room of its rules, and its facts.
-use Rattle.std.proofs.Common.{◌≡◌, ◌∙◌, refl, sym, ap, subst, inl, inr, ◌⊎◌, ⊎_elim, ℕ, zero, suc, ◌+◌, ◌*◌, ◌<◌, ◌≤◌, ◌^◌, ℤ, pos, negsuc, ◌≤ℤ◌, List, [], ◌∷◌, length, map, get_or, slice_get, Option, Some, None, arith}
+use Rattle.std.proofs.Common.{◌≡◌, ◌∙◌, refl, sym, ap, subst, inl, inr, ◌⊎◌, ℕ, zero, suc, ◌*◌, ◌<◌, ◌≤◌, ◌^◌, ℤ, pos, negsuc, List, [], ◌∷◌, length, map, get_or, slice_get, Option, Some, None, arith}
 use Rattle.std.specs.Prelude.{◌≢◌, FitsSigned, IsSomeAnd, IsTrue}
 use Rattle.std.specs.Int.{w64}
 use Rattle.std.specs.List.{All, AllByRecursion, Contains}
 use Rattle.std.specs.Option.{option_map_or}
 use Rattle.std.proofs.lemmas.Bool.Decides.{nat_tests}
-use Rattle.std.proofs.lemmas.Int.{ints}
 use Rattle.std.proofs.lemmas.List.{length-map}
 use Rattle.std.proofs.lemmas.Option.{slice_get-get_or, slice_get_within}
 use Rattle.pb_linear.specs.Numbers.{exact_value}
@@ -14,8 +13,6 @@ use Rattle.pb_linear.specs.declared.sizes.Sizes.{Sizes}
 use Rattle.pb_linear.specs.declared.sizes.TheConstants.{SIZE_TOP}
 use Rattle.pb_linear.proofs.SizesLemmas.{in_range_top}
 use Rattle.pb_values.specs.Checked.{fits_i64}
-use Rattle.pb_values.specs.Views.{HasPlace}
-use Rattle.pb_values.specs.declared.outcome.Outcome.{Outcome}
 use Rattle.pb_values.specs.declared.outcome.Outcome.TheVariants.{Value}
 use Rattle.pb_values.specs.declared.shape.TheConstants.{MOST_SIDE}
 use Rattle.pb_base.proofs.ListLemmas.{at_in, in_at, in_head, in_tail}
@@ -23,7 +20,6 @@ use Rattle.pb_program.specs.Areas.{Area, area_of, from_start}
 use Rattle.pb_program.specs.Conditions.{Applies}
 use Rattle.pb_program.specs.Configs.{ConfigValue, IsValid}
 use Rattle.pb_program.specs.Forms.{DeclValue}
-use Rattle.pb_program.specs.Rules.{RuleValue}
 use Rattle.pb_program.specs.Transforms.{ProgValue, TransformValue}
 use Rattle.pb_program.specs.Trees.{ProgRule, ProgTransform, bare_prog, bare_rule, bare_transform}
 use Rattle.pb_program.specs.WellFormed.{IsRule, IsTransform, IsWellFormed}
@@ -62,7 +58,6 @@ use Rattle.pb_frame.specs.Frames.{JobValue}
 use Rattle.pb_frame.specs.declared.part.FramePart.{FramePart}
 use Rattle.pb_frame.proofs.FoundLemmas.{instance, numbers_of, of_these, said_of}
 use Rattle.pb_solution.proofs.SmallLemmas.{IsShort, side_small, within_short}
-use Rattle.pb_taskgraph.specs.Graphs.{TaskValue}
 use Rattle.pb_taskgraph.specs.Plans.{IsSmall}
 use Rattle.pb_taskgraph.specs.declared.limits.TheConstants.{MOST_CELLS}
 use Rattle.pb_tasks.specs.Made.{jobs_for}
@@ -77,7 +72,7 @@ use Rattle.pb_plan.specs.Planned.{IsPlanned, PlannedValue}
 use Rattle.pb_plan.specs.Tasks.{AreTasks, IsWithinLimits}
 use Rattle.pb_plan.proofs.LaidLemmas.{jobs_are}
 use Rattle.pb_unroll.specs.Rooms.{HasNeed, HasRoomForJob, HaveNeeds}
-use Rattle.pb_unroll.specs.Running.{IsRunning, given_as, no_plans, outcomes_in}
+use Rattle.pb_unroll.specs.Running.{IsRunning, given_as, outcomes_in}
 use Rattle.pb_unroll.specs.Shown.{AreRuleWindows, HasSteadyViews, WindowsValue}
 use Rattle.pb_unroll.specs.Unrolled.{CanBeRun, IsRefused, IsTooLarge, IsWhole}
 use Rattle.pb_unroll.specs.declared.room.Rooms.{Rooms}
@@ -243,8 +238,8 @@ module _ (v : AcceptedValue) (accepted : IsAccepted v) (config : ConfigValue) (t
           let applies_r = subst (λ (u : ProgRule). Applies transform.matrices u sizes (pos part.rect.x0) (pos part.rect.y0)) (some_same q r (sym at_q ∙ at_r)) applies in (
             can_run (bare_prog v.program) t transform sizes accepted.well_formed h.there ready.room.sides part.rule r at_r computes,
             few_outs (bare_prog v.program) t transform sizes accepted.well_formed h.there ready.room.sides part.rule r at_r computes (at_variables part.rect.x0 part.rect.y0) (λ o d declared at_d.
-            let j = at_in r.outs o declared in
-            output_within (bare_prog v.program) t transform sizes accepted.well_formed accepted.sound h.there part.rule r at_r j.0 o d j.1 at_d ready.bound.range (pos part.rect.x0) (pos part.rect.y0) applies_r),
+                let j = at_in r.outs o declared in
+                output_within (bare_prog v.program) t transform sizes accepted.well_formed accepted.sound h.there part.rule r at_r j.0 o d j.1 at_d ready.bound.range (pos part.rect.x0) (pos part.rect.y0) applies_r),
           )
 
   pub needs : All (HaveNeeds (bare_prog v.program) t sizes) p.laid.frame.jobs
@@ -315,12 +310,7 @@ module _ (v : AcceptedValue) (accepted : IsAccepted v) (config : ConfigValue) (t
       by a (inl h) = subst (λ w. IsTooLarge config t (bare_transform x) a (sizes_of s) grain (TooLarge w)) (sym h.0) (subst (λ (ds : List DeclValue). All (HasShortSides (sizes_of s)) ds → ⊥) same h.1)
       by a (inr h) = subst (λ w. IsTooLarge config t (bare_transform x) a (sizes_of s) grain (TooLarge w)) (sym h.0) (subst (λ (ds : List DeclValue). All (HasShortSides (sizes_of s)) ds × (MOST_CELLS < cell_count (sizes_of s) ds)) same (h.1, h.2))
 
-  -- or the tasks or the links
-  pub no_plan : (e : RunRefusal) → OfTransform v t (λ transform found. IsTooLarge config t transform found (sizes_of s) grain e) → IsRefused v config t inputs grain e
-  no_plan e large = of_other v accepted t (bare_transform x) b.there (λ transform found. IsTooLarge config t transform found (sizes_of s) grain e) (λ transform found. AreUnfit transform inputs e ⊎ ((sizes : List ℕ) × AreBound transform inputs sizes × IsTooLarge config t transform found sizes grain e)) large
-      (λ a h. inr (sizes_of s, b.bound, h))
-
-  -- else there is a plan
+  -- else a plan can be asked for
   pub has_range : OfTransform v t (λ transform found. InRange (leasts_of transform.ranges) (sizes_of s))
   has_range = of_any v accepted t (bare_transform x) b.there (λ transform found. InRange (leasts_of transform.ranges) (sizes_of s)) (λ a. b.bound.range)
 
@@ -333,6 +323,7 @@ module _ (v : AcceptedValue) (accepted : IsAccepted v) (config : ConfigValue) (t
   pub has_room : (decls : List DeclValue) → decls ≡ x.matrices → Fits decls → OfTransform v t (λ transform found. HasRoom (sizes_of s) transform)
   has_room decls same h = of_any v accepted t (bare_transform x) b.there (λ transform found. HasRoom (sizes_of s) transform) (λ a. room_in decls same h)
 
+  -- and where there is one, the run can be built
   pub can_be_run : (decls : List DeclValue) → decls ≡ x.matrices → Fits decls → HasTransform (bare_prog v.program) t (λ transform. All (λ (r : ProgRule). r.kind ≢ kind.Plan) transform.rules)
       → (p : PlannedValue) → OfTransform v t (λ transform found. IsPlanned config t s grain transform found p) → OfTransform v t (CanBeRun config t inputs grain p)
   can_be_run decls same h computes p planned = of_other v accepted t (bare_transform x) b.there (λ transform found. IsPlanned config t s grain transform found p) (CanBeRun config t inputs grain p) planned (λ a is. record {

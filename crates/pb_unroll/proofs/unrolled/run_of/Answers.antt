@@ -80,8 +80,8 @@ invariant_of-result c =
     let rules : c.deref.result.now ≡ t.rules = c.deref.ensures.value ∙ ap (λ (t : TransformValue). t.rules) c.transform.view_is in
     let windows = subst (λ (s : Sizes). AreRuleWindows (sizes_of s) (map bare_rule t.rules) c.in_ok-windows.windows.items) (sizes_last c) (subst (λ (rs : List RuleValue). AreRuleWindows (sizes_of c.frame.inside.sizes) (map bare_rule rs) c.in_ok-windows.windows.items) rules c.in_ok-windows.ensures) in
     let rooms = subst (λ (jobs : List JobValue). All (HasRoomForJob (bare_prog c.args.a.now.program) c.args.t (sizes_of p.laid.frame.sizes) c.rooms_for-rooms.result) jobs) (jobs_last c)
-        (subst (λ (s : Sizes). All (HasRoomForJob (bare_prog c.args.a.now.program) c.args.t (sizes_of s) c.rooms_for-rooms.result) c.deref-2.result.now) (sizes_last c)
-        (subst (λ (q : ProgValue). All (HasRoomForJob (bare_prog q) c.args.t (sizes_of c.frame.inside.sizes) c.rooms_for-rooms.result) c.deref-2.result.now) c.prog-prog.ensures.program c.rooms_for-rooms.ensures)) in
+    (subst (λ (s : Sizes). All (HasRoomForJob (bare_prog c.args.a.now.program) c.args.t (sizes_of s) c.rooms_for-rooms.result) c.deref-2.result.now) (sizes_last c)
+    (subst (λ (q : ProgValue). All (HasRoomForJob (bare_prog q) c.args.t (sizes_of c.frame.inside.sizes) c.rooms_for-rooms.result) c.deref-2.result.now) c.prog-prog.ensures.program c.rooms_for-rooms.ensures)) in
     running c.args.a.now c.prog-prog.ensures.accepted c.args.c.now c.args.t t c.index-analyses-t.result c.requires.valid c.args.inputs.items c.args.grain p (last c) c.prog-prog.result.now c.prog-prog.ensures.program c.requires.whole c.in_ok-windows.windows.items windows c.rooms_for-rooms.result rooms
 
 pub returns : goal.returns

@@ -1,16 +1,16 @@
-use Rattle.std.proofs.Common.{rules, ◌≡◌, ◌∙◌, ◌⊎◌, ap, inl, inr, ⊎_elim}
+use Rattle.std.proofs.Common.{rules, ◌≡◌, ◌∙◌, ◌⊎◌, ap, inr}
 use Rattle.pb_program.specs.Transforms.{ProgValue, TransformValue}
 use Rattle.pb_entry.specs.declared.refusal.RunRefusal.TheVariants.{Memory}
 use Rattle.pb_unroll.specs.Unrolled.{IsRefused}
-use Rattle.pb_unroll.proofs.UnrollLemmas.{Bound, bound_top, can_be_run, has_range, has_room, is_bound, is_unfit, no_plan, no_room}
+use Rattle.pb_unroll.proofs.UnrollLemmas.{Bound, bound_top, can_be_run, has_range, has_room, is_bound, is_unfit, no_room}
 use Rattle.pb_unroll.proofs.unrolled.unroll.Goals as goal
 
 pub returns-in_err-s-clause-refused : goal.returns-in_err-s-clause-refused
 returns-in_err-s-clause-refused c =
     let e = c.in_err-s.field-0.0 in
     let told : (e ≡ Memory) ⊎ IsRefused c.args.a.now c.args.c.now c.args.t c.args.inputs.items c.args.grain e = inr (
-      is_unfit c.args.a.now c.prog.ensures.accepted c.args.c.now c.args.t c.args.inputs.items c.args.grain c.requires.count c.behind-a.inside.transforms.items (ap (λ (p : ProgValue). p.transforms) (c.behind-a.view_is ∙ c.prog.ensures.program)) c.index-transform.result.now c.index-transform.ensures
-      c.deref.result.now c.deref.ensures.value e c.in_err-s.ensures.refused
+    is_unfit c.args.a.now c.prog.ensures.accepted c.args.c.now c.args.t c.args.inputs.items c.args.grain c.requires.count c.behind-a.inside.transforms.items (ap (λ (p : ProgValue). p.transforms) (c.behind-a.view_is ∙ c.prog.ensures.program)) c.index-transform.result.now c.index-transform.ensures
+    c.deref.result.now c.deref.ensures.value e c.in_err-s.ensures.refused
     ) in
     search (rules, told, c.from_residual.ensures)
 
