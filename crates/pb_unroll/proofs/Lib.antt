@@ -10,3 +10,4 @@ pub mod RoomLemmas
 pub mod InputLemmas
 pub mod LimitLemmas
 pub mod WindowLemmas
+pub mod UnrollLemmas

@@ -1,9 +1,11 @@
 -- The run of a transform with the matrices that are given to it, and why there is none.
-use Rattle.std.specs.Prelude.{◌≡◌, ◌⊎◌, ℕ, ◌*◌, ◌<◌, ◌≤◌, IsTrue, List, length, map, Some, slice_get}
+use Rattle.std.specs.Prelude.{◌≡◌, ◌≢◌, ◌⊎◌, ℕ, ◌*◌, ◌<◌, ◌≤◌, IsTrue, List, length, map, Some, slice_get}
 use Rattle.std.specs.List.{All}
+use Rattle.pb_linear.specs.Sizes.{sizes_of}
 use Rattle.pb_values.specs.Checked.{fits_i64}
 use Rattle.pb_program.specs.Configs.{ConfigValue}
-use Rattle.pb_program.specs.Trees.{ProgTransform, bare_prog}
+use Rattle.pb_program.specs.Trees.{ProgRule, ProgTransform, bare_prog}
+use Rattle.pb_program.specs.declared.rule.RuleKind.TheVariants as kind
 use Rattle.pb_matrix.specs.Value.{MatrixValue}
 use Rattle.pb_check.specs.Accepting.{AcceptedValue}
 use Rattle.pb_check.specs.Orders.{AnalysisValue}
@@ -14,6 +16,7 @@ use Rattle.pb_entry.specs.declared.refusal.RunRefusal.{RunRefusal}
 use Rattle.pb_entry.specs.declared.refusal.RunRefusal.TheVariants.{TooLarge}
 use Rattle.pb_links.specs.Links.{link_count}
 use Rattle.pb_plan.specs.Laid.{HasRoom}
+use Rattle.pb_plan.specs.Planned.{IsPlanned, PlannedValue}
 use Rattle.pb_taskgraph.specs.declared.limits.TheConstants.{MOST_CELLS, MOST_LINKS, MOST_TASKS}
 use Rattle.pb_tasks.specs.Boxes.{places_of}
 use Rattle.pb_tasks.specs.Made.{jobs_for}
@@ -50,3 +53,11 @@ module _ (config : ConfigValue) (number : ℕ) (t : ProgTransform) (a : Analysis
 abbrev pub IsRefused : AcceptedValue → ConfigValue → ℕ → List MatrixValue → ℕ → RunRefusal → Type 0
 IsRefused a config number inputs grain e =
     OfTransform a number (λ t found. AreUnfit t inputs e ⊎ ((sizes : List ℕ) × AreBound t inputs sizes × IsTooLarge config number t found sizes grain e))
+
+-- what a run of a transform is made of: matrices that fit it, and its plan at the sizes that they bind
+pub record CanBeRun (config : ConfigValue) (number : ℕ) (inputs : List MatrixValue) (grain : ℕ) (p : PlannedValue) (t : ProgTransform) (a : AnalysisValue) : Type 0 where
+  pub count : length inputs ≡ t.inputs
+  pub bound : AreBound t inputs (sizes_of p.laid.frame.sizes)
+  pub room : HasRoom (sizes_of p.laid.frame.sizes) t
+  pub planned : IsPlanned config number p.laid.frame.sizes grain t a p
+  pub computes : All (λ (r : ProgRule). r.kind ≢ kind.Plan) t.rules

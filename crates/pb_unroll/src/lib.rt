@@ -14,8 +14,10 @@ mod room;
 mod run;
 mod scratch;
 mod shown;
+mod unrolled;
 mod windows;
 
 pub use pb_entry::{Count, RunRefusal, enter};
 pub use run::Run;
 pub use scratch::RunScratch;
+pub use unrolled::unroll;
