@@ -5,7 +5,7 @@ use Rattle.std.specs.List.{All}
 use Rattle.std.specs.Option.{option_map_or}
 use Rattle.std.proofs.lemmas.Bool.{cases_lt}
 use Rattle.std.proofs.lemmas.List.{drop-drop, length-drop, length-map}
-use Rattle.std.proofs.lemmas.Option.{get_or_from_slice_get, slice_get_within}
+use Rattle.std.proofs.lemmas.Option.{get_or_from_slice_get, slice_get_read, slice_get_within}
 use Rattle.pb_values.specs.Cells.{Turn}
 use Rattle.pb_values.specs.Views.{IsInside, cell_of}
 use Rattle.pb_values.specs.declared.outcome.Outcome.{Outcome}
@@ -136,9 +136,12 @@ module _ (v : RunValue) (is : IsRunning v) (j : ℕ) (job : JobValue) (there : s
             let sides = all_at (HasShortSides sizes) t.matrices s.base n.decl is.run.room.sides n.there in
             (omega (arith, n.on_x, sides.width), omega (arith, n.on_y, sides.height))
 
+        read_part : (p : FramePart) → p ≡ get_or job.parts s.piece p → slice_get job.parts s.piece ≡ Some p
+        read_part p is_p = slice_get_read job.parts (length job.parts) s.piece p refl piece_there is_p
+
         -- the rule of its part
-        pub can : (p : FramePart) → slice_get job.parts s.piece ≡ Some p → CanRunRule v p.rule s.x s.y turn
-        can p at_p = subst (λ (q : FramePart). CanRunRule v q.rule s.x s.y turn) (some_same (at_stop.part v is j job there a.done s stop_at) p (sym part_there ∙ at_p)) (record {
+        pub can : (p : FramePart) → p ≡ get_or job.parts s.piece p → CanRunRule v p.rule s.x s.y turn
+        can p is_p = subst (λ (q : FramePart). CanRunRule v q.rule s.x s.y turn) (some_same (at_stop.part v is j job there a.done s stop_at) p (sym part_there ∙ read_part p is_p)) (record {
           rule = at_stop.rule v is j job there a.done s stop_at;
           there = at_stop.rule_there v is j job there a.done s stop_at;
           can = record {
@@ -150,42 +153,47 @@ module _ (v : RunValue) (is : IsRunning v) (j : ℕ) (job : JobValue) (there : s
           room = all_at (λ (q : FramePart). HasRoomFor (bare_prog v.program) v.number sizes v.rooms q.rule) job.parts s.piece (at_stop.part v is j job there a.done s stop_at) room.parts part_there;
         })
 
-        pub is_cell : job.rule ≡ None → (p : FramePart) → slice_get job.parts s.piece ≡ Some p → (r : ProgRule) → slice_get t.rules p.rule ≡ Some r → r.kind ≡ kind.Cell
-        is_cell none p at_p r at_r =
-            let yes : is_cell_rule t p.rule ≡ true = (part_of t v.found.order v.grain parts j job at p (in_at job.parts s.piece p at_p)).cell none in
+        pub is_cell : job.rule ≡ None → (p : FramePart) → p ≡ get_or job.parts s.piece p → (r : ProgRule) → slice_get t.rules p.rule ≡ Some r → r.kind ≡ kind.Cell
+        is_cell none p is_p r at_r =
+            let yes : is_cell_rule t p.rule ≡ true = (part_of t v.found.order v.grain parts j job at p (in_at job.parts s.piece p (read_part p is_p))).cell none in
             cell_kind r.kind (sym (ap (λ (o : Option ProgRule). option_map_or (λ (q : ProgRule). not (is_wide q.kind)) o false) at_r) ∙ yes)
 
         -- its place among the views
         pub base_there : s.base < length v.laid.views
         base_there = let n = at_stop.numbered v is j job there a.done s stop_at in slice_get_within v.laid.views s.base n.view n.at
 
-        pub inside : (w : View) → slice_get v.laid.views s.base ≡ Some w → IsInside w.shape s.x s.y
-        inside w at_w = let n = at_stop.numbered v is j job there a.done s stop_at in subst (λ (q : View). IsInside q.shape s.x s.y) (some_same n.view w (sym n.at ∙ at_w)) (at_stop.inside v is j job there a.done s stop_at)
+        view_at : (w : View) → w ≡ get_or v.laid.views s.base w → (at_stop.numbered v is j job there a.done s stop_at).view ≡ w
+        view_at w is_w = let n = at_stop.numbered v is j job there a.done s stop_at in some_same n.view w (sym n.at ∙ slice_get_read v.laid.views (length v.laid.views) s.base w refl base_there is_w)
 
-        place_is : (w : View) → slice_get v.laid.views s.base ≡ Some w → number_in v.laid.views (stop_cell s) ≡ cell_of w s.x s.y
-        place_is w at_w = let n = at_stop.numbered v is j job there a.done s stop_at in at_stop.place_is v is j job there a.done s stop_at ∙ ap (λ (q : View). cell_of q s.x s.y) (some_same n.view w (sym n.at ∙ at_w))
+        pub inside : (w : View) → w ≡ get_or v.laid.views s.base w → IsInside w.shape s.x s.y
+        inside w is_w = subst (λ (q : View). IsInside q.shape s.x s.y) (view_at w is_w) (at_stop.inside v is j job there a.done s stop_at)
 
-        pub may : job.rule ≡ None → (p : FramePart) → slice_get job.parts s.piece ≡ Some p → (o : Outcome) → ((r : ProgRule) → slice_get t.rules p.rule ≡ Some r → o ≡ own_outcome t.matrices sizes (at_variables s.x s.y) r (given_by v p.rule r s.x s.y turn))
-            → (w : View) → slice_get v.laid.views s.base ≡ Some w → slice_get turn.left 0 ≡ Some (cell_of w s.x s.y, o)
-        may none p at_p o is_o w at_w =
-            let q : FramePart = at_stop.part v is j job there a.done s stop_at in
-            let r : ProgRule = at_stop.rule v is j job there a.done s stop_at in
-            let there_r = at_stop.rule_there v is j job there a.done s stop_at in
-            let same : p ≡ q = some_same p q (sym at_p ∙ part_there) in
-            let there_p : slice_get t.rules p.rule ≡ Some r = ap (λ (u : FramePart). slice_get t.rules u.rule) same ∙ there_r in
-            let given : o ≡ own_outcome t.matrices sizes (at_variables s.x s.y) r (given_by v q.rule r s.x s.y turn) = is_o r there_p ∙ ap (λ (u : FramePart). own_outcome t.matrices sizes (at_variables s.x s.y) r (given_by v u.rule r s.x s.y turn)) same in
-            let listed : slice_get ((run_plan v).order j) a.done ≡ Some (number_in v.laid.views (stop_cell s)) = ap (λ l. slice_get l a.done) order_is ∙ at_map (λ s. number_in v.laid.views (stop_cell s)) stops a.done s stop_at in
-            let number = place_is w at_w in
-            subst (λ (n : ℕ). slice_get turn.left 0 ≡ Some (n, o)) number
-            (may-write (run_plan v) j start b a.done turn a.now (number_in v.laid.views (stop_cell s)) o
-            (slice_get_within ((run_plan v).order j) a.done (number_in v.laid.views (stop_cell s)) listed)
-            (get_or_from_slice_get ((run_plan v).order j) a.done (number_in v.laid.views (stop_cell s)) 0 listed)
-            (given ∙ own_same t sizes r (is_cell none q part_there r there_r) (at_variables s.x s.y) (stop_cell s) (given_by v q.rule r s.x s.y turn) ∙ at_stop.outcome_is v is j job there a.done s stop_at start turn b a.done (λ h. refl) a.now))
+        place_is : (w : View) → w ≡ get_or v.laid.views s.base w → number_in v.laid.views (stop_cell s) ≡ cell_of w s.x s.y
+        place_is w is_w = at_stop.place_is v is j job there a.done s stop_at ∙ ap (λ (q : View). cell_of q s.x s.y) (view_at w is_w)
 
-        pub more : (cell : ℕ) (o : Outcome) → slice_get turn.left 0 ≡ Some (cell, o) → (y : RunScratch) → y.walk.left ≡ drop 1 z.walk.left → fits_run v y → IsAmong v j start (after_write turn cell o) y
-        more cell o first_left y left fits = record {
-          done = a.done + 1;
-          left = λ job2 at2. left ∙ ap (drop 1) (a.left job2 at2) ∙ drop-drop 1 a.done (stops_of v.found.nodes v.found.order.layers job2);
-          now = written (run_plan v) j start b a.done turn a.now cell o first_left;
-          fits = fits;
-        }
+        -- its outcome by its rule is the next that may be written, and then one cell more is
+        module _ (none : job.rule ≡ None) (p : FramePart) (is_p : p ≡ get_or job.parts s.piece p) (o : Outcome)
+            (is_o : (r : ProgRule) → slice_get t.rules p.rule ≡ Some r → o ≡ own_outcome t.matrices sizes (at_variables s.x s.y) r (given_by v p.rule r s.x s.y turn))
+            (w : View) (is_w : w ≡ get_or v.laid.views s.base w) where
+          pub may : slice_get turn.left 0 ≡ Some (cell_of w s.x s.y, o)
+          may =
+              let q : FramePart = at_stop.part v is j job there a.done s stop_at in
+              let r : ProgRule = at_stop.rule v is j job there a.done s stop_at in
+              let there_r = at_stop.rule_there v is j job there a.done s stop_at in
+              let same : p ≡ q = some_same p q (sym (read_part p is_p) ∙ part_there) in
+              let there_p : slice_get t.rules p.rule ≡ Some r = ap (λ (u : FramePart). slice_get t.rules u.rule) same ∙ there_r in
+              let given : o ≡ own_outcome t.matrices sizes (at_variables s.x s.y) r (given_by v q.rule r s.x s.y turn) = is_o r there_p ∙ ap (λ (u : FramePart). own_outcome t.matrices sizes (at_variables s.x s.y) r (given_by v u.rule r s.x s.y turn)) same in
+              let listed : slice_get ((run_plan v).order j) a.done ≡ Some (number_in v.laid.views (stop_cell s)) = ap (λ l. slice_get l a.done) order_is ∙ at_map (λ s. number_in v.laid.views (stop_cell s)) stops a.done s stop_at in
+              subst (λ (n : ℕ). slice_get turn.left 0 ≡ Some (n, o)) (place_is w is_w)
+              (may-write (run_plan v) j start b a.done turn a.now (number_in v.laid.views (stop_cell s)) o
+              (slice_get_within ((run_plan v).order j) a.done (number_in v.laid.views (stop_cell s)) listed)
+              (get_or_from_slice_get ((run_plan v).order j) a.done (number_in v.laid.views (stop_cell s)) 0 listed)
+              (given ∙ own_same t sizes r (is_cell none p is_p r there_p) (at_variables s.x s.y) (stop_cell s) (given_by v q.rule r s.x s.y turn) ∙ at_stop.outcome_is v is j job there a.done s stop_at start turn b a.done (λ h. refl) a.now))
+
+          pub more : (y : RunScratch) → y.walk.left ≡ drop 1 z.walk.left → fits_run v y → IsAmong v j start (after_write turn (cell_of w s.x s.y) o) y
+          more y left fits = record {
+            done = a.done + 1;
+            left = λ job2 at2. left ∙ ap (drop 1) (a.left job2 at2) ∙ drop-drop 1 a.done (stops_of v.found.nodes v.found.order.layers job2);
+            now = written (run_plan v) j start b a.done turn a.now (cell_of w s.x s.y) o may;
+            fits = fits;
+          }

@@ -81,12 +81,13 @@ impl<'a> Run<'a> {
         ensures written { C.turn port.new ≡ after_all (C.turn port.old) }
         ensures fits { fits_run self.now scratch.new }
     {
+        let matrices = self.views();
         let job = self.job(task);
         scratch.walk.begin(self.steps(job.layer), self.parts(task));
         while let Some(stop) = scratch.walk.next() {
             let rule = job.parts[stop.piece as usize].rule;
             let outcome = self.cell(rule, stop.x, stop.y, port, scratch);
-            let cell = self.views()[stop.base as usize].place(stop.x, stop.y);
+            let cell = matrices[stop.base as usize].place(stop.x, stop.y);
             port.write(cell, outcome);
         }
     }
