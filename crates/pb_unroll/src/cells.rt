@@ -85,7 +85,7 @@ impl<'a> Run<'a> {
         let job = self.job(task);
         scratch.walk.begin(self.steps(job.layer), self.parts(task));
         while let Some(stop) = scratch.walk.next() {
-            let rule = job.parts[stop.piece as usize].rule;
+            let rule = job.parts[stop.piece].rule;
             let outcome = self.cell(rule, stop.x, stop.y, port, scratch);
             let cell = matrices[stop.base as usize].place(stop.x, stop.y);
             port.write(cell, outcome);

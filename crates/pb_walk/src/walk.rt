@@ -1,4 +1,4 @@
-ghost use Rattle.std.specs.Prelude.{◌≡◌, ◌+◌, ◌<◌, ◌≤◌, ◌^◌, IfOk, [], length, drop, slice_get, vec_capacity};
+ghost use Rattle.std.specs.Prelude.{◌≡◌, ◌+◌, ◌<◌, ◌≤◌, IfOk, [], length, drop, slice_get, vec_capacity};
 ghost use Rattle.std.specs.List.{All};
 ghost use Rattle.pb_walk.specs.Cursors.{IsBegun, IsBest, spots, steps_of};
 ghost use Rattle.pb_walk.specs.Walks.{walk_of};
@@ -21,7 +21,7 @@ pub struct Walk {
 }
 
 impl Model for Walk {
-    ghost use Rattle.std.specs.Prelude.{◌≤◌, ◌^◌, length, vec_capacity};
+    ghost use Rattle.std.specs.Prelude.{◌≤◌, length, vec_capacity};
     ghost use Rattle.pb_walk.specs.Cursors.{left_of, whole};
     ghost use Rattle.pb_walk.specs.Walks.{WalkValue};
 
@@ -29,7 +29,7 @@ impl Model for Walk {
 
     ghost view = { λ w. record { all = whole w.course w.cursors.items; left = left_of w.course w.cursors.items; room = w.room } };
 
-    ghost invariant = { λ w. (length w.cursors.items ≤ w.room) × (w.room ≤ vec_capacity w.cursors) × (w.room ≤ 2 ^ 32) };
+    ghost invariant = { λ w. (length w.cursors.items ≤ w.room) × (w.room ≤ vec_capacity w.cursors) };
 }
 
 /// The better of the number that was found among the rectangles before this one, and this one.
@@ -76,9 +76,8 @@ fn begin_all(course: Course, cursors: &mut Vec<Cursor>, pieces: &[Spot])
 }
 
 impl Walk {
-    /// Room for the places of so many rectangles, at most 2^32. There is no place before it is begun.
+    /// Room for the places of so many rectangles. There is no place before it is begun.
     pub fn with_room(alloc: Global, pieces: usize) -> Result<Walk, AllocError>
-        requires few { pieces ≤ 2 ^ 32 }
         ensures { IfOk result (λ walk. walk ≡ record { all = []; left = []; room = pieces }) }
     {
         Ok(Walk {
@@ -107,7 +106,7 @@ impl Walk {
         let cursor = self.cursors[k];
         self.cursors[k] = cursor.after(self.course);
         Some(Stop {
-            piece: k as u32,
+            piece: k,
             base: cursor.spot.base,
             x: cursor.x,
             y: cursor.y,
