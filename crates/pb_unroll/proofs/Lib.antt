@@ -3,6 +3,7 @@ pub mod ShownLemmas
 pub mod RunLemmas
 pub mod StopLemmas
 pub mod OutLemmas
+pub mod WholeLemmas
 pub mod RoomLemmas
 pub mod InputLemmas
 pub mod LimitLemmas

@@ -13,6 +13,7 @@ mod room;
 mod run;
 mod scratch;
 mod shown;
+mod wholes;
 mod windows;
 
 pub use pb_entry::{Count, RunRefusal, enter};
