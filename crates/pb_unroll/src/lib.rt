@@ -5,6 +5,7 @@
 //! there is none. The theorem is `unroll`.
 #![tactic(auto)]
 
+mod access;
 mod cells;
 mod inputs;
 mod limits;

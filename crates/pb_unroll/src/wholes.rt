@@ -54,12 +54,11 @@ impl<'a> Run<'a> {
         ensures { (r : ProgRule) (out : Read) → slice_get (of_transform self.now).rules rule ≡ Some r → slice_get r.outs k ≡ Some out
             → result ≡ whole_box (of_transform self.now).matrices (of_sizes self.now) out }
     {
-        let transform = self.transform;
-        let of_rule = &transform.rules[rule as usize];
-        let windows = &self.windows[rule as usize];
-        let laid = &self.laid;
+        let views = self.views();
+        let of_rule = self.rule(rule);
+        let windows = self.windows_of(rule);
         let base = of_rule.outs[k].matrix;
-        let rect = windows.outs[k].rect(&laid.views[base as usize], 0, 0);
+        let rect = windows.outs[k].rect(&views[base as usize], 0, 0);
         Spot { base, rect }
     }
 
@@ -71,10 +70,9 @@ impl<'a> Run<'a> {
             → length numbers ≡ outs_needed (of_transform self.now).matrices (of_sizes self.now) (at_variables 0 0) r
             → result ≡ in_outputs (of_transform self.now).matrices (of_sizes self.now) (stop_cell stop) r.outs numbers }
     {
-        let transform = self.transform;
-        let of_rule = &transform.rules[rule as usize];
+        let outs = self.rule(rule).outs.len();
         let mut first = 0;
-        for k in 0..of_rule.outs.len() {
+        for k in 0..outs {
             let output = self.output_box(rule, k);
             if output.base == stop.base && holds(&output.rect, stop.x, stop.y) {
                 return scratch.body.out(first + place_in(&output.rect, stop.x, stop.y));
@@ -113,12 +111,11 @@ impl<'a> Run<'a> {
         ensures fits { fits_run self.now scratch.new }
     {
         let gave = self.gives(rule, 0, 0, port, scratch);
-        let laid = &self.laid;
-        let places = &laid.places[task as usize];
-        scratch.walk.begin(&[], &places.parts);
+        let views = self.views();
+        scratch.walk.begin(&[], self.parts(task));
         while let Some(stop) = scratch.walk.next() {
             let outcome = self.outcome(rule, gave, stop, scratch);
-            let cell = laid.views[stop.base as usize].place(stop.x, stop.y);
+            let cell = views[stop.base as usize].place(stop.x, stop.y);
             port.write(cell, outcome);
         }
     }
