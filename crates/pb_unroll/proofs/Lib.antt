@@ -4,6 +4,7 @@ pub mod RunLemmas
 pub mod StopLemmas
 pub mod OutLemmas
 pub mod WholeLemmas
+pub mod PickLemmas
 pub mod RoomLemmas
 pub mod InputLemmas
 pub mod LimitLemmas

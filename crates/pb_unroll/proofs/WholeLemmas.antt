@@ -1,5 +1,5 @@
 -- How a rule that makes all its cells at once gives the number of each.
-use Rattle.std.proofs.Common.{◌≡◌, ◌∙◌, refl, sym, ap, subst, ⊎_elim, ℕ, zero, suc, ◌+◌, ◌-◌, ◌*◌, ◌<◌, ◌≤◌, ℤ, pos, List, length, map, slice_get, Option, Some, arith}
+use Rattle.std.proofs.Common.{◌≡◌, ◌∙◌, refl, sym, ap, subst, ⊎_elim, ℕ, zero, suc, ◌+◌, ◌-◌, ◌*◌, ◌<◌, ◌≤◌, ℤ, pos, List, length, map, drop, slice_get, Option, Some, arith}
 use Rattle.std.specs.Prelude.{slice_index_or}
 use Rattle.std.specs.List.{Contains}
 use Rattle.std.specs.Option.{option_map_or}
@@ -17,9 +17,10 @@ use Rattle.pb_program.specs.Trees.{ProgRule, ProgTransform, bare_rule}
 use Rattle.pb_program.specs.declared.view.Read.{Read}
 use Rattle.pb_region.specs.Within.{IsWithin}
 use Rattle.pb_model.specs.Cells.{Cell, natural}
-use Rattle.pb_model.specs.Equations.{shown_area}
+use Rattle.pb_model.specs.Equations.{in_outputs, shown_area, view_sides}
 use Rattle.pb_check.proofs.FirstLemmas.{some_at, some_same}
-use Rattle.pb_eval.specs.CanRun.{at_variables}
+use Rattle.pb_eval.specs.CanRun.{at_variables, outs_needed}
+use Rattle.pb_eval.specs.Outputs.{numbers_in}
 use Rattle.pb_tasks.specs.Boxes.{rect_from, whole_box}
 use Rattle.pb_tasks.proofs.JobLemmas.{at_map}
 use Rattle.pb_views.specs.Windows.{IsRect, IsWindow, shown_by}
@@ -37,7 +38,7 @@ row_before w (suc h) x zero on_x on_y = omega (arith, on_x)
 row_before w (suc h) x (suc y) on_x on_y = omega (arith, row_before w h x y on_x (omega (arith, on_y)))
 row_before w zero x y on_x on_y = absurd (omega (arith, on_y))
 
-swap : (w h : ℕ) → w * h ≡ h * w
+pub swap : (w h : ℕ) → w * h ≡ h * w
 swap zero h = omega arith
 swap (suc w) h = omega (arith, swap w h)
 
@@ -48,6 +49,22 @@ place_below r x y h = omega (arith, row_before (r.x1 - r.x0) (r.y1 - r.y0) (x - 
 pub item_at : {A : Type 0} (xs ys : List A) (k : ℕ) (x : A) → xs ≡ ys → k < length ys → x ≡ slice_index_or xs k x → slice_get ys k ≡ Some x
 item_at xs ys k x e below is = slice_get-get_or ys k x below ∙ ap Some (sym (is ∙ ap (λ l. slice_index_or l k x) e))
 
+-- ---- past some outputs of a rule, and past so many of their numbers
+pub record IsPast (matrices : List DeclValue) (sizes : List ℕ) (c : Cell) (r : ProgRule) (k first : ℕ) : Type 0 where
+  pub rest : (numbers : List ℤ) → in_outputs matrices sizes c r.outs numbers ≡ in_outputs matrices sizes c (drop k r.outs) (drop first numbers)
+  pub sum : first + numbers_in (map (view_sides matrices sizes (at_variables 0 0)) (drop k r.outs)) ≡ outs_needed matrices sizes (at_variables 0 0) r
+
+pub none_past : (matrices : List DeclValue) (sizes : List ℕ) (c : Cell) (r : ProgRule) → IsPast matrices sizes c r 0 0
+none_past matrices sizes c r = record { rest = λ numbers. refl; sum = omega arith }
+
+-- ---- the rule
+module _ (v : RunValue) (k : ℕ) (can : CanGive v k) where
+  pub same_rule : (r : ProgRule) → slice_get (of_transform v).rules k ≡ Some r → can.rule ≡ r
+  same_rule r there = some_same can.rule r (sym can.there ∙ there)
+
+  pub own_outs : (held : RuleValue) → slice_get v.transform.rules k ≡ Some held → held.outs ≡ can.rule.outs
+  own_outs held there = ap (λ (q : ProgRule). q.outs) (sym (same_rule (bare_rule held) (at_map bare_rule v.transform.rules k held there)))
+
 -- ---- where an output lies
 module _ (v : RunValue) (is : IsRunning v) (k : ℕ) (can : CanGive v k) where
   abbrev t : ProgTransform
@@ -55,15 +72,6 @@ module _ (v : RunValue) (is : IsRunning v) (k : ℕ) (can : CanGive v k) where
 
   abbrev sizes : List ℕ
   sizes = of_sizes v
-
-  pub same_rule : (r : ProgRule) → slice_get t.rules k ≡ Some r → can.rule ≡ r
-  same_rule r there = some_same can.rule r (sym can.there ∙ there)
-
-  pub own_rule : (held : RuleValue) → slice_get v.transform.rules k ≡ Some held → can.rule ≡ bare_rule held
-  own_rule held there = same_rule (bare_rule held) (at_map bare_rule v.transform.rules k held there)
-
-  pub own_outs : (held : RuleValue) → slice_get v.transform.rules k ≡ Some held → held.outs ≡ can.rule.outs
-  own_outs held there = ap (λ (q : ProgRule). q.outs) (sym (own_rule held there))
 
   pub windows_there : k < length v.windows
   windows_there = let w = windows_at v is k can.rule can.there in slice_get_within v.windows k w.0 w.1

@@ -9,7 +9,7 @@ ghost use Rattle.pb_eval.specs.Running.{AreLeft, Gives};
 ghost use Rattle.pb_solution.specs.Solutions.{stop_cell};
 ghost use Rattle.pb_taskgraph.specs.Turns.{Begins, after_all};
 ghost use Rattle.pb_tasks.specs.Boxes.{whole_box};
-ghost use Rattle.pb_unroll.specs.Running.{IsTaskBy, fits_run, of_sizes, of_transform, run_plan};
+ghost use Rattle.pb_unroll.specs.Running.{IsRunning, IsTaskBy, fits_run, of_sizes, of_transform, run_plan};
 ghost use Rattle.pb_unroll.specs.Wholes.{CanGive};
 
 use crate::run::Run;
@@ -51,7 +51,8 @@ impl<'a> Run<'a> {
     fn output_box(&self, rule: u32, k: usize) -> Spot
         requires can { CanGive self.now rule }
         requires below { (r : ProgRule) → slice_get (of_transform self.now).rules rule ≡ Some r → k < length r.outs }
-        ensures { (r : ProgRule) (out : Read) → slice_get (of_transform self.now).rules rule ≡ Some r → slice_get r.outs k ≡ Some out
+        ensures running { IsRunning self.now }
+        ensures lies { (r : ProgRule) (out : Read) → slice_get (of_transform self.now).rules rule ≡ Some r → slice_get r.outs k ≡ Some out
             → result ≡ whole_box (of_transform self.now).matrices (of_sizes self.now) out }
     {
         let views = self.views();
