@@ -2,6 +2,8 @@ pub mod IndexLemmas
 pub mod ShownLemmas
 pub mod RunLemmas
 pub mod StopLemmas
+pub mod GiveLemmas
+pub mod CellLemmas
 pub mod OutLemmas
 pub mod WholeLemmas
 pub mod PickLemmas

@@ -94,7 +94,7 @@ module _ (matrices : List DeclValue) (sizes : List ℕ) (views : List View) (lai
       }
 
   module _ (shown : List View) (are : AreShown views x y r.reads windows (length r.reads) shown) where
-    one_shown : (k : ℕ) (v : View) (q : Read) → slice_get shown k ≡ Some v → slice_get r.reads k ≡ Some q → ((v.shape.w, v.shape.h) ≡ view_sides matrices sizes c q) × (view_cells v ≡ map (number_in views) (cells_of_view matrices sizes c q))
+    pub one_shown : (k : ℕ) (v : View) (q : Read) → slice_get shown k ≡ Some v → slice_get r.reads k ≡ Some q → ((v.shape.w, v.shape.h) ≡ view_sides matrices sizes c q) × (view_cells v ≡ map (number_in views) (cells_of_view matrices sizes c q))
     one_shown k v q at_v at_q =
         let w = at_zip (λ q w. IsWindow q sizes w) r.reads windows ws k q at_q in
         let s = are.each k q w.0 v at_q w.1 at_v in

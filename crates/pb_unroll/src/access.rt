@@ -9,7 +9,7 @@ use crate::windows::Windows;
 use pb_frame::Job;
 use pb_linear::{Sizes, Step};
 use pb_links::Spot;
-use pb_program::Rule;
+use pb_program::{Prog, Rule};
 use pb_values::View;
 
 impl<'a> Run<'a> {
@@ -28,6 +28,18 @@ impl<'a> Run<'a> {
         let laid = &self.laid;
         let frame = &laid.frame;
         &frame.sizes
+    }
+
+    pub(crate) fn program(&self) -> &Prog
+        ensures { result.now ≡ self.now.program }
+    {
+        self.prog
+    }
+
+    pub(crate) fn transform_number(&self) -> u32
+        ensures { result ≡ self.now.number }
+    {
+        self.number
     }
 
     /// The rule with this number.

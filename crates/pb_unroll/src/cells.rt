@@ -5,7 +5,7 @@ ghost use Rattle.pb_model.specs.Equations.{own_outcome};
 ghost use Rattle.pb_eval.specs.CanRun.{at_variables};
 ghost use Rattle.pb_eval.specs.Running.{Gives};
 ghost use Rattle.pb_taskgraph.specs.Turns.{Begins, after_all};
-ghost use Rattle.pb_unroll.specs.Running.{CanRunRule, IsTaskBy, fits_run, given_by, of_sizes, of_transform, run_plan};
+ghost use Rattle.pb_unroll.specs.Running.{CanRunRule, IsRunning, IsTaskBy, fits_run, given_by, of_sizes, of_transform, run_plan};
 
 use crate::run::Run;
 use crate::scratch::RunScratch;
@@ -28,19 +28,19 @@ impl<'a> Run<'a> {
         ensures found { (r : ProgRule) → slice_get (of_transform self.now).rules rule ≡ Some r → Gives (given_by self.now rule r x y (C.turn port.old)) result scratch.new.body }
         ensures fits { fits_run self.now scratch.new }
         ensures walk { scratch.new.walk ≡ scratch.old.walk }
+        ensures running { IsRunning self.now }
         ensures stays { C.turn port.new ≡ C.turn port.old }
     {
-        let transform = self.transform;
-        let of_rule = &transform.rules[rule as usize];
-        let windows = &self.windows[rule as usize];
-        let laid = &self.laid;
+        let matrices = self.views();
+        let of_rule = self.rule(rule);
+        let windows = self.windows_of(rule);
         let shown = &mut scratch.shown;
-        shown.show(&of_rule.reads, &windows.reads, &laid.views, x, y);
+        shown.show(&of_rule.reads, &windows.reads, matrices, x, y);
         run_body(
-            self.prog,
-            self.number,
+            self.program(),
+            self.transform_number(),
             rule,
-            &laid.frame.sizes,
+            self.sizes(),
             x,
             y,
             &shown.views,
@@ -81,16 +81,12 @@ impl<'a> Run<'a> {
         ensures written { C.turn port.new ≡ after_all (C.turn port.old) }
         ensures fits { fits_run self.now scratch.new }
     {
-        let laid = &self.laid;
-        let job = &laid.frame.jobs[task as usize];
-        let order = self.found.order();
-        let layer = &order.layers[job.layer as usize];
-        let places = &laid.places[task as usize];
-        scratch.walk.begin(&layer.steps, &places.parts);
+        let job = self.job(task);
+        scratch.walk.begin(self.steps(job.layer), self.parts(task));
         while let Some(stop) = scratch.walk.next() {
             let rule = job.parts[stop.piece as usize].rule;
             let outcome = self.cell(rule, stop.x, stop.y, port, scratch);
-            let cell = laid.views[stop.base as usize].place(stop.x, stop.y);
+            let cell = self.views()[stop.base as usize].place(stop.x, stop.y);
             port.write(cell, outcome);
         }
     }

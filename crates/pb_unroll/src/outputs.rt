@@ -10,7 +10,8 @@ impl<'a> Run<'a> {
         ensures { result.now ≡ drop self.now.transform.inputs self.now.laid.views }
     {
         let transform = self.transform;
-        &self.laid.views[transform.inputs as usize..]
+        let first = transform.inputs as usize;
+        &self.views()[first..]
     }
 
     /// The matrices that it gives.
@@ -19,6 +20,6 @@ impl<'a> Run<'a> {
     {
         let transform = self.transform;
         let first = transform.inputs + transform.middles;
-        &self.laid.views[first as usize..]
+        &self.views()[first as usize..]
     }
 }
