@@ -7,6 +7,7 @@ pub mod CellLemmas
 pub mod OutLemmas
 pub mod WholeLemmas
 pub mod PickLemmas
+pub mod MakeLemmas
 pub mod RoomLemmas
 pub mod InputLemmas
 pub mod LimitLemmas

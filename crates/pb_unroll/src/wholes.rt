@@ -111,8 +111,8 @@ impl<'a> Run<'a> {
         ensures written { C.turn port.new ≡ after_all (C.turn port.old) }
         ensures fits { fits_run self.now scratch.new }
     {
-        let gave = self.gives(rule, 0, 0, port, scratch);
         let views = self.views();
+        let gave = self.gives(rule, 0, 0, port, scratch);
         scratch.walk.begin(&[], self.parts(task));
         while let Some(stop) = scratch.walk.next() {
             let outcome = self.outcome(rule, gave, stop, scratch);
