@@ -1,7 +1,7 @@
 -- A task that makes all cells of a rule at once: the rule can be run, and each stop gets its outcome.
-use Rattle.std.proofs.Common.{◌≡◌, ◌∙◌, refl, sym, ap, subst, ⊎_elim, ◌≢◌, ℕ, zero, suc, ◌+◌, ◌<◌, ◌≤◌, ℤ, pos, true, false, List, [], ◌∷◌, length, map, drop, get_or, slice_get, Option, Some, None, add-zero, arith}
-use Rattle.std.specs.Prelude.{IfOk, IsTrue, Result, Ok, Err, is_some}
-use Rattle.std.specs.List.{All, Contains}
+use Rattle.std.proofs.Common.{◌≡◌, ◌∙◌, refl, sym, ap, subst, ⊎_elim, ◌≢◌, ℕ, ◌+◌, ◌<◌, ◌≤◌, ℤ, pos, true, false, List, [], length, map, drop, slice_get, Some, None, add-zero, arith}
+use Rattle.std.specs.Prelude.{IfOk, Result, Ok, Err}
+use Rattle.std.specs.List.{Contains}
 use Rattle.std.specs.Option.{option_map_or}
 use Rattle.std.proofs.lemmas.Bool.{cases_lt}
 use Rattle.std.proofs.lemmas.List.{drop-drop, length-map}
@@ -30,7 +30,6 @@ use Rattle.pb_frame.specs.Frames.{JobValue, is_wide_rule}
 use Rattle.pb_frame.specs.declared.part.FramePart.{FramePart}
 use Rattle.pb_frame.proofs.PartLemmas.{of_part}
 use Rattle.pb_links.specs.declared.places.Spot.{Spot}
-use Rattle.pb_plan.proofs.NumberLemmas.{IsNumbered}
 use Rattle.pb_solution.specs.Solutions.{plan_of, steps_by, stop_cell, stops_of}
 use Rattle.pb_solution.proofs.MayLemmas.{of_made}
 use Rattle.pb_solution.proofs.OrderLemmas.{made_stop, order_at}

@@ -1,7 +1,7 @@
 -- The number of a cell among those of a rule's outputs, output by output.
-use Rattle.std.proofs.Common.{◌≡◌, ◌∙◌, ◌≢◌, refl, sym, ap, subst, inl, inr, ◌⊎◌, ⊎_elim, ◌↔◌, ℕ, zero, suc, ◌+◌, ◌-◌, ◌*◌, ◌^◌, ◌<◌, ◌≤◌, ℤ, pos, negsuc, ◌-ℤ◌, ◌≤ℤ◌, ◌<ℤ◌, Bool, true, false, ◌&&◌, List, [], ◌∷◌, length, map, drop, slice_get, Option, Some, arith}
+use Rattle.std.proofs.Common.{◌≡◌, ◌∙◌, ◌≢◌, refl, sym, ap, subst, ◌↔◌, ℕ, zero, suc, ◌+◌, ◌-◌, ◌*◌, ◌^◌, ◌<◌, ◌≤◌, ℤ, pos, negsuc, ◌-ℤ◌, ◌≤ℤ◌, ◌<ℤ◌, Bool, true, false, ◌&&◌, List, [], ◌∷◌, length, map, drop, slice_get, Option, Some, arith}
 use Rattle.std.specs.Prelude.{◌==◌, if◌then◌else◌, int_le, int_lt, slice_index_or}
-use Rattle.std.specs.List.{AllByRecursion, Contains}
+use Rattle.std.specs.List.{Contains}
 use Rattle.std.specs.Option.{option_map_or}
 use Rattle.std.proofs.lemmas.Bool.{and_parts, eq-eqb, eqb-true}
 use Rattle.std.proofs.lemmas.Int.{ints}
@@ -28,7 +28,7 @@ use Rattle.pb_check.proofs.FirstLemmas.{all_at, some_at, some_same}
 use Rattle.pb_check.proofs.LawfulLemmas.{both}
 use Rattle.pb_eval.specs.CanRun.{at_variables, outs_needed}
 use Rattle.pb_eval.specs.Outputs.{numbers_in}
-use Rattle.pb_eval.specs.Running.{AreLeft, numbers_of, outs_of}
+use Rattle.pb_eval.specs.Running.{AreLeft, numbers_of}
 use Rattle.pb_eval.specs.declared.scratch.Scratch.{Scratch}
 use Rattle.pb_eval.proofs.RegionLemmas.{outs_are_free, shown_same}
 use Rattle.pb_tasks.specs.Boxes.{rect_from, whole_box}
@@ -36,7 +36,7 @@ use Rattle.pb_tasks.proofs.SpreadLemmas.{in_rect, rect_in}
 use Rattle.pb_views.specs.Layouts.{HasShortSides}
 use Rattle.pb_unroll.specs.Running.{IsRunning, RunValue, of_sizes, of_transform}
 use Rattle.pb_unroll.specs.Wholes.{CanGive}
-use Rattle.pb_unroll.proofs.OutLemmas.{left_index, left_room}
+use Rattle.pb_unroll.proofs.OutLemmas.{left_index}
 use Rattle.pb_unroll.proofs.RunLemmas.{of_program, rule_fits}
 use Rattle.pb_unroll.proofs.WholeLemmas.{IsPast, area_is, area_within, declared, place_below, swap}
 

@@ -1,7 +1,6 @@
 -- How a rule that makes all its cells at once gives the number of each.
-use Rattle.std.proofs.Common.{◌≡◌, ◌∙◌, refl, sym, ap, subst, ⊎_elim, ℕ, zero, suc, ◌+◌, ◌-◌, ◌*◌, ◌<◌, ◌≤◌, ℤ, pos, List, length, map, drop, slice_get, Option, Some, arith}
+use Rattle.std.proofs.Common.{◌≡◌, ◌∙◌, refl, sym, ap, subst, ℕ, zero, suc, ◌+◌, ◌-◌, ◌*◌, ◌<◌, ℤ, pos, List, length, map, drop, slice_get, Some, arith}
 use Rattle.std.specs.Prelude.{slice_index_or}
-use Rattle.std.specs.List.{Contains}
 use Rattle.std.specs.Option.{option_map_or}
 use Rattle.std.proofs.lemmas.Option.{slice_get-get_or, slice_get_within}
 use Rattle.pb_linear.specs.Numbers.{exact_value}
@@ -18,7 +17,7 @@ use Rattle.pb_program.specs.declared.view.Read.{Read}
 use Rattle.pb_region.specs.Within.{IsWithin}
 use Rattle.pb_model.specs.Cells.{Cell, natural}
 use Rattle.pb_model.specs.Equations.{in_outputs, shown_area, view_sides}
-use Rattle.pb_check.proofs.FirstLemmas.{some_at, some_same}
+use Rattle.pb_check.proofs.FirstLemmas.{some_same}
 use Rattle.pb_eval.specs.CanRun.{at_variables, outs_needed}
 use Rattle.pb_eval.specs.Outputs.{numbers_in}
 use Rattle.pb_tasks.specs.Boxes.{rect_from, whole_box}

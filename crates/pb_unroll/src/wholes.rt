@@ -1,4 +1,4 @@
-ghost use Rattle.std.specs.Prelude.{◌≡◌, ◌↔◌, ◌+◌, ◌-◌, ◌*◌, ◌≤◌, ◌<◌, ◌^◌, ℕ, ℤ, pos, IfOk, IsTrue, List, Result, Some, length, slice_get};
+ghost use Rattle.std.specs.Prelude.{◌≡◌, ◌↔◌, ◌+◌, ◌-◌, ◌*◌, ◌≤◌, ◌<◌, ◌^◌, ℤ, IfOk, IsTrue, List, Result, Some, length, slice_get};
 ghost use Rattle.pb_values.specs.Views.{HasPlace};
 ghost use Rattle.pb_values.specs.declared.outcome.Trap.{Trap};
 ghost use Rattle.pb_program.specs.Trees.{ProgRule};

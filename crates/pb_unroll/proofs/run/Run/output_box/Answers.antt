@@ -1,9 +1,7 @@
-use Rattle.std.proofs.Common.{◌≡◌, ◌∙◌, ◌<◌, List, ap, sym, subst, length, slice_get, Some, arith}
+use Rattle.std.proofs.Common.{◌≡◌, ◌∙◌, ap, sym, length, slice_get, arith}
 use Rattle.pb_check.proofs.FirstLemmas.{some_same}
 use Rattle.pb_program.specs.Rules.{RuleValue}
 use Rattle.pb_program.specs.Trees.{ProgRule}
-use Rattle.pb_program.specs.declared.view.Read.{Read}
-use Rattle.pb_views.specs.declared.window.Window.{Window}
 use Rattle.pb_tasks.specs.Boxes.{whole_box}
 use Rattle.pb_unroll.specs.Running.{of_sizes, of_transform}
 use Rattle.pb_unroll.specs.Shown.{WindowsValue}

@@ -1,12 +1,10 @@
-use Rattle.std.proofs.Common.{◌≡◌, ◌∙◌, ◌+◌, ◌<◌, ◌≤◌, Some, None, refl, ap, sym, subst, length, map, slice_get, arith}
+use Rattle.std.proofs.Common.{◌∙◌, refl, ap, sym, subst, length, arith}
 use Rattle.std.proofs.lemmas.List.{length-map}
 use Rattle.std.proofs.lemmas.Option.{slice_get_within}
-use Rattle.pb_values.specs.Views.{IsInside, cell_of}
-use Rattle.pb_frame.specs.Frames.{JobValue}
-use Rattle.pb_eval.specs.Running.{Gives, locals_of, outs_of}
+use Rattle.pb_eval.specs.Running.{Gives}
 use Rattle.pb_tasks.specs.Boxes.{spot_of}
 use Rattle.pb_walk.specs.Walks.{WalkValue}
-use Rattle.pb_unroll.specs.Running.{FitsRooms, given_by}
+use Rattle.pb_unroll.specs.Running.{given_by}
 use Rattle.pb_unroll.proofs.MakeLemmas.{begun, can_give, can_run, cell_is, further, given_count, inside_view, is_there, job_room, may_make, next_stop, no_stop, rule0, there0}
 use Rattle.pb_unroll.proofs.WholeLemmas.{item_at}
 use Rattle.pb_unroll.proofs.run.Run.run_whole.Goals as goal
