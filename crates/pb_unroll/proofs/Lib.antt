@@ -6,6 +6,9 @@ pub mod GiveLemmas
 pub mod CellLemmas
 pub mod BlockLemmas
 pub mod OutLemmas
+pub mod WholeLemmas
+pub mod PickLemmas
+pub mod MakeLemmas
 pub mod RoomLemmas
 pub mod InputLemmas
 pub mod LimitLemmas

@@ -2,3 +2,4 @@ pub mod Rooms
 pub mod Running
 pub mod Shown
 pub mod Unrolled
+pub mod Wholes

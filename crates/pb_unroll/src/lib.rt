@@ -15,7 +15,9 @@ mod run;
 mod scratch;
 mod shown;
 mod unrolled;
+mod wholes;
 mod windows;
+mod work;
 
 pub use pb_entry::{Count, RunRefusal, enter};
 pub use run::Run;
