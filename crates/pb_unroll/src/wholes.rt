@@ -76,7 +76,9 @@ impl<'a> Run<'a> {
         for k in 0..outs {
             let output = self.output_box(rule, k);
             if output.base == stop.base && holds(&output.rect, stop.x, stop.y) {
-                return scratch.body.out(first + place_in(&output.rect, stop.x, stop.y));
+                return scratch
+                    .body
+                    .out(first + place_in(&output.rect, stop.x, stop.y));
             }
             first += count(&output.rect);
         }
@@ -84,7 +86,13 @@ impl<'a> Run<'a> {
     }
 
     /// The outcome of a cell of a rule that makes all its cells at once, where it gave this.
-    fn outcome(&self, rule: u32, gave: Result<u64, Trap>, stop: Stop, scratch: &RunScratch) -> Outcome
+    fn outcome(
+        &self,
+        rule: u32,
+        gave: Result<u64, Trap>,
+        stop: Stop,
+        scratch: &RunScratch,
+    ) -> Outcome
         requires can { CanGive self.now rule }
         requires fits { fits_run self.now scratch.now }
         ensures { (r : ProgRule) (g : Result (List ℤ) Trap) → slice_get (of_transform self.now).rules rule ≡ Some r → Gives g gave scratch.now.body

@@ -84,10 +84,9 @@ loop-stop-preserved g c =
     let rule = rule0 v running c.args.task c.args.rule c.requires.task in
     let there = there0 v running c.args.task c.args.rule c.requires.task in
     let gives = subst (Gives (given_by v c.args.rule rule 0 0 start) c.gives-gave.result) (sym c.loop-stop.invariant.2) (c.gives-gave.ensures.found rule there) in
-    let value = c.outcome-outcome.ensures rule (given_by v c.args.rule rule 0 0 start) there gives (given_count v running c.args.task c.args.rule c.requires.task start c.requires.begins) in
-    (
+    let value = c.outcome-outcome.ensures rule (given_by v c.args.rule rule 0 0 start) there gives (given_count v running c.args.task c.args.rule c.requires.task start c.requires.begins) in (
       further v running c.args.task c.args.rule c.requires.task start c.requires.begins turn c.loop-stop.scratch.walk under c.place-cell.result c.outcome-outcome.result (g.C.CellReader.turn c.write.new.self) c.next.new.self
-      (may_make v running c.args.task c.args.rule c.requires.task start c.requires.begins under.n turn under.now c.in-Some.stop at c.place-cell.result c.outcome-outcome.result (c.place-cell.ensures ∙ cell_is v running c.args.task c.args.rule c.requires.task start c.requires.begins under.n turn under.now c.in-Some.stop at c.index-views-stop.result at_view) value) c.write.ensures (ap (λ (w : WalkValue). w.left) c.next.ensures.rest),
+          (may_make v running c.args.task c.args.rule c.requires.task start c.requires.begins under.n turn under.now c.in-Some.stop at c.place-cell.result c.outcome-outcome.result (c.place-cell.ensures ∙ cell_is v running c.args.task c.args.rule c.requires.task start c.requires.begins under.n turn under.now c.in-Some.stop at c.index-views-stop.result at_view) value) c.write.ensures (ap (λ (w : WalkValue). w.left) c.next.ensures.rest),
       record { walk = omega (arith, c.loop-stop.invariant.1.walk, ap (λ (w : WalkValue). w.room) c.next.ensures.rest); locals = c.loop-stop.invariant.1.locals; outs = c.loop-stop.invariant.1.outs },
       c.loop-stop.invariant.2,
     )
