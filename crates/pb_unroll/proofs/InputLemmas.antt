@@ -12,7 +12,7 @@ use Rattle.pb_taskgraph.specs.Plans.{IsSmall, outcome_at}
 use Rattle.pb_solution.specs.Solutions.{outcomes_of}
 use Rattle.pb_unroll.specs.Running.{given_as, outcomes_in}
 
-index_left : (xs ys : List Outcome) (k : ℕ) (d : Outcome) → k < length xs → slice_index_or (xs ++ ys) k d ≡ slice_index_or xs k d
+pub index_left : (xs ys : List Outcome) (k : ℕ) (d : Outcome) → k < length xs → slice_index_or (xs ++ ys) k d ≡ slice_index_or xs k d
 index_left [] ys k d h = absurd (omega (arith, h))
 index_left (x ∷ xs) ys zero d h = refl
 index_left (x ∷ xs) ys (suc k) d h = index_left xs ys k d (omega (arith, h))

@@ -14,3 +14,4 @@ pub mod InputLemmas
 pub mod LimitLemmas
 pub mod WindowLemmas
 pub mod UnrollLemmas
+pub mod WorkLemmas

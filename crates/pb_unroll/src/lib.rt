@@ -9,7 +9,6 @@ mod access;
 mod cells;
 mod inputs;
 mod limits;
-mod outputs;
 mod room;
 mod run;
 mod scratch;

@@ -34,6 +34,8 @@ impl<'a> Work for Run<'a> {
     }
 
     fn run<C: CellPort>(&self, task: u32, port: &mut C, scratch: &mut RunScratch) {
+        // What is known of a run is told with its views.
+        let _ = self.views();
         match self.job(task).rule {
             None => self.run_block(task, port, scratch),
             Some(rule) => self.run_whole(task, rule, port, scratch),
