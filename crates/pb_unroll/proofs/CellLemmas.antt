@@ -1,5 +1,5 @@
 -- A rule for single cells gives one number.
-use Rattle.std.proofs.Common.{◌≡◌, ◌∙◌, refl, sym, ap, subst, ℕ, ◌+◌, ◌*◌, ◌<◌, ◌≤◌, ℤ, pos, negsuc, ◌+ℤ◌, ◌-ℤ◌, Bool, true, false, List, [], ◌∷◌, length, map, slice_get, Option, Some, None, arith}
+use Rattle.std.proofs.Common.{◌≡◌, ◌∙◌, refl, sym, ap, subst, ℕ, ◌+◌, ◌*◌, ◌<◌, ℤ, pos, ◌+ℤ◌, ◌-ℤ◌, Bool, true, false, List, [], ◌∷◌, length, map, slice_get, Some, arith}
 use Rattle.std.specs.Prelude.{◌==◌, Result, Ok, Err, slice_index_or}
 use Rattle.std.specs.List.{Contains}
 use Rattle.std.specs.Option.{option_map_or}
@@ -10,10 +10,10 @@ use Rattle.pb_values.specs.declared.outcome.Outcome.{Outcome}
 use Rattle.pb_values.specs.declared.outcome.Outcome.TheVariants.{Value, Trapped}
 use Rattle.pb_values.specs.declared.outcome.Trap.{Trap}
 use Rattle.pb_base.proofs.ListLemmas.{in_head}
-use Rattle.pb_program.specs.Areas.{Area, Span, area_by, area_of, from_start, one_place}
+use Rattle.pb_program.specs.Areas.{area_by, area_of, from_start, one_place}
 use Rattle.pb_program.specs.Forms.{DeclValue, coordinate_at}
 use Rattle.pb_program.specs.Trees.{ProgRule, ProgTransform}
-use Rattle.pb_program.specs.WellFormed.{Binds, KindFits}
+use Rattle.pb_program.specs.WellFormed.{KindFits}
 use Rattle.pb_program.specs.declared.rule.RuleKind.{RuleKind}
 use Rattle.pb_program.specs.declared.rule.RuleKind.TheVariants as kind
 use Rattle.pb_program.specs.declared.view.Read.{Read}
@@ -24,7 +24,7 @@ use Rattle.pb_model.specs.Equations.{extent, own_number, own_outcome, shown_area
 use Rattle.pb_check.proofs.FirstLemmas.{some_same}
 use Rattle.pb_eval.specs.CanRun.{at_variables, outs_needed}
 use Rattle.pb_eval.specs.Outputs.{numbers_in}
-use Rattle.pb_eval.specs.Running.{AreLeft, Gives, numbers_of, outs_of}
+use Rattle.pb_eval.specs.Running.{Gives, numbers_of, outs_of}
 use Rattle.pb_eval.specs.declared.scratch.Scratch.{Scratch}
 use Rattle.pb_unroll.specs.Running.{CanRunRule, IsRunning, RunValue, given_by, of_sizes, of_transform, told_of}
 use Rattle.pb_unroll.proofs.OutLemmas.{gives_count, left_index, left_room}

@@ -1,5 +1,5 @@
 -- What a rule gives, over what its reads show.
-use Rattle.std.proofs.Common.{◌≡◌, ◌∙◌, refl, sym, ap, subst, ℕ, ◌+◌, ◌<◌, ◌≤◌, ◌^◌, ℤ, pos, List, [], ◌∷◌, length, map, get_or, slice_get, Option, Some, None, arith}
+use Rattle.std.proofs.Common.{◌≡◌, ◌∙◌, refl, sym, ap, subst, ℕ, ◌<◌, ◌≤◌, pos, List, [], ◌∷◌, length, map, get_or, slice_get, Some, arith}
 use Rattle.std.specs.Prelude.{IsTrue, Result, is_some}
 use Rattle.std.specs.List.{All, Contains, flat_map}
 use Rattle.std.specs.Option.{option_map_or}
@@ -12,21 +12,19 @@ use Rattle.pb_linear.specs.declared.sizes.TheConstants.{SIZE_TOP}
 use Rattle.pb_syntax.specs.declared.limits.TheConstants.{MOST_VIEWS}
 use Rattle.pb_values.specs.Cells.{Turn}
 use Rattle.pb_values.specs.Views.{view_cells}
-use Rattle.pb_values.specs.declared.outcome.Outcome.{Outcome}
 use Rattle.pb_values.specs.declared.outcome.Trap.{Trap}
 use Rattle.pb_values.specs.declared.shape.TheConstants.{MOST_SIDE}
 use Rattle.pb_values.specs.declared.view.View.{View}
 use Rattle.pb_base.proofs.ListLemmas.{at_in, in_at, map_in}
 use Rattle.pb_program.specs.Areas.{Area, area_of, from_start}
-use Rattle.pb_program.specs.Forms.{DeclValue}
 use Rattle.pb_program.specs.Rules.{RuleValue}
 use Rattle.pb_program.specs.Transforms.{ProgValue}
 use Rattle.pb_program.specs.Trees.{ProgRule, ProgTransform, bare_prog, bare_rule}
 use Rattle.pb_program.specs.declared.view.Read.{Read}
 use Rattle.pb_program.specs.declared.view.ReadView.{ReadView}
 use Rattle.pb_program.specs.declared.view.ReadView.TheVariants as view
-use Rattle.pb_model.specs.Cells.{Cell, reads as cells_read}
-use Rattle.pb_model.specs.Equations.{rule_gives, shown_area, sides_by, view_sides}
+use Rattle.pb_model.specs.Cells.{reads as cells_read}
+use Rattle.pb_model.specs.Equations.{rule_gives, shown_area, sides_by}
 use Rattle.pb_check.proofs.FirstLemmas.{all_at, some_at, some_same}
 use Rattle.pb_eval.specs.CanRun.{AreReads, IsRunnable, OfRule, at_variables, locals_needed, outs_needed}
 use Rattle.pb_eval.specs.Running.{Gives}
@@ -38,9 +36,8 @@ use Rattle.pb_views.specs.Layouts.{HasShortSides}
 use Rattle.pb_views.specs.Windows.{number_in}
 use Rattle.pb_views.specs.declared.window.Window.{Window}
 use Rattle.pb_solution.proofs.SmallLemmas.{IsShort, side_small, within_short}
-use Rattle.pb_unroll.specs.Running.{CanRunRule, FitsRooms, IsRunning, RunValue, given_by, of_sizes, of_transform, told_of}
+use Rattle.pb_unroll.specs.Running.{CanRunRule, IsRunning, RunValue, given_by, of_sizes, of_transform, told_of}
 use Rattle.pb_unroll.specs.Shown.{AreShown, AreWindowsOf, AreWithin, WindowsValue}
-use Rattle.pb_unroll.specs.declared.scratch.RunScratch.{RunScratch}
 use Rattle.pb_unroll.proofs.IndexLemmas.{zip_both, zip_length}
 use Rattle.pb_unroll.proofs.RunLemmas.{are_laid, can_run, of_program, read_declared, rule_fits}
 use Rattle.pb_unroll.proofs.ShownLemmas.{all_cells, are_within, one_shown, sides_are}

@@ -1,12 +1,9 @@
 -- Limits on the matrices of a run, matrix by matrix.
-use Rattle.std.proofs.Common.{◌≡◌, ◌∙◌, sym, ap, ℕ, suc, ◌+◌, ◌<◌, ◌≤◌, List, length, take, get_or, slice_get, Some, arith}
-use Rattle.std.specs.List.{All}
+use Rattle.std.proofs.Common.{◌≡◌, ◌∙◌, sym, ap, ℕ, ◌+◌, ◌<◌, ◌≤◌, List, length, take, get_or, Some, arith}
 use Rattle.std.proofs.lemmas.Option.{slice_get-get_or}
-use Rattle.pb_values.specs.declared.shape.Shape.{Shape}
-use Rattle.pb_values.specs.declared.shape.TheConstants.{MOST_SIDE}
 use Rattle.pb_program.specs.Forms.{DeclValue}
 use Rattle.pb_plan.proofs.NumberLemmas.{before_all, before_next}
-use Rattle.pb_views.specs.Layouts.{HasShortSides, area_at, cell_count, shape_of}
+use Rattle.pb_views.specs.Layouts.{area_at, cell_count}
 
 -- the cells of one matrix more
 pub count_next : (sizes : List ℕ) (ds : List DeclValue) (i : ℕ) (d : DeclValue) (sum n : ℕ) → i < length ds → d ≡ get_or ds i d → sum ≡ cell_count sizes (take i ds) → n ≡ area_at sizes d → sum + n ≡ cell_count sizes (take (i + 1) ds)

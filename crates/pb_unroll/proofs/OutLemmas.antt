@@ -1,23 +1,18 @@
 -- The numbers of a rule's outputs, as they stand in a scratch.
-use Rattle.std.proofs.Common.{◌≡◌, ◌∙◌, refl, sym, ap, subst, ⊎_elim, ℕ, zero, suc, ◌+◌, ◌-◌, ◌*◌, ◌<◌, ◌≤◌, ℤ, pos, negsuc, ◌+ℤ◌, ◌-ℤ◌, Bool, true, false, List, [], ◌∷◌, ◌++◌, length, map, take, drop, slice_get, Option, Some, None, arith, length-append}
-use Rattle.std.specs.Prelude.{◌==◌, Result, Ok, Err, slice_index_or}
-use Rattle.std.specs.List.{flat_map, range_with_len}
-use Rattle.std.specs.Option.{option_map_or}
-use Rattle.std.proofs.lemmas.Int.{ints}
+use Rattle.std.proofs.Common.{◌≡◌, ◌∙◌, refl, sym, ap, ℕ, zero, suc, ◌+◌, ◌<◌, ℤ, pos, List, [], ◌∷◌, length, map, take, Option, Some, None, arith, length-append}
+use Rattle.std.specs.Prelude.{Result, Ok, Err, slice_index_or}
 use Rattle.pb_values.specs.declared.outcome.Kind.{Kind}
 use Rattle.pb_values.specs.declared.outcome.Outcome.{Outcome}
-use Rattle.pb_values.specs.declared.outcome.Outcome.TheVariants.{Value, Trapped}
 use Rattle.pb_values.specs.declared.outcome.Trap.{Trap}
 use Rattle.pb_program.specs.Forms.{DeclValue}
 use Rattle.pb_program.specs.Stmts.{stmts}
 use Rattle.pb_program.specs.Trees.{ProgRule}
-use Rattle.pb_program.specs.declared.view.Read.{Read}
 use Rattle.pb_model.specs.Bodies.{Store, left_by, output, output_cells, outputs_from}
 use Rattle.pb_model.specs.Cells.{Cell}
 use Rattle.pb_model.specs.Equations.{after_body, bindings, first_trap, number_in, rule_gives, trap_of, unless_trapped, view_sides}
 use Rattle.pb_eval.specs.CanRun.{outs_needed}
 use Rattle.pb_eval.specs.Outputs.{numbers_in}
-use Rattle.pb_eval.specs.Running.{AreLeft, Gives, numbers_of, outs_of}
+use Rattle.pb_eval.specs.Running.{AreLeft, numbers_of, outs_of}
 use Rattle.pb_eval.specs.declared.scratch.Scratch.{Scratch}
 use Rattle.pb_solution.proofs.OutcomeLemmas.{rows_count}
 

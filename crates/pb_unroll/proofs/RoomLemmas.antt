@@ -1,13 +1,13 @@
 -- Room that is found part by part.
-use Rattle.std.proofs.Common.{◌≡◌, ◌∙◌, sym, ap, subst, ℕ, zero, suc, ◌+◌, ◌-◌, ◌^◌, ◌≤◌, ◌<◌, min, List, [], length, take, get_or, slice_get, Some, arith}
+use Rattle.std.proofs.Common.{◌≡◌, ◌∙◌, sym, ap, subst, ℕ, ◌+◌, ◌-◌, ◌^◌, ◌≤◌, ◌<◌, min, List, length, take, get_or, Some, arith}
 use Rattle.std.specs.List.{All}
 use Rattle.std.proofs.lemmas.Option.{slice_get-get_or}
-use Rattle.pb_program.specs.Trees.{ProgRule, ProgTransform}
-use Rattle.pb_check.proofs.FirstLemmas.{all_at, all_end, more}
+use Rattle.pb_program.specs.Trees.{ProgTransform}
+use Rattle.pb_check.proofs.FirstLemmas.{all_end, more}
 use Rattle.pb_eval.specs.CanRun.{OfRule, at_variables, locals_needed, outs_needed}
 use Rattle.pb_frame.specs.Frames.{JobValue}
 use Rattle.pb_frame.specs.declared.part.FramePart.{FramePart}
-use Rattle.pb_unroll.specs.Rooms.{Grows, HasNeed, HasRoomFor, HasRoomForJob, HaveNeeds}
+use Rattle.pb_unroll.specs.Rooms.{Grows, HasNeed, HasRoomFor, HasRoomForJob}
 use Rattle.pb_unroll.specs.declared.room.Rooms.{Rooms}
 
 all_weaker : {A : Type 0} (P Q : A → Type 0) (xs : List A) → ((x : A) → P x → Q x) → All P xs → All Q xs

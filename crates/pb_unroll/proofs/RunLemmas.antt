@@ -1,29 +1,19 @@
 -- What is known of a run, of its rules and of its tasks.
-use Rattle.std.proofs.Common.{◌≡◌, ◌∙◌, refl, sym, ap, subst, inl, inr, ◌⊎◌, ⊎_elim, ℕ, zero, suc, ◌+◌, ◌<◌, ◌≤◌, ◌^◌, ℤ, pos, Bool, true, false, not, List, [], ◌∷◌, length, map, get_or, slice_get, slice_index, Option, Some, None, arith}
-use Rattle.std.specs.Prelude.{◌≢◌, IsTrue, is_some, slice_index_or}
-use Rattle.std.specs.List.{All, AllZip, Contains, enumerate_from, flat_map}
-use Rattle.std.specs.Option.{option_map_or}
-use Rattle.std.proofs.lemmas.Int.{ints}
-use Rattle.std.proofs.lemmas.Option.{slice_get_within}
-use Rattle.pb_linear.specs.Numbers.{exact_value}
-use Rattle.pb_linear.specs.Sizes.{sizes_of}
-use Rattle.pb_values.specs.Cells.{Turn}
-use Rattle.pb_values.specs.declared.view.View.{View}
-use Rattle.pb_base.proofs.ListLemmas.{at_in, in_at}
-use Rattle.pb_program.specs.Areas.{area_of}
+use Rattle.std.proofs.Common.{◌≡◌, ◌∙◌, ap, subst, ℕ, List, length, slice_get, Some}
+use Rattle.std.specs.Prelude.{◌≢◌}
+use Rattle.std.specs.List.{Contains, enumerate_from, flat_map}
+use Rattle.pb_base.proofs.ListLemmas.{at_in}
 use Rattle.pb_program.specs.Forms.{DeclValue}
-use Rattle.pb_program.specs.Trees.{ProgRule, ProgTransform, bare_prog, bare_rule, bare_transform}
+use Rattle.pb_program.specs.Trees.{ProgRule, ProgTransform, bare_prog}
 use Rattle.pb_program.specs.WellFormed.{IsRule, IsTransform, IsView, variables}
-use Rattle.pb_program.specs.declared.rule.RuleKind.{RuleKind}
 use Rattle.pb_program.specs.declared.rule.RuleKind.TheVariants as kind
 use Rattle.pb_program.specs.declared.view.Read.{Read}
 use Rattle.pb_region.proofs.SmallLemmas.{at_place}
-use Rattle.pb_model.specs.Cells.{Cell}
-use Rattle.pb_check.proofs.FirstLemmas.{all_at, some_at, some_same}
+use Rattle.pb_check.proofs.FirstLemmas.{all_at, some_at}
 use Rattle.pb_eval.specs.CanRun.{IsRunnable}
 use Rattle.pb_eval.proofs.RegionLemmas.{runnable}
 use Rattle.pb_frame.specs.Choices.{IsInstance}
-use Rattle.pb_frame.specs.Frames.{JobValue, in_layer, layer_jobs}
+use Rattle.pb_frame.specs.Frames.{in_layer, layer_jobs}
 use Rattle.pb_frame.specs.declared.part.FramePart.{FramePart}
 use Rattle.pb_plan.proofs.LaidLemmas.{laid}
 use Rattle.pb_tasks.specs.Made.{jobs_for}

@@ -1,18 +1,14 @@
 -- What the views of a rule's reads show.
-use Rattle.std.proofs.Common.{◌≡◌, ◌∙◌, refl, sym, ap, subst, ⊎_elim, ℕ, zero, suc, ◌+◌, ◌<◌, ◌≤◌, ◌^◌, ℤ, pos, List, [], ◌∷◌, ◌++◌, length, map, slice_get, Option, Some, None, arith}
-use Rattle.std.specs.Prelude.{IsTrue, is_some}
-use Rattle.std.specs.List.{All, AllZip, Contains, flat_map}
+use Rattle.std.proofs.Common.{◌≡◌, ◌∙◌, refl, sym, ap, subst, ⊎_elim, ℕ, zero, suc, ◌+◌, ◌<◌, ◌≤◌, pos, List, [], ◌∷◌, ◌++◌, length, map, slice_get, Some, arith}
+use Rattle.std.specs.List.{Contains, flat_map}
 use Rattle.std.specs.Option.{option_map_or}
 use Rattle.std.proofs.lemmas.Bool.{cases_lt}
-use Rattle.std.proofs.lemmas.Int.{ints}
 use Rattle.std.proofs.lemmas.List.{map-append}
 use Rattle.std.proofs.lemmas.Option.{slice_get_within}
 use Rattle.pb_linear.specs.Numbers.{exact_value}
-use Rattle.pb_values.specs.Cells.{Turn}
 use Rattle.pb_values.specs.Views.{view_cells}
-use Rattle.pb_values.specs.declared.shape.TheConstants.{MOST_SIDE}
 use Rattle.pb_values.specs.declared.view.View.{View}
-use Rattle.pb_base.proofs.ListLemmas.{at_in, flat_in, in_at, in_map, map_in}
+use Rattle.pb_base.proofs.ListLemmas.{in_at}
 use Rattle.pb_program.specs.Areas.{Area, area_of, from_start}
 use Rattle.pb_program.specs.Forms.{DeclValue}
 use Rattle.pb_program.specs.Trees.{ProgRule}
@@ -20,15 +16,13 @@ use Rattle.pb_program.specs.declared.view.Read.{Read}
 use Rattle.pb_region.specs.Within.{IsWithin}
 use Rattle.pb_model.specs.Cells.{Cell, cells_of_view, reads}
 use Rattle.pb_model.specs.Equations.{shown_area, sides_by, view_sides}
-use Rattle.pb_check.proofs.FirstLemmas.{all_at, some_at, some_same}
-use Rattle.pb_eval.specs.CanRun.{AreReads, at_variables, shape_sides}
-use Rattle.pb_views.specs.Layouts.{HasShortSides}
-use Rattle.pb_views.specs.Windows.{AreLaid, IsShown, IsWindow, area_cells, number_in, shown_by}
+use Rattle.pb_check.proofs.FirstLemmas.{some_same}
+use Rattle.pb_eval.specs.CanRun.{at_variables, shape_sides}
+use Rattle.pb_views.specs.Windows.{AreLaid, IsShown, IsWindow, number_in, shown_by}
 use Rattle.pb_views.specs.declared.window.Window.{Window}
 use Rattle.pb_views.proofs.WindowLemmas.{cells_are, shown_is}
-use Rattle.pb_solution.proofs.SmallLemmas.{IsShort, side_small, within_short}
-use Rattle.pb_unroll.specs.Shown.{AreShown, AreWindows, AreWithin, CanRun, IsShownFor, LiesWithin}
-use Rattle.pb_unroll.proofs.IndexLemmas.{at_zip, same_flats, same_maps, zip_both, zip_length}
+use Rattle.pb_unroll.specs.Shown.{AreShown, AreWindows, AreWithin, IsShownFor}
+use Rattle.pb_unroll.proofs.IndexLemmas.{at_zip, same_flats, same_maps, zip_both}
 
 -- ---- one view more
 below_or_same : (j k : ℕ) → j < k + 1 → (j < k → ⊥) → j ≡ k

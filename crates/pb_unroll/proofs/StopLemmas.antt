@@ -1,55 +1,46 @@
 -- A stop of a task: the rule of its cell can be run, and what it gives is the cell's outcome.
-use Rattle.std.proofs.Common.{◌≡◌, ◌∙◌, refl, sym, ap, subst, inl, inr, ◌⊎◌, ⊎_elim, ℕ, zero, suc, ◌+◌, ◌<◌, ◌≤◌, ◌^◌, ℤ, pos, Bool, true, false, not, List, [], ◌∷◌, length, map, get_or, slice_get, Option, Some, None, arith}
-use Rattle.std.specs.Prelude.{IsSome, IsTrue, Result, Ok, Err, is_some}
-use Rattle.std.specs.List.{All, Contains}
+use Rattle.std.proofs.Common.{◌≡◌, ◌∙◌, refl, sym, ap, subst, ℕ, ◌<◌, pos, List, [], map, slice_get, Some, None}
+use Rattle.std.specs.Prelude.{IsTrue, is_some}
+use Rattle.std.specs.List.{Contains}
 use Rattle.std.specs.Option.{option_map_or}
-use Rattle.std.proofs.lemmas.Int.{ints}
-use Rattle.std.proofs.lemmas.Option.{get_or_from_slice_get, slice_get_within}
 use Rattle.pb_linear.specs.Numbers.{exact_value}
 use Rattle.pb_values.specs.Cells.{Turn}
 use Rattle.pb_values.specs.Views.{IsInside, cell_of}
 use Rattle.pb_values.specs.declared.outcome.Outcome.{Outcome}
-use Rattle.pb_values.specs.declared.outcome.Trap.{Trap}
 use Rattle.pb_values.specs.declared.shape.Shape.{Shape}
 use Rattle.pb_values.specs.declared.view.View.{View}
-use Rattle.pb_base.proofs.ListLemmas.{in_at}
 use Rattle.pb_program.specs.Areas.{area_of}
-use Rattle.pb_program.specs.Conditions.{Applies}
 use Rattle.pb_program.specs.Forms.{DeclValue}
 use Rattle.pb_program.specs.Trees.{ProgRule, ProgTransform}
 use Rattle.pb_program.specs.declared.rule.RuleKind.{RuleKind}
 use Rattle.pb_program.specs.declared.rule.RuleKind.TheVariants as kind
 use Rattle.pb_program.specs.declared.view.Read.{Read}
-use Rattle.pb_region.specs.Boxes.{is_wide}
 use Rattle.pb_region.specs.Within.{IsWithin}
-use Rattle.pb_model.specs.Calls.{Outcomes, cell_equation, cell_reads, made_by, no_outcome, rule_of}
+use Rattle.pb_model.specs.Calls.{Outcomes, cell_equation, cell_reads, made_by, no_outcome}
 use Rattle.pb_model.specs.Cells.{Cell, reads}
 use Rattle.pb_model.specs.Chosen.{chosen_rule}
 use Rattle.pb_model.specs.Equations.{own_outcome, rule_gives}
 use Rattle.pb_model.specs.Lawful.{IsLawful}
 use Rattle.pb_calls.proofs.InsideLemmas.{view_within}
 use Rattle.pb_check.specs.Ranked.{IsMadeCell}
-use Rattle.pb_check.proofs.FirstLemmas.{all_at, some_same}
+use Rattle.pb_check.proofs.FirstLemmas.{some_same}
 use Rattle.pb_eval.specs.CanRun.{at_variables}
 use Rattle.pb_eval.specs.Shown.{outcome_of}
 use Rattle.pb_frame.specs.Choices.{IsInstance}
-use Rattle.pb_frame.specs.Frames.{JobValue, is_cell_rule}
+use Rattle.pb_frame.specs.Frames.{JobValue}
 use Rattle.pb_frame.specs.declared.part.FramePart.{FramePart}
 use Rattle.pb_plan.proofs.NumberLemmas.{IsNumbered, whole_at}
 use Rattle.pb_taskgraph.specs.Plans.{outcome_at}
 use Rattle.pb_taskgraph.specs.Turns.{Begins, MayRead, after_some}
 use Rattle.pb_taskgraph.proofs.TurnLemmas.{may-read, may-read_some}
 use Rattle.pb_tasks.specs.Made.{IsMadeBy, jobs_for}
-use Rattle.pb_tasks.proofs.BeforeLemmas.{parts}
-use Rattle.pb_tasks.proofs.JobLemmas.{part_of, placed}
 use Rattle.pb_tasks.proofs.MadeLemmas.{chosen, made_rule}
 use Rattle.pb_views.specs.Layouts.{shape_of}
 use Rattle.pb_views.specs.Windows.{number_in}
 use Rattle.pb_walk.specs.declared.stop.Stop.{Stop}
 use Rattle.pb_solution.specs.Solutions.{all_matrices, outcomes_of, plan_of, stop_cell, stops_of}
 use Rattle.pb_solution.proofs.MayLemmas.{cell_number, is_equation, map_same, may_read, of_job, of_made}
-use Rattle.pb_unroll.specs.Running.{CanRunRule, IsRunning, RunValue, given_as, given_by, no_plans, of_sizes, of_transform, run_plan, told_of}
-use Rattle.pb_unroll.specs.Shown.{CanRun}
+use Rattle.pb_unroll.specs.Running.{IsRunning, RunValue, given_as, given_by, no_plans, of_sizes, of_transform, run_plan, told_of}
 use Rattle.pb_unroll.proofs.RunLemmas.{computes, jobs_are}
 
 module _ (v : RunValue) (is : IsRunning v) (j : ℕ) (job : JobValue) (there : slice_get v.laid.frame.jobs j ≡ Some job) where

@@ -1,9 +1,9 @@
 -- The windows of views, one more.
-use Rattle.std.proofs.Common.{◌≡◌, ◌∙◌, sym, ap, subst, ℕ, suc, ◌+◌, ◌<◌, List, [], ◌∷◌, ◌++◌, length, map, take, get_or, add-one}
+use Rattle.std.proofs.Common.{◌≡◌, ◌∙◌, sym, ap, subst, ℕ, ◌+◌, ◌<◌, List, [], ◌∷◌, ◌++◌, length, map, take, get_or, add-one}
 use Rattle.std.proofs.Math.Seq.{take-suc}
 use Rattle.std.proofs.lemmas.List.{map-append}
 use Rattle.pb_program.specs.Rules.{RuleValue}
-use Rattle.pb_program.specs.Trees.{ProgRule, bare_rule}
+use Rattle.pb_program.specs.Trees.{bare_rule}
 use Rattle.pb_program.specs.declared.view.Read.{Read}
 use Rattle.pb_views.specs.Windows.{IsWindow}
 use Rattle.pb_views.specs.declared.window.Window.{Window}

@@ -1,9 +1,8 @@
 -- What a run is as a work.
-use Rattle.std.proofs.Common.{◌≡◌, ◌∙◌, refl, sym, ap, subst, ℕ, zero, suc, ◌+◌, ◌<◌, ◌≤◌, List, [], ◌∷◌, length, take, slice_get, Some, arith}
+use Rattle.std.proofs.Common.{◌≡◌, ◌∙◌, sym, ap, ℕ, zero, suc, ◌<◌, List, [], ◌∷◌, length, take, slice_get, Some, arith}
 use Rattle.std.specs.Prelude.{slice_index_or}
 use Rattle.std.proofs.lemmas.Grind.{flat_map-append}
 use Rattle.std.proofs.lemmas.List.{length-take-le}
-use Rattle.pb_values.specs.declared.outcome.Outcome.{Outcome}
 use Rattle.pb_model.specs.Calls.{Outcomes, call_of, no_outcome}
 use Rattle.pb_program.specs.Trees.{ProgTransform}
 use Rattle.pb_taskgraph.specs.Plans.{IsPlan, outcome_at}
@@ -45,10 +44,14 @@ module _ (v : RunValue) (is : IsRunning v) where
   -- the outcomes of the input cells stand first
   pub input_there : (cell : ℕ) → cell < (run_plan v).graph.inputs → cell < length (outcomes_of ins)
   unfolding run_plan plan_of
-  input_there cell below = omega (arith, below, count_is sizes (take t.inputs t.matrices) ins (record {
-    count = is.run.given.count ∙ sym (length-take-le t.inputs t.matrices (omega (arith, (fits v is).parts)));
-    each = λ m d g decl there. is.run.given.each m d g (taken_at t.inputs t.matrices m d decl) there;
-  }))
+  input_there cell below = omega (
+    arith,
+    below,
+    count_is sizes (take t.inputs t.matrices) ins (record {
+      count = is.run.given.count ∙ sym (length-take-le t.inputs t.matrices (omega (arith, (fits v is).parts)));
+      each = λ m d g decl there. is.run.given.each m d g (taken_at t.inputs t.matrices m d decl) there;
+    }),
+  )
 
   pub input_is : (cell : ℕ) → cell < length (outcomes_of ins) → outcome_at (outcomes_of ins) cell ≡ outcome_at (run_plan v).solution cell
   unfolding run_plan plan_of outcomes_of outcome_at

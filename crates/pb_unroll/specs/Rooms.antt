@@ -1,5 +1,5 @@
 -- How much room the tasks of a run need.
-use Rattle.std.specs.Prelude.{◌≡◌, ℕ, ◌^◌, ◌<◌, ◌≤◌, List, length}
+use Rattle.std.specs.Prelude.{ℕ, ◌^◌, ◌<◌, ◌≤◌, List, length}
 use Rattle.std.specs.List.{All}
 use Rattle.pb_program.specs.Trees.{ProgTransform}
 use Rattle.pb_eval.specs.CanRun.{IsRunnable, OfRule, at_variables, locals_needed, outs_needed}

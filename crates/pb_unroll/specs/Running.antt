@@ -1,5 +1,5 @@
 -- A run of a transform as contracts see it, and what it stands for.
-use Rattle.std.specs.Prelude.{◌≡◌, ℕ, ◌≤◌, ℤ, List, length, map, Option, Some, Result, slice_get}
+use Rattle.std.specs.Prelude.{◌≡◌, ℕ, ◌≤◌, ℤ, List, map, Option, Some, Result, slice_get}
 use Rattle.std.specs.List.{All}
 use Rattle.pb_linear.specs.Sizes.{sizes_of}
 use Rattle.pb_values.specs.Cells.{Turn}

@@ -1,5 +1,5 @@
 -- The views of a rule's reads, for values of its rule variables.
-use Rattle.std.specs.Prelude.{◌≡◌, ℕ, ◌≤◌, ◌^◌, pos, IsTrue, is_some, List, length, map, Some, slice_get}
+use Rattle.std.specs.Prelude.{◌≡◌, ℕ, ◌≤◌, ◌^◌, pos, IsTrue, is_some, List, length, Some, slice_get}
 use Rattle.std.specs.List.{All, AllZip, Contains}
 use Rattle.pb_linear.specs.Numbers.{exact_value}
 use Rattle.pb_values.specs.Cells.{Turn}

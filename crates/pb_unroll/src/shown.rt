@@ -31,7 +31,14 @@ impl Shown {
     }
 
     /// Shows the views of reads for rule variables at which they lie within their matrices.
-    pub(crate) fn show(&mut self, reads: &[Read], windows: &[Window], matrices: &[View], x: u64, y: u64)
+    pub(crate) fn show(
+        &mut self,
+        reads: &[Read],
+        windows: &[Window],
+        matrices: &[View],
+        x: u64,
+        y: u64,
+    )
         requires few { length reads.now ≤ MOST_VIEWS }
         requires windows { length windows.now ≡ length reads.now }
         requires x { x ≤ 2 ^ 23 }

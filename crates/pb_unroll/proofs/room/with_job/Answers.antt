@@ -6,7 +6,7 @@ use Rattle.pb_frame.specs.Frames.{JobValue}
 use Rattle.pb_frame.specs.declared.part.FramePart.{FramePart}
 use Rattle.pb_frame.proofs.ListLemmas.{at_get}
 use Rattle.pb_unroll.specs.Rooms.{HasNeed, HasRoomFor}
-use Rattle.pb_unroll.proofs.RoomLemmas.{all_parts, grows_over, next_part, of_item}
+use Rattle.pb_unroll.proofs.RoomLemmas.{all_parts, grows_over, next_part}
 use Rattle.pb_unroll.proofs.room.with_job.Goals as goal
 
 pub with_part-found-requires-clause-need : goal.with_part-found-requires-clause-need

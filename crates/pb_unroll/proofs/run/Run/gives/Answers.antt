@@ -1,7 +1,7 @@
 use Rattle.std.proofs.Common.{◌≡◌, ◌∙◌, ap, subst, sym, length}
 use Rattle.pb_program.specs.Rules.{RuleValue}
 use Rattle.pb_unroll.specs.Shown.{AreShown, WindowsValue}
-use Rattle.pb_unroll.proofs.GiveLemmas.{as_many, few, gives_told, lie_within, locals_fit, numbers_fit, reads_told, rule_below, runs, sizes_top, windows_below}
+use Rattle.pb_unroll.proofs.GiveLemmas.{as_many, few, gives_told, lie_within, numbers_fit, reads_told, runs, sizes_top, windows_below}
 use Rattle.pb_unroll.proofs.run.Run.gives.Goals as goal
 
 pub windows_of-windows-requires : goal.windows_of-windows-requires

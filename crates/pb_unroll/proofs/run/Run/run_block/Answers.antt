@@ -1,6 +1,6 @@
-use Rattle.std.proofs.Common.{◌≡◌, ◌∙◌, refl, sym, ap, subst, ℕ, ◌<◌, ◌≤◌, List, None, Some, Option, length, map, drop, get_or, slice_get, arith}
+use Rattle.std.proofs.Common.{◌≡◌, ◌∙◌, sym, ap, subst, ℕ, ◌<◌, List, None, Some, length, map, get_or, slice_get, arith}
 use Rattle.std.proofs.lemmas.List.{length-drop, length-map}
-use Rattle.std.proofs.lemmas.Option.{slice_get_read, slice_get_within}
+use Rattle.std.proofs.lemmas.Option.{slice_get_within}
 use Rattle.pb_values.specs.Cells.{Turn}
 use Rattle.pb_values.specs.Views.{cell_of}
 use Rattle.pb_taskgraph.specs.Turns.{after_write}
@@ -8,10 +8,8 @@ use Rattle.pb_values.specs.declared.view.View.{View}
 use Rattle.pb_check.proofs.FirstLemmas.{some_same}
 use Rattle.pb_frame.specs.Frames.{JobValue}
 use Rattle.pb_graph.specs.Layerings.{steps_at}
-use Rattle.pb_linear.specs.declared.boxes.Step.{Step}
 use Rattle.pb_tasks.specs.Boxes.{spot_of}
 use Rattle.pb_walk.specs.Walks.{WalkValue, walk_of}
-use Rattle.pb_walk.specs.declared.stop.Stop.{Stop}
 use Rattle.pb_solution.specs.Solutions.{steps_by, stops_of}
 use Rattle.pb_unroll.proofs.BlockLemmas as block
 use Rattle.pb_unroll.proofs.BlockLemmas.{IsAmong}
@@ -45,7 +43,7 @@ loop-stop-init g c =
 pub index-requires : goal.index-requires
 index-requires g c =
     let below : c.in-Some.stop.piece < length c.job.inside.parts.items = subst (λ (job : JobValue). c.in-Some.stop.piece < length job.parts) (sym c.job.view_is)
-        (block.piece_there c.args.self.now c.views-matrices.ensures.running c.args.task c.job-job.result.now c.job-job.ensures (g.C.CellReader.turn c.args.port.now) c.requires.begins (g.C.CellReader.turn c.loop-stop.port) c.loop-stop.scratch c.loop-stop.invariant c.in-Some.stop c.in-Some.ensures.first) in
+    (block.piece_there c.args.self.now c.views-matrices.ensures.running c.args.task c.job-job.result.now c.job-job.ensures (g.C.CellReader.turn c.args.port.now) c.requires.begins (g.C.CellReader.turn c.loop-stop.port) c.loop-stop.scratch c.loop-stop.invariant c.in-Some.stop c.in-Some.ensures.first) in
     omega (arith, below, c.job.inside.parts.ok)
 
 pub cell-outcome-requires-clause-can : goal.cell-outcome-requires-clause-can
@@ -79,8 +77,8 @@ write-requires g c =
     let job = c.job-job.result.now in
     let none : job.rule ≡ None = ap (λ (b : JobValue). b.rule) (some_same job c.requires.task.job (sym c.job-job.ensures ∙ c.requires.task.there)) ∙ c.requires.task.rule in
     let may = block.may c.args.self.now c.views-matrices.ensures.running c.args.task job c.job-job.ensures (g.C.CellReader.turn c.args.port.now) c.requires.begins (g.C.CellReader.turn c.loop-stop.port) c.loop-stop.scratch c.loop-stop.invariant c.in-Some.stop c.in-Some.ensures.first
-        none c.index.result.now (c.index.ensures ∙ ap (λ (b : JobValue). get_or b.parts c.in-Some.stop.piece c.index.result.now) c.job.view_is) c.cell-outcome.result c.cell-outcome.ensures.outcome
-        c.index-matrices-stop.result (c.index-matrices-stop.is ∙ ap (λ (views : List View). get_or views c.in-Some.stop.base c.index-matrices-stop.result) c.views-matrices.ensures.views) in
+    none c.index.result.now (c.index.ensures ∙ ap (λ (b : JobValue). get_or b.parts c.in-Some.stop.piece c.index.result.now) c.job.view_is) c.cell-outcome.result c.cell-outcome.ensures.outcome
+    c.index-matrices-stop.result (c.index-matrices-stop.is ∙ ap (λ (views : List View). get_or views c.in-Some.stop.base c.index-matrices-stop.result) c.views-matrices.ensures.views) in
     ap (λ (u : Turn). slice_get u.left 0) c.cell-outcome.ensures.stays ∙ may ∙ ap (λ (n : ℕ). Some (n, c.cell-outcome.result)) (sym c.place-cell.ensures)
 
 pub loop-stop-smaller : goal.loop-stop-smaller
@@ -92,10 +90,10 @@ loop-stop-preserved g c =
     let job = c.job-job.result.now in
     let none : job.rule ≡ None = ap (λ (b : JobValue). b.rule) (some_same job c.requires.task.job (sym c.job-job.ensures ∙ c.requires.task.there)) ∙ c.requires.task.rule in
     let more = block.more c.args.self.now c.views-matrices.ensures.running c.args.task job c.job-job.ensures (g.C.CellReader.turn c.args.port.now) c.requires.begins (g.C.CellReader.turn c.loop-stop.port) c.loop-stop.scratch c.loop-stop.invariant c.in-Some.stop c.in-Some.ensures.first
-        none c.index.result.now (c.index.ensures ∙ ap (λ (b : JobValue). get_or b.parts c.in-Some.stop.piece c.index.result.now) c.job.view_is) c.cell-outcome.result c.cell-outcome.ensures.outcome c.index-matrices-stop.result (c.index-matrices-stop.is ∙ ap (λ (views : List View). get_or views c.in-Some.stop.base c.index-matrices-stop.result) c.views-matrices.ensures.views)
-        c.cell-outcome.new.scratch (ap (λ (w : WalkValue). w.left) (c.cell-outcome.ensures.walk ∙ c.next.ensures.rest)) c.cell-outcome.ensures.fits in
+    none c.index.result.now (c.index.ensures ∙ ap (λ (b : JobValue). get_or b.parts c.in-Some.stop.piece c.index.result.now) c.job.view_is) c.cell-outcome.result c.cell-outcome.ensures.outcome c.index-matrices-stop.result (c.index-matrices-stop.is ∙ ap (λ (views : List View). get_or views c.in-Some.stop.base c.index-matrices-stop.result) c.views-matrices.ensures.views)
+    c.cell-outcome.new.scratch (ap (λ (w : WalkValue). w.left) (c.cell-outcome.ensures.walk ∙ c.next.ensures.rest)) c.cell-outcome.ensures.fits in
     let wrote : g.C.CellReader.turn c.write.new.self ≡ after_write (g.C.CellReader.turn c.loop-stop.port) (cell_of c.index-matrices-stop.result c.in-Some.stop.x c.in-Some.stop.y) c.cell-outcome.result =
-        c.write.ensures ∙ ap (λ (u : Turn). after_write u c.place-cell.result c.cell-outcome.result) c.cell-outcome.ensures.stays ∙ ap (λ (n : ℕ). after_write (g.C.CellReader.turn c.loop-stop.port) n c.cell-outcome.result) c.place-cell.ensures in
+    c.write.ensures ∙ ap (λ (u : Turn). after_write u c.place-cell.result c.cell-outcome.result) c.cell-outcome.ensures.stays ∙ ap (λ (n : ℕ). after_write (g.C.CellReader.turn c.loop-stop.port) n c.cell-outcome.result) c.place-cell.ensures in
     subst (λ (u : Turn). IsAmong c.args.self.now c.args.task (g.C.CellReader.turn c.args.port.now) u c.cell-outcome.new.scratch) (sym wrote) more
 
 pub returns-clause-written : goal.returns-clause-written
