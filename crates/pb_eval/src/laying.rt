@@ -13,7 +13,7 @@ use pb_linear::{SIZE_TOP, Sizes};
 use pb_program::{Decl, Read};
 
 impl Scratch {
-    /// Lays one more output behind the others.
+    /// Lays one more output after the others.
     fn lay_one(&mut self, first: u64, width: u64, height: u64)
         requires few { length self.old.spots.items < MOST_VIEWS }
         requires end { first ≡ end_of 0 self.old.spots.items }

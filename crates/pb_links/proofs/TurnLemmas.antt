@@ -16,7 +16,7 @@ use Rattle.pb_links.proofs.LawLemmas.{before-others, before-waits, precedes-wait
 use Rattle.pb_links.proofs.RisingLemmas.{any-in, in-any, rising-picked}
 use Rattle.pb_links.proofs.TableLemmas.{put}
 
--- ---- a number behind some lists
+-- ---- a number after some lists
 pub noted-one : (lists : List (List ℕ)) (k task : ℕ) → k < length lists → IsNoted lists (put lists k task) (k ∷ []) task
 noted-one lists k task inside = record { room = length-set lists k (get_or lists k [] ++ task ∷ []); at_each = each }
   where

@@ -15,7 +15,7 @@ at lists k = slice_index_or lists k []
 abbrev pub has : List ℕ → ℕ → Bool
 has xs n = list_any (λ x. x == n) xs
 
--- a number was put behind the lists of these
+-- a number was put after the lists of these
 pub record IsNoted (old new : List (List ℕ)) (numbers : List ℕ) (task : ℕ) : Type 0 where
   pub room : length new ≡ length old
   pub at_each : (k : ℕ) → at new k ≡ (if has numbers k then at old k ++ task ∷ [] else at old k)

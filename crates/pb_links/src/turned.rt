@@ -33,7 +33,7 @@ fn note_at(lists: &mut Vec<Numbers>, at: u32, task: u32) -> Result<(), AllocErro
     lists[at as usize].push(task)
 }
 
-/// Puts a task behind the lists of these numbers.
+/// Adds a task at the end of the lists of these numbers.
 fn note(lists: &mut Vec<Numbers>, numbers: &[u32], task: u32) -> Result<(), AllocError>
     requires rising { IsRising numbers.now }
     requires inside { All (λ at. at < length lists.old.items) numbers.now }
