@@ -1,4 +1,5 @@
-ghost use Rattle.std.specs.Prelude.{◌≡◌, ◌*◌, ◌≤◌, Ok, Err, IfOk, length};
+ghost use Rattle.std.specs.Prelude.{◌≡◌, ◌*◌, ◌≤◌, Ok, Err, IfOk, IsTrue, length, All};
+ghost use Rattle.pb_values.specs.Checked.{fits_i64};
 ghost use Rattle.pb_matrix.specs.Value.{MatrixValue};
 ghost use Rattle.pb_matrix.specs.Words.{is_gap, words};
 ghost use Rattle.pb_matrix.specs.Header.{IsMatrixShape, cell_count};
@@ -68,6 +69,7 @@ pub fn read_matrix(alloc: Global, bytes: &[u8]) -> Result<Matrix, MatrixRefusal>
 
     ensures shape { IfOk result (λ matrix. IsMatrixShape matrix.shape) }
     ensures cells { IfOk result (λ matrix. length matrix.cells ≡ cell_count matrix.shape) }
+    ensures fits { IfOk result (λ matrix. All (λ z. IsTrue (fits_i64 z)) matrix.cells) }
 {
     read_text(alloc, bytes)
 }
