@@ -15,3 +15,4 @@ pub mod LimitLemmas
 pub mod WindowLemmas
 pub mod UnrollLemmas
 pub mod WorkLemmas
+pub mod SyncLemmas

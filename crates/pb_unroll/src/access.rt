@@ -1,4 +1,4 @@
-ghost use Rattle.std.specs.Prelude.{◌≡◌, ◌<◌, Some, length, map, slice_get};
+ghost use Rattle.std.specs.Prelude.{◌≡◌, ◌<◌, ◌+◌, Some, drop, length, map, slice_get};
 ghost use Rattle.pb_frame.specs.Frames.{JobValue};
 ghost use Rattle.pb_graph.specs.Layerings.{steps_at};
 ghost use Rattle.pb_tasks.specs.Boxes.{spot_of};
@@ -9,10 +9,37 @@ use crate::windows::Windows;
 use pb_frame::Job;
 use pb_linear::{Sizes, Step};
 use pb_links::Spot;
-use pb_program::{Prog, Rule};
+use pb_program::{Prog, Rule, Transform};
 use pb_values::View;
 
 impl<'a> Run<'a> {
+    /// The transform that is run.
+    pub fn transform(&self) -> &Transform
+        ensures { result.now ≡ self.now.transform }
+    {
+        self.transform
+    }
+
+    /// The matrices after `through` and then those after `to`, in declared order, as views of cells.
+    pub fn watched(&self) -> &[View]
+        ensures views { result.now ≡ drop self.now.transform.inputs self.now.laid.views }
+        ensures running { IsRunning self.now }
+    {
+        let transform = self.transform;
+        let views = self.views();
+        &views[transform.inputs as usize..]
+    }
+
+    /// The matrices after `to`, in declared order, as views of cells.
+    pub fn outputs(&self) -> &[View]
+        ensures views { result.now ≡ drop (self.now.transform.inputs + self.now.transform.middles) self.now.laid.views }
+        ensures running { IsRunning self.now }
+    {
+        let transform = self.transform;
+        let views = self.views();
+        &views[transform.inputs as usize + transform.middles as usize..]
+    }
+
     /// The matrices as views of cells.
     pub(crate) fn views(&self) -> &[View]
         ensures views { result.now ≡ self.now.laid.views }

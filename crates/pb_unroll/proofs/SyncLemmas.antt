@@ -1,0 +1,37 @@
+-- A run may be shared by threads.
+use base.Fml.{Lft}
+use denote.Param.Send.{IsSync, shr_sync, view_sync, plain_sync}
+use denote.Param.SendFields.{as_row_sync, declared_sync}
+use denote.Struct.Field.{u32-field, u64-field}
+use Rattle.std.proofs.Crossing.{Vec-sync}
+use Rattle.pb_check.proofs.orders.Analysis.TheSendSync as analysis
+use Rattle.pb_matrix.proofs.matrix.Matrix.TheSendSync as matrix
+use Rattle.pb_plan.proofs.laid.Laid.TheSendSync as laid
+use Rattle.pb_program.proofs.SyncLemmas.{program_sync, transform_sync}
+use Rattle.pb_program.proofs.config.Config.TheSendSync as config
+use Rattle.pb_taskgraph.proofs.graph.TaskGraph.TheSendSync as graph
+use Rattle.pb_unroll.proofs.room.Rooms.TheSendSync as rooms
+use Rattle.pb_unroll.proofs.windows.Windows.TheSendSync as windows
+use Rattle.pb_unroll.specs.contracts.run.Run.{the_row}
+use Rattle.pb_unroll.specs.contracts.run.Run.TheInside as inside
+
+pub run_sync : (κ : Lft) → IsSync (the_row κ)
+run_sync κ = view_sync (inside.the_row κ) _ _ _ _ (declared_sync (inside.the_type κ) (
+  as_row_sync _ (shr_sync _ κ _ program_sync),
+  (
+    as_row_sync _ (shr_sync _ κ _ config.the_sync),
+    (
+      as_row_sync u32-field (plain_sync _ _ _ _ _),
+      (
+        as_row_sync _ (shr_sync _ κ _ transform_sync),
+        (
+          as_row_sync _ (shr_sync _ κ _ analysis.the_sync),
+          (
+            as_row_sync u64-field (plain_sync _ _ _ _ _),
+            (Vec-sync _ matrix.the_sync, (laid.the_sync, (graph.the_sync, (Vec-sync _ windows.the_sync, (rooms.the_sync, tt))))),
+          ),
+        ),
+      ),
+    ),
+  ),
+))
