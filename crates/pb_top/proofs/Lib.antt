@@ -1,8 +1,4 @@
-pub mod TokenLemmas
-pub mod ProgramLemmas
-pub mod FrameLemmas
 pub mod SinkLemmas
-pub mod SumLemmas
 pub mod StepLemmas
 pub mod FileLemmas
 pub mod RunLemmas

@@ -1,5 +1,6 @@
 -- What the words of a command line and the files of a shelf have for an answer.
-use Rattle.std.specs.Prelude.{◌≡◌, ℕ, Bool, true, false, ◌&&◌, ◌==◌, List, [], ◌∷◌, ◌++◌, map, drop, slice_index_or, Option, Some, None, is_some, Contains, codes, bytes_eq, ◌⊎◌, if◌then◌else◌}
+use Rattle.std.specs.Prelude.{◌≡◌, ◌≢◌, ℕ, Bool, true, false, List, [], ◌∷◌, ◌++◌, map, drop, slice_index_or, Option, Some, None, is_some, Contains, codes, bytes_eq, ◌⊎◌, if◌then◌else◌}
+use Rattle.std.specs.List.{zip}
 use Rattle.pb_outside.specs.Shelf.{Files}
 use Rattle.pb_outside.specs.declared.shelf.TheConstants.{FILE_LIMIT}
 use Rattle.pb_words.specs.Line.{Line, IsInside}
@@ -11,31 +12,29 @@ use Rattle.pb_words.specs.declared.ask.Ask.TheVariants.{Check, Choices, Run, Tun
 use Rattle.pb_top.specs.Reply.{Reply, not_built, usage}
 use Rattle.pb_top.specs.Steps.{Then, Takes}
 use Rattle.pb_top.specs.Check.{CheckAnswers, ChoicesAnswers}
-use Rattle.pb_top.specs.OneRule.{RunsOneRule}
+use Rattle.pb_top.specs.Runs.{Fitting, RunReplies, RunWrites, RunsProgram}
 
--- the words of a run on one thread, without a configuration and over one input
+-- the words of a run
 pub record RunLine : Type 0 where
-  pub program : List ℕ
+  pub config : List ℕ
   pub transform : List ℕ
-  pub input : List ℕ
+  pub inputs : List (List ℕ)
 
--- the runs that are built: the words after the command are `--pool serial` alone, so that the place of the others is 3,
--- and then four others, of which the second is `-`
-abbrev pub built_run : ℕ → Pool → Bool → List (List ℕ) → Option RunLine
-built_run place Serial false (program ∷ config ∷ transform ∷ input ∷ []) =
-    if place == 3 && bytes_eq config (codes "-") then Some (record { program = program; transform = transform; input = input }) else None
-built_run place pool trace others = None
+-- a run on one thread is built
+abbrev pub built_run : Pool → List (List ℕ) → Option RunLine
+built_run Serial (program ∷ config ∷ transform ∷ inputs) = Some (record { config = config; transform = transform; inputs = inputs })
+built_run pool others = None
 
-abbrev pub is_built : Ask → ℕ → List (List ℕ) → Bool
-is_built Check place others = true
-is_built Choices place others = true
-is_built (Run workers depth grain pool trace) place others = is_some (built_run place pool trace others)
-is_built (Tune up_to) place others = false
-is_built (Demo seed size workers) place others = false
+abbrev pub is_built : Ask → List (List ℕ) → Bool
+is_built Check others = true
+is_built Choices others = true
+is_built (Run workers depth grain pool trace) others = is_some (built_run pool others)
+is_built (Tune up_to) others = false
+is_built (Demo seed size workers) others = false
 
 -- the files that a command takes; one that isn't built takes none
-abbrev pub taken_words : Ask → ℕ → List (List ℕ) → List (List ℕ)
-taken_words ask place others = if is_built ask place others then file_words ask others else []
+abbrev pub taken_words : Ask → List (List ℕ) → List (List ℕ)
+taken_words ask others = if is_built ask others then file_words ask others else []
 
 -- files with the limit that each file has
 abbrev pub limited : List (List ℕ) → List (List ℕ × ℕ)
@@ -45,33 +44,51 @@ limited words = map (λ word. (word, FILE_LIMIT)) words
 abbrev pub content_at : List (List ℕ) → ℕ → List ℕ
 content_at contents place = slice_index_or contents place []
 
--- the answer of a run over the bytes of its program and its input
-abbrev pub RunAnswers : Option RunLine → List (List ℕ) → Reply → Type 0
-RunAnswers (Some line) contents reply = RunsOneRule (content_at contents 0) line.transform line.input (content_at contents 1) reply
-RunAnswers None contents reply = reply ≡ not_built
+-- `-` stands for no configuration and names no file
+abbrev pub is_dash : List ℕ → Bool
+is_dash word = bytes_eq word (codes "-")
 
--- the answer to what is asked, over the words after the options, from their place on, and the bytes of the files that it
--- takes
-abbrev pub WorkAnswers : Ask → ℕ → List (List ℕ) → List (List ℕ) → Reply → Type 0
-WorkAnswers Check place others contents reply = CheckAnswers (content_at contents 0) reply
-WorkAnswers Choices place others contents reply = ChoicesAnswers (content_at contents 0) reply
-WorkAnswers (Run workers depth grain pool trace) place others contents reply = RunAnswers (built_run place pool trace others) contents reply
-WorkAnswers (Tune up_to) place others contents reply = reply ≡ not_built
-WorkAnswers (Demo seed size workers) place others contents reply = reply ≡ not_built
+-- of the bytes of a run's files: those of the configuration, and the inputs by their words
+abbrev pub config_text : RunLine → List (List ℕ) → Option (List ℕ)
+config_text line contents = if is_dash line.config then None else Some (content_at contents 1)
+
+abbrev pub input_files : RunLine → List (List ℕ) → List (List ℕ × List ℕ)
+input_files line contents = zip line.inputs (drop (if is_dash line.config then 1 else 2) contents)
+
+-- a run over the bytes of its files, with what is asked of it where its counts are within their limits
+abbrev pub Runs : ℕ → (Fitting → Reply → Type 0) → Option RunLine → List (List ℕ) → Reply → Type 0
+Runs grain End (Some line) contents reply = RunsProgram line.transform grain End (content_at contents 0) (config_text line contents) (input_files line contents) reply
+Runs grain End None contents reply = reply ≡ not_built
+
+-- the answer to what is asked, over the words after the options and the bytes of the files that it takes
+abbrev pub WorkAnswers : Ask → List (List ℕ) → List (List ℕ) → Reply → Type 0
+WorkAnswers Check others contents reply = CheckAnswers (content_at contents 0) reply
+WorkAnswers Choices others contents reply = ChoicesAnswers (content_at contents 0) reply
+WorkAnswers (Run workers depth grain pool trace) others contents reply = Runs grain RunReplies (built_run pool others) contents reply
+WorkAnswers (Tune up_to) others contents reply = reply ≡ not_built
+WorkAnswers (Demo seed size workers) others contents reply = reply ≡ not_built
 
 -- all files of a command are taken before any is looked at
-abbrev pub AskAnswers : Ask → ℕ → List (List ℕ) → Option Files → Reply → Type 0
-AskAnswers ask place others told = Then (Takes told (limited (taken_words ask place others))) (WorkAnswers ask place others)
+abbrev pub AskAnswers : Ask → List (List ℕ) → Option Files → Reply → Type 0
+AskAnswers ask others told = Then (Takes told (limited (taken_words ask others))) (WorkAnswers ask others)
 
 -- the answer to words, over what is told of the shelf's files
 abbrev pub Answers : List (List ℕ) → Option Files → Reply → Type 0
 Answers words told reply =
-    ((ask : Ask) × (place : ℕ) × Line words ask place × AskAnswers ask place (drop place words) told reply)
+    ((ask : Ask) × (place : ℕ) × Line words ask place × AskAnswers ask (drop place words) told reply)
     ⊎ ((IsInside words → ⊥) × (reply ≡ usage))
 
--- what stands after a reply's text on `out`; no command that is built writes a trace
+-- what stands after a reply's text on `out`, of a command that has answered with status 0: after the matrices of a run its
+-- trace, if that is asked for
+abbrev pub WorkWrites : Ask → List (List ℕ) → List ℕ → List (List ℕ) → Reply → Type 0
+WorkWrites (Run workers depth grain pool trace) others tail contents reply = Runs grain (RunWrites trace tail) (built_run pool others) contents reply
+WorkWrites ask others tail contents reply = WorkAnswers ask others contents reply × (tail ≡ [])
+
+-- and nothing after another status
 abbrev pub IsTail : Ask → List (List ℕ) → Option Files → Reply → List ℕ → Type 0
-IsTail ask others told reply tail = tail ≡ []
+IsTail ask others told reply tail =
+    ((reply.status ≢ 0) × (tail ≡ []))
+    ⊎ ((reply.status ≡ 0) × Then (Takes told (limited (taken_words ask others))) (WorkWrites ask others tail) reply)
 
 -- what stands after the text of the reply to words
 abbrev pub IsTailOf : List (List ℕ) → Option Files → Reply → List ℕ → Type 0
@@ -85,10 +102,10 @@ IsOut words told reply text = (tail : List ℕ) × IsTailOf words told reply tai
 
 -- a word that names a file which the command takes
 abbrev pub IsFileWord : List (List ℕ) → Option Files → List ℕ → Type 0
-IsFileWord words told word = (ask : Ask) × (place : ℕ) × Line words ask place × Contains (taken_words ask place (drop place words)) word
+IsFileWord words told word = (ask : Ask) × (place : ℕ) × Line words ask place × Contains (taken_words ask (drop place words)) word
 
 -- the words that name the files which the command takes, in order; words outside the grammar name none
 abbrev pub AreFileWords : List (List ℕ) → Option Files → List (List ℕ) → Type 0
 AreFileWords words told names =
-    ((ask : Ask) × (place : ℕ) × Line words ask place × (names ≡ taken_words ask place (drop place words)))
+    ((ask : Ask) × (place : ℕ) × Line words ask place × (names ≡ taken_words ask (drop place words)))
     ⊎ ((IsInside words → ⊥) × (names ≡ []))

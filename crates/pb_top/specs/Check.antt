@@ -6,35 +6,26 @@ use Rattle.pb_syntax.specs.Trees.{TransformTree}
 use Rattle.pb_check.specs.Orders.{AnalysisValue}
 use Rattle.pb_report.specs.Report.{report_text}
 use Rattle.pb_top.specs.Reply.{Reply, done_reply}
-use Rattle.pb_top.specs.Steps.{Then, Reads, Resolves, Accepts}
+use Rattle.pb_top.specs.Steps.{AfterProgram, OfProgram}
 
 -- a text that a program has, by its tree, by the program with its names resolved, and by what is found of its transforms
 abbrev pub Text : Type 0
 Text = List TransformTree → List ProgTransform → List AnalysisValue → List ℕ
 
-module _ (text : Text) where
-  -- it is written for a program that is accepted
-  abbrev pub PrintsAccepted : List TransformTree → List ProgTransform → Reply → Type 0
-  PrintsAccepted tree p = Then (Accepts p) (λ found reply. reply ≡ done_reply (text tree p found))
-
-  -- for one whose names are resolved
-  abbrev pub PrintsResolved : List TransformTree → Reply → Type 0
-  PrintsResolved tree = Then (Resolves tree) (PrintsAccepted tree)
-
-  -- if no phase refuses the program
-  abbrev pub Prints : List ℕ → Reply → Type 0
-  Prints program = Then (Reads program) PrintsResolved
+-- it is written for a program that is accepted
+abbrev pub Printed : Text → OfProgram
+Printed text tree p found reply = reply ≡ done_reply (text tree p found)
 
 -- the canonical text of the program's tree
 abbrev pub its_canonical : Text
 its_canonical tree p found = canonical tree
 
 abbrev pub CheckAnswers : List ℕ → Reply → Type 0
-CheckAnswers program = Prints its_canonical program
+CheckAnswers = AfterProgram (Printed its_canonical)
 
 -- the report of its segments
 abbrev pub its_report : Text
 its_report tree p found = report_text p found
 
 abbrev pub ChoicesAnswers : List ℕ → Reply → Type 0
-ChoicesAnswers program = Prints its_report program
+ChoicesAnswers = AfterProgram (Printed its_report)

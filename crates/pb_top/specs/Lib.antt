@@ -4,12 +4,8 @@ pub mod Texts
 pub mod Reply
 pub mod Steps
 pub mod Check
-pub mod Tokens
-pub mod Program
-pub mod OneRule
+pub mod Runs
 pub mod Answer
 pub mod Ends
 -- what only proofs use: the contracts of the private functions on the way
-pub mod Found
-pub mod Sums
 pub mod Working

@@ -3,7 +3,7 @@ use Rattle.std.specs.Prelude.{◌≡◌, ℕ, List, []}
 use Rattle.pb_matrix.specs.declared.matrix.MatrixRefusal.{MatrixRefusal}
 use Rattle.pb_matrix.specs.declared.matrix.MatrixRefusal.TheVariants.{BadHeader, BadNumber, TooFew, TooMany, Memory}
 use Rattle.pb_top.specs.declared.reply.Status.{Status}
-use Rattle.pb_top.specs.declared.reply.Status.TheVariants.{Done, Usage, Program, Input, ReadFault, WriteFault, NoMemory, NotBuilt, File}
+use Rattle.pb_top.specs.declared.reply.Status.TheVariants.{Done, Usage, Program, Config, Input, TooLarge, Trapped, DepthEnded, ReadFault, WriteFault, NoMemory, NotBuilt, File}
 use Rattle.pb_top.specs.Texts.{no_file_line, file_too_long_line, not_built_line, usage_text, bad_header_line, bad_number_line, too_few_line, too_many_line}
 
 pub record Reply : Type 0 where
@@ -16,7 +16,11 @@ abbrev pub status_code : Status → ℕ
 status_code Done = 0
 status_code Usage = 2
 status_code Program = 3
+status_code Config = 4
 status_code Input = 5
+status_code TooLarge = 6
+status_code Trapped = 7
+status_code DepthEnded = 8
 status_code ReadFault = 9
 status_code WriteFault = 10
 status_code NoMemory = 11

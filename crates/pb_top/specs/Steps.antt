@@ -24,15 +24,17 @@ TakesFile told word limit (Err reply) =
     (IsSomeAnd told (λ files. content_of files word ≡ None) × (reply ≡ no_file word))
     ⊎ (IfSome told (λ files. IsSomeAnd (content_of files word) (λ bytes. limit < length bytes)) × (reply ≡ file_too_long word))
 
+-- a step for each of a list, in order: what they give, or the reply of the first that ends the work
+abbrev pub Each : {A B : Type 0} → (A → Result B Reply → Type 0) → List A → Result (List B) Reply → Type 0
+Each Step [] (Ok found) = found ≡ []
+Each Step [] (Err reply) = ⊥
+Each Step (x ∷ xs) (Ok []) = ⊥
+Each Step (x ∷ xs) (Ok (y ∷ found)) = Step x (Ok y) × Each Step xs (Ok found)
+Each {A} {B} Step (x ∷ xs) (Err reply) = Step x (Err reply) ⊎ ((y : B) × Step x (Ok y) × Each Step xs (Err reply))
+
 -- the bytes of files by word and limit, in order; or the reply of the first that can't be taken
 abbrev pub Takes : Option Files → List (List ℕ × ℕ) → Result (List (List ℕ)) Reply → Type 0
-Takes told [] (Ok contents) = contents ≡ []
-Takes told [] (Err reply) = ⊥
-Takes told (file ∷ files) (Ok []) = ⊥
-Takes told (file ∷ files) (Ok (bytes ∷ contents)) = TakesFile told file.0 file.1 (Ok bytes) × Takes told files (Ok contents)
-Takes told (file ∷ files) (Err reply) =
-    TakesFile told file.0 file.1 (Err reply)
-    ⊎ ((bytes : List ℕ) × TakesFile told file.0 file.1 (Ok bytes) × Takes told files (Err reply))
+Takes told = Each (λ file. TakesFile told file.0 file.1)
 
 -- the line of a refusal that comes before a program's names are resolved
 abbrev pub Refuses : (Refusal → Type 0) → Reply → Type 0
@@ -56,3 +58,21 @@ Resolves tree (Err reply) = Refuses (HasBadNames tree) reply
 abbrev pub Accepts : List ProgTransform → Result (List AnalysisValue) Reply → Type 0
 Accepts p (Ok found) = IsSound p × AreFound p found
 Accepts p (Err reply) = RefusesProgram p reply
+
+-- ---- from a program to what is asked of it
+-- by its tree, by the program with its names resolved, and by what is found of its transforms
+abbrev pub OfProgram : Type 1
+OfProgram = List TransformTree → List ProgTransform → List AnalysisValue → Reply → Type 0
+
+module _ (Next : OfProgram) where
+  -- of a program that is accepted
+  abbrev pub AfterAccepted : List TransformTree → List ProgTransform → Reply → Type 0
+  AfterAccepted tree p = Then (Accepts p) (Next tree p)
+
+  -- of one whose names are resolved
+  abbrev pub AfterResolved : List TransformTree → Reply → Type 0
+  AfterResolved tree = Then (Resolves tree) (AfterAccepted tree)
+
+  -- if no phase refuses the program
+  abbrev pub AfterProgram : List ℕ → Reply → Type 0
+  AfterProgram program = Then (Reads program) AfterResolved

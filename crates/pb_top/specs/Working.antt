@@ -1,15 +1,33 @@
 -- For proofs alone: what the private steps of a command give, before anything is written.
-use Rattle.std.specs.Prelude.{◌≡◌, ℕ, ◌<◌, List, [], ◌∷◌, ◌++◌, map, Option, Some, None, Result, Ok, Err, Vec, ◌⊎◌, string_bytes}
+use Rattle.std.specs.Prelude.{◌≡◌, ℕ, ◌<◌, ◌≤◌, List, [], ◌∷◌, ◌++◌, length, map, Option, Some, None, IfSome, Result, Ok, Err, Vec, ◌⊎◌, string_bytes, if◌then◌else◌}
 use Rattle.std.specs.declared.alloc.Global.{Global}
 use Rattle.std.specs.declared.alloc.AllocError.{AllocError}
+use Rattle.std.specs.List.{zip}
+use Rattle.std.specs.Option.{option_map}
+use Rattle.std.specs.Borrow.{Bor}
+use Rattle.std.specs.declared.string.String.{String}
 use Rattle.pb_outside.specs.Count.{RoseBy}
 use Rattle.pb_outside.specs.Shelf.{Files, asked_after}
+use Rattle.pb_program.specs.Configs.{ConfigValue}
+use Rattle.pb_program.specs.Trees.{ProgTransform, bare_prog}
+use Rattle.pb_matrix.specs.Value.{MatrixValue}
+use Rattle.pb_model.specs.Calls.{TrappedCell}
+use Rattle.pb_config.specs.Reading.{config_read}
+use Rattle.pb_config.specs.declared.refusal.ConfigRefusal.{ConfigRefusal}
+use Rattle.pb_check.specs.Accepting.{AcceptedValue}
+use Rattle.pb_entry.specs.declared.refusal.RunRefusal.{RunRefusal}
+use Rattle.pb_entry.specs.declared.refusal.RunRefusal.TheVariants.{TooLarge}
+use Rattle.pb_run_lines.specs.RunLines.{config_line, run_line, trap_line}
+use Rattle.pb_unroll.specs.Running.{RunValue, of_sizes, of_transform}
+use Rattle.pb_unroll.specs.Unrolled.{IsRefused}
 use Rattle.pb_top.specs.Sinks.{ShelfChange, SinkChange, IsSound, Gains, IsSteady, IsIdle, Breaks}
 use Rattle.pb_top.specs.Texts.{read_fault_line}
 use Rattle.pb_top.specs.Reply.{Reply, status_code, done_reply, refusal_reply}
 use Rattle.pb_top.specs.Steps.{Takes}
-use Rattle.pb_top.specs.Answer.{RunLine, limited}
+use Rattle.pb_top.specs.Answer.{RunLine, is_dash, limited}
+use Rattle.pb_top.specs.Runs.{Fitting, trap_status}
 use Rattle.pb_top.specs.declared.reply.Status.{Status}
+use Rattle.pb_top.specs.declared.reply.Status.TheVariants.{Config, Input, TooLarge as TooMuch}
 use Rattle.pb_top.specs.declared.reply.Stop.{Stop}
 use Rattle.pb_top.specs.declared.reply.Stop.TheVariants.{Memory, Refused, Unread}
 
@@ -39,9 +57,61 @@ abbrev pub Replies : (Reply → Type 0) → Result (Vec ℕ Global) Stop → Typ
 Replies Says (Ok text) = Says (done_reply text.items)
 Replies Says (Err stop) = StopsWith Says stop
 
+-- the work ends with a text for `out`, that of a reply and what stands after it, as the relation says, or stops
+abbrev pub Writes : (List ℕ → Reply → Type 0) → Result (Vec ℕ Global) Stop → Type 0
+Writes Says (Ok text) = (out : List ℕ) × (tail : List ℕ) × Says tail (done_reply out) × (text.items ≡ out ++ tail)
+Writes Says (Err stop) = StopsWith (Says []) stop
+
+-- ---- the steps of a run
+-- the text that a slice refers to, if there is one
+abbrev pub text_in : Option (Bor (List ℕ)) → Option (List ℕ)
+text_in = option_map (λ text. text.now)
+
+-- the configuration that a text says
+abbrev pub ReadsConfig : List ProgTransform → List ℕ → Result ConfigValue Reply → Type 0
+ReadsConfig p text (Ok config) = config_read p text ≡ Ok config
+ReadsConfig p text (Err reply) = (why : ConfigRefusal) × (config_read p text ≡ Err why) × (reply ≡ refusal_reply Config (config_line why))
+
+-- how a run that can't be begun ends
+abbrev pub refusal_status : RunRefusal → Status
+refusal_status (TooLarge what) = TooMuch
+refusal_status _ = Input
+
+-- and its line
+pub record CannotRun (a : AcceptedValue) (config : ConfigValue) (number : ℕ) (name : List ℕ) (inputs : List MatrixValue) (grain : ℕ) (reply : Reply) : Type 0 where
+  pub why : RunRefusal
+  pub refused : IsRefused a config number inputs grain why
+  pub is : reply ≡ refusal_reply (refusal_status why) (run_line (bare_prog a.program) number name why)
+
+-- what a run is of
+abbrev pub fitting_of : RunValue → Fitting
+fitting_of r = record {
+  program = bare_prog r.program;
+  config = r.config;
+  number = r.number;
+  transform = of_transform r;
+  found = r.found;
+  inputs = r.inputs;
+  sizes = of_sizes r;
+  grain = r.grain;
+}
+
+-- the line of a run's trapped cell
+abbrev pub IsTrapped : RunValue → TrappedCell → Reply → Type 0
+IsTrapped r cell reply = reply ≡ refusal_reply (trap_status cell.trap.kind) (trap_line (bare_prog r.program) r.number cell)
+
+-- the texts that slices refer to
+abbrev pub texts_of : List (Bor (List ℕ)) → List (List ℕ)
+texts_of slices = map (λ slice. slice.now) slices
+
+-- ---- the files of a command
 -- the bytes of files
 abbrev pub contents_of : List (Vec ℕ Global) → List (List ℕ)
 contents_of contents = map (λ bytes. bytes.items) contents
+
+-- inputs by their words and their texts
+abbrev pub files_of : List (String Global) → List (Vec ℕ Global) → List (List ℕ × List ℕ)
+files_of words texts = zip (map string_bytes words) (contents_of texts)
 
 -- a name among these, the last that was asked, in the line of a file that couldn't be read
 pub record NamesFault (names : List (List ℕ)) (shelf : ShelfChange) (line : List ℕ) : Type 0 where
@@ -70,15 +140,19 @@ IsTaken name shelf (Ok bytes) =
     IsSound shelf × Takes shelf.before (limited (name ∷ [])) (Ok (bytes.items ∷ [])) × (shelf.asked_now ≡ asked_after (name ∷ []) shelf.asked_before)
 IsTaken name shelf (Err stop) = ShelfStops (name ∷ []) (λ told reply. Takes told (limited (name ∷ [])) (Err reply)) shelf stop
 
--- the work over the files with these names ends with a text for `out` that the relation says, or stops
-abbrev pub ShelfReplies : List (List ℕ) → (Option Files → Reply → Type 0) → ShelfChange → Result (Vec ℕ Global) Stop → Type 0
-ShelfReplies names Says shelf (Ok text) = IsSound shelf × Says shelf.before (done_reply text.items)
-ShelfReplies names Says shelf (Err stop) = ShelfStops names Says shelf stop
+-- the work over the files with these names ends with a text for `out`, that of a reply and what stands after it, as the relation
+-- says, or stops
+abbrev pub ShelfWrites : List (List ℕ) → (Option Files → List ℕ → Reply → Type 0) → ShelfChange → Result (Vec ℕ Global) Stop → Type 0
+ShelfWrites names Says shelf (Ok text) = IsSound shelf × ((out : List ℕ) × (tail : List ℕ) × Says shelf.before tail (done_reply out) × (text.items ≡ out ++ tail))
+ShelfWrites names Says shelf (Err stop) = ShelfStops names (λ told. Says told []) shelf stop
 
--- the files of a run that is built
+-- the files of a run that is built, as many as they are
 abbrev pub line_files : Option RunLine → List (List ℕ)
-line_files (Some line) = line.program ∷ line.input ∷ []
+line_files (Some line) = [] ∷ (if is_dash line.config then line.inputs else line.config ∷ line.inputs)
 line_files None = []
+
+abbrev pub HasFewInputs : Option RunLine → Type 0
+HasFewInputs line = IfSome line (λ l. length l.inputs ≤ 16)
 
 -- the text went to one sink, whole or up to a put that was refused, and nothing to the other
 abbrev pub WritesTo : List ℕ → SinkChange → SinkChange → ℕ → ℕ → Type 0

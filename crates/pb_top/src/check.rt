@@ -1,101 +1,22 @@
-ghost use Rattle.std.specs.Prelude.{◌≡◌, IfErr, IfOk, Ok};
 ghost use Rattle.pb_program.specs.Trees.{bare_prog};
 ghost use Rattle.pb_program.specs.WellFormed.{IsWellFormed};
-ghost use Rattle.pb_check.specs.Orders.{AreFound, AreNamed};
-ghost use Rattle.pb_check.specs.Phases.{IsRefused};
 ghost use Rattle.pb_syntax.specs.Trees.{bare_text};
 ghost use Rattle.pb_syntax.specs.WithinLimits.{IsWithinLimits};
-ghost use Rattle.pb_top.specs.Steps.{Reads, Resolves, Accepts};
-ghost use Rattle.pb_top.specs.Check.{CheckAnswers, ChoicesAnswers, PrintsAccepted, PrintsResolved, its_canonical, its_report};
-ghost use Rattle.pb_top.specs.declared.reply.Stop.TheVariants.{Memory};
-ghost use Rattle.pb_top.specs.Working.{Gives, Replies};
+ghost use Rattle.pb_top.specs.Steps.{AfterAccepted, AfterResolved};
+ghost use Rattle.pb_top.specs.Check.{CheckAnswers, ChoicesAnswers, Printed, its_canonical, its_report};
+ghost use Rattle.pb_top.specs.Working.{Replies};
 
-use crate::reply::{Status, Stop};
-use pb_check::{Analysis, judge, named_segments};
-use pb_front::read_text;
-use pb_graph::Node;
-use pb_lines::refusal_line;
-use pb_prog::{Refusal, Text, print_text};
+use crate::phases::{accept, read, resolve_names};
+use crate::reply::Stop;
+use pb_prog::{Text, print_text};
 use pb_program::Prog;
 use pb_report::report_of;
-use pb_resolve::resolve;
 use std::alloc::Global;
-
-// The tree of a program's text.
-#[tactic(auto, using(crate::proofs::LineLemmas::text_line))]
-fn read(alloc: Global, program: &[u8]) -> Result<Text, Stop>
-    ensures { Gives bare_text (Reads program.now) result }
-{
-    match read_text(alloc, program) {
-        Ok(tree) => Ok(tree),
-        Err(Refusal::Memory) => Err(Stop::Memory),
-        Err(refusal) => {
-            let line = refusal_line(alloc, &[], &[], &refusal)?;
-            Err(Stop::Refused(Status::Program, line))
-        }
-    }
-}
-
-// The program that a tree is.
-#[tactic(auto, using(crate::proofs::LineLemmas::names_line))]
-fn resolve_names(alloc: Global, tree: &Text) -> Result<Prog, Stop>
-    requires { IsWithinLimits (bare_text tree.now) }
-    ensures gives { Gives bare_prog (Resolves (bare_text tree.now)) result }
-    ensures well_formed { IfOk result (λ p. IsWellFormed (bare_prog p)) }
-{
-    match resolve(alloc, tree) {
-        Ok(program) => Ok(program),
-        Err(Refusal::Memory) => Err(Stop::Memory),
-        Err(refusal) => {
-            let line = refusal_line(alloc, &[], &[], &refusal)?;
-            Err(Stop::Refused(Status::Program, line))
-        }
-    }
-}
-
-// The segments that a refusal names.
-fn named(alloc: Global, program: &Prog, refusal: &Refusal) -> Result<Vec<Node>, Stop>
-    requires well_formed { IsWellFormed (bare_prog program.now) }
-    requires refused { IsRefused (bare_prog program.now) refusal.now }
-    ensures found { IfOk result (λ nodes. AreNamed (bare_prog program.now) refusal.now nodes.items) }
-    ensures refused { IfErr result (λ e. e ≡ Memory) }
-{
-    match named_segments(alloc, program, refusal) {
-        Ok(nodes) => Ok(nodes),
-        Err(_) => Err(Stop::Memory),
-    }
-}
-
-// The line of a program that a further phase refuses.
-#[tactic(auto, using(crate::proofs::LineLemmas::phase_refusal, crate::proofs::LineLemmas::few_sizes))]
-fn refuse(alloc: Global, program: &Prog, refusal: &Refusal) -> Result<Vec<Analysis>, Stop>
-    requires well_formed { IsWellFormed (bare_prog program.now) }
-    requires refused { IsRefused (bare_prog program.now) refusal.now }
-    ensures { Gives (λ found. found.items) (Accepts (bare_prog program.now)) result }
-{
-    let nodes = named(alloc, program, refusal)?;
-    let line = refusal_line(alloc, &program.transforms, &nodes, refusal)?;
-    Err(Stop::Refused(Status::Program, line))
-}
-
-// What is found of each transform of a program that every further phase accepts.
-#[tactic(auto, using(crate::proofs::LineLemmas::phase_why))]
-fn accept(alloc: Global, program: &Prog) -> Result<Vec<Analysis>, Stop>
-    requires { IsWellFormed (bare_prog program.now) }
-    ensures gives { Gives (λ found. found.items) (Accepts (bare_prog program.now)) result }
-    ensures found { IfOk result (λ found. AreFound (bare_prog program.now) found.items) }
-{
-    match judge(alloc, program) {
-        Ok(found) => Ok(found),
-        Err(Refusal::Memory) => Err(Stop::Memory),
-        Err(refusal) => refuse(alloc, program, &refusal),
-    }
-}
 
 // The canonical text of a tree, for a program that is accepted.
 fn print_accepted(alloc: Global, tree: &Text, program: &Prog) -> Result<Vec<u8>, Stop>
     requires { IsWellFormed (bare_prog program.now) }
-    ensures { Replies (PrintsAccepted its_canonical (bare_text tree.now) (bare_prog program.now)) result }
+    ensures { Replies (AfterAccepted (Printed its_canonical) (bare_text tree.now) (bare_prog program.now)) result }
 {
     accept(alloc, program)?;
     Ok(print_text(alloc, tree)?)
@@ -104,7 +25,7 @@ fn print_accepted(alloc: Global, tree: &Text, program: &Prog) -> Result<Vec<u8>,
 // The canonical text of a tree, for one that is a program.
 fn print_resolved(alloc: Global, tree: &Text) -> Result<Vec<u8>, Stop>
     requires { IsWithinLimits (bare_text tree.now) }
-    ensures { Replies (PrintsResolved its_canonical (bare_text tree.now)) result }
+    ensures { Replies (AfterResolved (Printed its_canonical) (bare_text tree.now)) result }
 {
     let program = resolve_names(alloc, tree)?;
     print_accepted(alloc, tree, &program)
@@ -122,7 +43,7 @@ pub fn check(alloc: Global, program: &[u8]) -> Result<Vec<u8>, Stop>
 // The report of a program that is accepted.
 fn report_accepted(alloc: Global, tree: &Text, program: &Prog) -> Result<Vec<u8>, Stop>
     requires { IsWellFormed (bare_prog program.now) }
-    ensures { Replies (PrintsAccepted its_report (bare_text tree.now) (bare_prog program.now)) result }
+    ensures { Replies (AfterAccepted (Printed its_report) (bare_text tree.now) (bare_prog program.now)) result }
 {
     let found = accept(alloc, program)?;
     Ok(report_of(alloc, program, &found)?)
@@ -131,7 +52,7 @@ fn report_accepted(alloc: Global, tree: &Text, program: &Prog) -> Result<Vec<u8>
 // The report of a tree that is a program.
 fn report_resolved(alloc: Global, tree: &Text) -> Result<Vec<u8>, Stop>
     requires { IsWithinLimits (bare_text tree.now) }
-    ensures { Replies (PrintsResolved its_report (bare_text tree.now)) result }
+    ensures { Replies (AfterResolved (Printed its_report) (bare_text tree.now)) result }
 {
     let program = resolve_names(alloc, tree)?;
     report_accepted(alloc, tree, &program)

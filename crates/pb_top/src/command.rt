@@ -72,7 +72,7 @@ pub fn pb_alone<S: Shelf, O: Sink, E: Sink>(
     let Some((ask, place)) = read_words(words) else {
         return Some(write_line(usage(alloc), out, err));
     };
-    let found = work(alloc, ask, place, &words[place..], shelf);
+    let found = work(alloc, ask, &words[place..], shelf);
     Some(write(&found, out, err))
 }
 

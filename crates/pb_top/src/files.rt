@@ -1,7 +1,6 @@
 ghost use Rattle.std.specs.Prelude.{◌≡◌, [], ◌∷◌};
 ghost use Rattle.pb_top.specs.Sinks.{shelf_change, AsksFront};
-ghost use Rattle.pb_top.specs.Tokens.{texts_of};
-ghost use Rattle.pb_top.specs.Working.{IsTaken, AreTaken};
+ghost use Rattle.pb_top.specs.Working.{AreTaken, IsTaken, texts_of};
 
 use crate::reply::{Stop, file_too_long, no_file, unread};
 use pb_outside::{FILE_LIMIT, Shelf, Take};

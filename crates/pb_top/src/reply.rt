@@ -21,8 +21,16 @@ pub enum Status {
     Usage,
     /// The program is refused.
     Program,
-    /// An input is refused.
+    /// The configuration is refused.
+    Config,
+    /// An input or the transform is refused.
     Input,
+    /// A count of the run passes its limit.
+    TooLarge,
+    /// The run is trapped.
+    Trapped,
+    /// The run is trapped, since its depth ended.
+    DepthEnded,
     ReadFault,
     WriteFault,
     NoMemory,
@@ -43,7 +51,11 @@ impl Status {
             Status::Done => 0,
             Status::Usage => 2,
             Status::Program => 3,
+            Status::Config => 4,
             Status::Input => 5,
+            Status::TooLarge => 6,
+            Status::Trapped => 7,
+            Status::DepthEnded => 8,
             Status::ReadFault => 9,
             Status::WriteFault => 10,
             Status::NoMemory => 11,
