@@ -3,7 +3,10 @@ ghost use Rattle.pb_linear.specs.Sizes.{sizes_of};
 ghost use Rattle.pb_syntax.specs.declared.limits.TheConstants.{MOST_TRANSFORMS};
 ghost use Rattle.pb_syntax.specs.declared.refusal.Refusal.TheVariants.{Memory};
 ghost use Rattle.pb_program.specs.Trees.{bare_prog, bare_transform};
+ghost use Rattle.pb_program.specs.WellFormed.{IsWellFormed};
 ghost use Rattle.pb_check.specs.Accepting.{HasName, IsAccepted, IsNowhere, IsTextAccepted, IsTextRefused};
+ghost use Rattle.pb_check.specs.Orders.{AreFound};
+ghost use Rattle.pb_check.specs.Phases.{IsSound};
 ghost use Rattle.pb_check.specs.Ranked.{HasCell, IsCovered, IsRanked, OfTransform, cell};
 ghost use Rattle.pb_check.specs.Sites.{all_sites};
 
@@ -64,6 +67,17 @@ impl Model for Accepted {
 }
 
 impl Accepted {
+    /// A program that `judge` accepts, with what it finds of each transform.
+    pub fn new(program: Prog, found: Vec<Analysis>) -> Accepted
+        requires well_formed { IsWellFormed (bare_prog program) }
+        requires sound { IsSound (bare_prog program) }
+        requires found { AreFound (bare_prog program) found.items }
+        ensures program { result.program ≡ program }
+        ensures found { result.found ≡ found.items }
+    {
+        Accepted { program, found }
+    }
+
     /// The program.
     pub fn prog(&self) -> &Prog
         ensures program { result.now ≡ self.now.program }
