@@ -1,10 +1,11 @@
 -- What is read is what is spelled, and the other way round.
 use Rattle.std.proofs.Common.{◌≡◌, ℕ, ◌+◌, Bool, true, false, ◌&&◌, ◌==◌, nat_lt, List, [], ◌∷◌, length, take, filter_map, flat_map, map, ℤ, pos, neg_ℤ, IsTrue, Option, Some, None, Result, Ok, Err, IfOk, refl, sym, ap, ◌∙◌, subst, arith}
-use Rattle.std.specs.List.{All, position_from, list_all}
+use Rattle.std.specs.List.{All, AllByRecursion, position_from, list_all}
 use Rattle.std.specs.Str.Lines.{lines}
 use Rattle.std.specs.Str.Parse.{digits_value}
 use Rattle.std.proofs.lemmas.Bool.{and_parts, le-ltb, ltb-false, false_from_ne_true}
 use Rattle.std.proofs.lemmas.List.{take_all}
+use Rattle.std.proofs.lemmas.List.Elements.{All-from_recursion}
 use Rattle.pb_values.specs.Checked.{fits_i64}
 use Rattle.pb_values.specs.declared.shape.Shape.{Shape}
 use Rattle.pb_matrix.specs.Words.{is_blank, is_gap, words, cell_number, in_cell, is_digits, is_faulty}
@@ -93,11 +94,11 @@ module _ (ds : List ℕ) (z y : ℤ) (e : in_cell ds z ≡ Some y) where
   number_fits = by_test (is_digits ds && fits_i64 z) refl
     where
       by_test : (b : Bool) → (is_digits ds && fits_i64 z) ≡ b → IsTrue (fits_i64 y)
-      by_test false no = let none : None ≡ Some y = rw no at e in absurd (cc)
-      by_test true yes =
-          let some : Some z ≡ Some y = rw yes at e in
+      by_test false fails = let none : None ≡ Some y = rw fails at e in absurd (cc)
+      by_test true holds =
+          let some : Some z ≡ Some y = rw holds at e in
           let same : z ≡ y = cc in
-          subst (λ n. IsTrue (fits_i64 n)) same (and_parts (is_digits ds) (fits_i64 z) yes).1
+          subst (λ n. IsTrue (fits_i64 n)) same (and_parts (is_digits ds) (fits_i64 z) holds).1
 
 word_fits : (word : List ℕ) (z : ℤ) → cell_number word ≡ Some z → IsTrue (fits_i64 z)
 word_fits [] z e = absurd (cc)
@@ -107,7 +108,7 @@ word_fits (c ∷ cs) z e = by_sign (c == 45) refl
     by_sign true minus = number_fits cs (neg_ℤ (pos (digits_value 10 cs))) z (rw minus at e)
     by_sign false digit = number_fits (c ∷ cs) (pos (digits_value 10 (c ∷ cs))) z (rw digit at e)
 
-cells_fit : (ws : List (List ℕ)) (cells : List ℤ) → SpellsCells ws cells → All (λ z. IsTrue (fits_i64 z)) cells
+cells_fit : (ws : List (List ℕ)) (cells : List ℤ) → SpellsCells ws cells → AllByRecursion (λ z. IsTrue (fits_i64 z)) cells
 cells_fit ws [] e = tt
 cells_fit [] (z ∷ cells) e = absurd (cc)
 cells_fit (w ∷ ws) (z ∷ cells) e =
@@ -115,13 +116,13 @@ cells_fit (w ∷ ws) (z ∷ cells) e =
     let rest : map cell_number ws ≡ map Some cells = cc in
     (word_fits w z first, cells_fit ws cells rest)
 
-lines_fit : {ls : List (List ℕ)} {matrix : MatrixValue} → LinesSpell ls matrix → All (λ z. IsTrue (fits_i64 z)) matrix.cells
+lines_fit : {ls : List (List ℕ)} {matrix : MatrixValue} → LinesSpell ls matrix → AllByRecursion (λ z. IsTrue (fits_i64 z)) matrix.cells
 lines_fit (blank none rest) = lines_fit rest
 lines_fit (header {line} {rest} {matrix} named numbers count) = cells_fit (flat_map (words is_gap) rest) matrix.cells numbers
 
 -- ---- of what is answered
 pub answer_fits : (text : List ℕ) (r : Result MatrixValue MatrixRefusal) → Reads r (matrix_read text) → IfOk r (λ matrix. All (λ z. IsTrue (fits_i64 z)) matrix.cells)
-answer_fits text (Ok matrix) e = lines_fit (lines_spelled (lines text) matrix e)
+answer_fits text (Ok matrix) e = All-from_recursion (λ z. IsTrue (fits_i64 z)) matrix.cells (lines_fit (lines_spelled (lines text) matrix e))
 answer_fits text (Err f) e = tt
 
 pub answer_spelled : (text : List ℕ) (r : Result MatrixValue MatrixRefusal) → Reads r (matrix_read text) → IfOk r (λ matrix. Spells text matrix)
