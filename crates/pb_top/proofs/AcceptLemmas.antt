@@ -16,7 +16,7 @@ use Rattle.pb_names.proofs.LawLemmas.{some_answer, no_two, same_program, same_re
 use Rattle.pb_names.proofs.TransformsFit.{well_formed}
 use Rattle.pb_names.proofs.UnplacedPrograms.{faultless_again, same_program as same_again}
 use Rattle.pb_check.specs.Phases.{IsSound, IsRefused as IsUnsound}
-use Rattle.pb_check.specs.Orders.{AnalysisValue, AreNamed}
+use Rattle.pb_check.specs.Orders.{AnalysisValue, AreFound, AreNamed}
 use Rattle.pb_check.proofs.NamedLemmas.{one_named, some_named}
 use Rattle.pb_check.proofs.OrderedLemmas.{one_found, some_found}
 use Rattle.pb_check.proofs.PhaseLemmas.{sound_or_refused, one_refusal as one_cause, not_both as sound_and_refused}
@@ -24,10 +24,10 @@ use Rattle.pb_check.proofs.PlaceLemmas.{sound_again}
 use Rattle.pb_lines.specs.Lines.{refusal_line}
 use Rattle.pb_top.specs.declared.reply.Status.TheVariants.{Program}
 use Rattle.pb_top.specs.Reply.{Reply, done_reply, refusal_reply}
-use Rattle.pb_top.specs.Steps.{Refuses, RefusesProgram, Reads, Resolves, Accepts}
-use Rattle.pb_top.specs.Check.{CheckAnswers, Prints, PrintsAccepted, PrintsResolved, Text}
+use Rattle.pb_top.specs.Steps.{AfterAccepted, AfterProgram, AfterResolved, OfProgram, Refuses, RefusesProgram, Reads, Resolves, Accepts}
+use Rattle.pb_top.specs.Check.{CheckAnswers, Printed, Text}
 use Rattle.pb_top.proofs.LineLemmas.{read_within}
-use Rattle.pb_top.proofs.StepLemmas.{then_given, then_one, then_some}
+use Rattle.pb_top.proofs.StepLemmas.{then_given, then_one_given}
 
 -- one refusal has one line
 refuses_one : (IsWhy : Refusal → Type 0) → ((e f : Refusal) → IsWhy e → IsWhy f → e ≡ f) → (x y : Reply) → Refuses IsWhy x → Refuses IsWhy y → x ≡ y
@@ -61,15 +61,18 @@ accepts_one p (Ok a) (Err reply) sound (why, nodes, causes, named, is) = absurd 
 accepts_one p (Err reply) (Ok a) (why, nodes, causes, named, is) sound = absurd (sound_and_refused p why sound.0 causes)
 accepts_one p (Err reply) (Err other) x y = ap Err (program_one p reply other x y)
 
-module _ (text : Text) where
-  accepted_one : (tree : List TransformTree) (p : List ProgTransform) (x y : Reply) → PrintsAccepted text tree p x → PrintsAccepted text tree p y → x ≡ y
-  accepted_one tree p = then_one (Accepts p) (λ found reply. reply ≡ done_reply (text tree p found)) (accepts_one p) (λ found x y is other. is ∙ sym other)
+resolved_well : (tree : List TransformTree) (p : List ProgTransform) → IsWithinLimits tree → IsResolved tree p → IsWellFormed p
+resolved_well tree p within made = subst IsWellFormed (sym made.program) (well_formed tree within made.faultless)
 
-  resolved_one : (tree : List TransformTree) (x y : Reply) → PrintsResolved text tree x → PrintsResolved text tree y → x ≡ y
-  resolved_one tree = then_one (Resolves tree) (PrintsAccepted text tree) (resolves_one tree) (accepted_one tree)
-
-  pub prints_one : (program : List ℕ) (x y : Reply) → Prints text program x → Prints text program y → x ≡ y
-  prints_one program = then_one (Reads program) (PrintsResolved text) (reads_one program) resolved_one
+-- so has what follows, where it has at most one of an accepted program
+module _ (Next : OfProgram) where
+  pub after_one : ((tree : List TransformTree) (p : List ProgTransform) (found : List AnalysisValue) → IsWellFormed p → IsSound p → AreFound p found → (x y : Reply) → Next tree p found x → Next tree p found y → x ≡ y)
+      → (program : List ℕ) (x y : Reply) → AfterProgram Next program x → AfterProgram Next program y → x ≡ y
+  after_one each program =
+      then_one_given (Reads program) (AfterResolved Next) (reads_one program)
+      (λ tree read. then_one_given (Resolves tree) (AfterAccepted Next tree) (resolves_one tree)
+      (λ p made. then_one_given (Accepts p) (Next tree p) (accepts_one p)
+      (λ found sound. each tree p found (resolved_well tree p (read_within program tree read) made) sound.0 sound.1)))
 
 -- and some outcome
 read_by : (text : List ℕ) → ((tree : List TransformTree) × IsRead text tree) ⊎ ((why : Refusal) × IsRefused text why) → (outcome : Result (List TransformTree) Reply) × Reads text outcome
@@ -84,20 +87,22 @@ accepted_by : (p : List ProgTransform) → IsSound p ⊎ ((e : Refusal) × IsUns
 accepted_by p (inl sound) = let found = some_found p sound.ordered in (Ok found.0, (sound, found.1))
 accepted_by p (inr (why, causes)) = let nodes = some_named p why causes in (Err (refusal_reply Program (refusal_line p nodes.0 why)), (why, nodes.0, causes, nodes.1, refl))
 
-resolved_well : (tree : List TransformTree) (p : List ProgTransform) → IsWithinLimits tree → IsResolved tree p → IsWellFormed p
-resolved_well tree p within made = subst IsWellFormed (sym made.program) (well_formed tree within made.faultless)
+module _ (Next : OfProgram) where
+  pub after_some : ((tree : List TransformTree) (p : List ProgTransform) (found : List AnalysisValue) → IsWellFormed p → IsSound p → AreFound p found → (reply : Reply) × Next tree p found reply)
+      → (program : List ℕ) → (reply : Reply) × AfterProgram Next program reply
+  after_some each program =
+      then_given (Reads program) (AfterResolved Next) (read_by program (some_reading program))
+      (λ tree read. then_given (Resolves tree) (AfterAccepted Next tree) (resolved_by tree (some_answer tree))
+      (λ p made. let well = resolved_well tree p (read_within program tree read) made in
+      then_given (Accepts p) (Next tree p) (accepted_by p (sound_or_refused p well)) (λ found sound. each tree p found well sound.0 sound.1)))
 
+-- and so has what is printed
 module _ (text : Text) where
-  accepted_some : (tree : List TransformTree) (p : List ProgTransform) → IsWellFormed p → (reply : Reply) × PrintsAccepted text tree p reply
-  accepted_some tree p well =
-      then_some (Accepts p) (λ found reply. reply ≡ done_reply (text tree p found)) (accepted_by p (sound_or_refused p well)) (λ found. (done_reply (text tree p found), refl))
+  pub prints_one : (program : List ℕ) (x y : Reply) → AfterProgram (Printed text) program x → AfterProgram (Printed text) program y → x ≡ y
+  prints_one = after_one (Printed text) (λ tree p found well sound are x y is other. is ∙ sym other)
 
-  resolved_some : (tree : List TransformTree) → IsWithinLimits tree → (reply : Reply) × PrintsResolved text tree reply
-  resolved_some tree within =
-      then_given (Resolves tree) (PrintsAccepted text tree) (resolved_by tree (some_answer tree)) (λ p made. accepted_some tree p (resolved_well tree p within made))
-
-  pub prints_some : (program : List ℕ) → (reply : Reply) × Prints text program reply
-  prints_some program = then_given (Reads program) (PrintsResolved text) (read_by program (some_reading program)) (λ tree read. resolved_some tree (read_within program tree read))
+  pub prints_some : (program : List ℕ) → (reply : Reply) × AfterProgram (Printed text) program reply
+  prints_some = after_some (Printed text) (λ tree p found well sound are. (done_reply (text tree p found), refl))
 
 -- what is written of a program is written of itself
 not_done : (line text : List ℕ) → done_reply text ≡ refusal_reply Program line → ⊥

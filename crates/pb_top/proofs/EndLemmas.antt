@@ -1,19 +1,20 @@
 -- From what the work ended with, once it was written, to how the call ends.
-use Rattle.std.proofs.Common.{◌≡◌, ◌≢◌, ℕ, ◌<◌, List, [], ◌∷◌, length, map, take, drop, ◌-◌, String, Option, Some, None, ◌⊎◌, Result, Ok, Err, IfOk, Vec, Contains, inl, inr, string_bytes, refl, sym, ap, subst, ◌∙◌, append-nil, arith}
+use Rattle.std.proofs.Common.{◌≡◌, ◌≢◌, ℕ, suc, ◌<◌, ◌≤◌, List, [], ◌∷◌, ◌++◌, length, map, take, drop, ◌-◌, String, Option, Some, None, ◌⊎◌, Result, Ok, Err, IfOk, Vec, Contains, inl, inr, string_bytes, refl, sym, ap, subst, ◌∙◌, append-nil, arith}
 use Rattle.std.specs.declared.alloc.Global.{Global}
 use Rattle.std.specs.declared.alloc.AllocError.{AllocError}
 use Rattle.std.proofs.lemmas.List.Elements.{Contains-append_right}
 use Rattle.std.proofs.lemmas.List.{take_all, length-drop, drop-map}
 use Rattle.pb_outside.specs.Sink.{told_with}
 use Rattle.pb_outside.specs.Shelf.{Files}
-use Rattle.pb_words.specs.Line.{Line, IsInside}
+use Rattle.pb_words.specs.Line.{Asks, Line, IsInside, check, choices, demo, run, tune}
+use Rattle.pb_words.specs.declared.options.Settings.{Settings}
 use Rattle.pb_words.specs.declared.ask.Ask.{Ask}
 use Rattle.pb_words.proofs.LineLemmas.{one_reading}
 use Rattle.pb_top.specs.Sinks.{ShelfChange, SinkChange, IsSound, AsksFront, Gains, Stays, IsIdle}
 use Rattle.pb_top.specs.Reply.{Reply, status_code, done_reply, refusal_reply, usage}
-use Rattle.pb_top.specs.Answer.{taken_words, AskAnswers, Answers, IsTailOf, IsOut, IsFileWord, AreFileWords}
+use Rattle.pb_top.specs.Answer.{taken_words, AskAnswers, Answers, IsTail, IsTailOf, IsOut, IsFileWord, AreFileWords}
 use Rattle.pb_top.specs.Ends.{IsReadFault, Shows, IsAnswerStatus, AreSteady, AsksInOrder, OutBreaks, ErrBreaks, Ends}
-use Rattle.pb_top.specs.Working.{IsRefusal, StopsWith, ShelfReplies, WritesTo, IsWritten, LineIsWritten}
+use Rattle.pb_top.specs.Working.{IsRefusal, StopsWith, ShelfWrites, WritesTo, IsWritten, LineIsWritten}
 use Rattle.pb_top.specs.declared.reply.Status.{Status}
 use Rattle.pb_top.specs.declared.reply.Stop.{Stop}
 use Rattle.pb_top.specs.declared.reply.Stop.TheVariants.{Memory, Refused, Unread}
@@ -26,15 +27,11 @@ no_bytes (Some written) = ap Some (sym (append-nil written))
 gains_none : (sink : SinkChange) → Stays sink → Gains [] sink
 gains_none sink stays = stays ∙ no_bytes sink.before
 
--- what every end of a call keeps of the shelf, and that the words' reply has no tail
+-- what every end of a call keeps of the shelf
 pub record Keeps (words : List (List ℕ)) (shelf : ShelfChange) : Type 0 where
   pub files : shelf.now ≡ shelf.before
   pub asked : AsksInOrder words shelf
   pub untaken : AreFileWords words shelf.before [] → shelf.bytes_now ≡ shelf.bytes_before
-  pub tail : (reply : Reply) → IsTailOf words shelf.before reply []
-
-is_out : (words : List (List ℕ)) (shelf : ShelfChange) → Keeps words shelf → (reply : Reply) → IsOut words shelf.before reply reply.out
-is_out words shelf keeps reply = ([], keeps.tail reply, sym (append-nil reply.out))
 
 -- a status that no fault has is an answer's
 pub other_status : (status n : ℕ) → status ≡ n → (n < 9) ⊎ (11 < n) → IsAnswerStatus status
@@ -43,12 +40,11 @@ other_status status n is other =
 
 module _ (words : List (List ℕ)) (shelf : ShelfChange) (out err : SinkChange) (keeps : Keeps words shelf) where
   -- the text of a reply was put whole
-  reply_ends : (reply : Reply) (status : ℕ) → (reply.status < 9) ⊎ (11 < reply.status) → IsSound shelf → Answers words shelf.before reply → status ≡ reply.status
-      → Gains reply.out out → Gains reply.err err → AreSteady out err → (status ≢ 0 → Stays out) → (status ≡ 0 → Stays err) → Ends words shelf out err status
-  reply_ends reply status other sound answers is gains_out gains_err steady untouched silent =
+  reply_ends : (reply : Reply) (text : List ℕ) (status : ℕ) → (reply.status < 9) ⊎ (11 < reply.status) → IsSound shelf → Answers words shelf.before reply → IsOut words shelf.before reply text → status ≡ reply.status
+      → Gains text out → Gains reply.err err → AreSteady out err → (status ≢ 0 → Stays out) → (status ≡ 0 → Stays err) → Ends words shelf out err status
+  reply_ends reply text status other sound answers is_text is gains_out gains_err steady untouched silent =
       let plain = other_status status reply.status is other in
-      let text = is_out words shelf keeps reply in
-      let shows : Shows words shelf.before out err status reply = record { status_is = is; text = reply.out; is_text = text; gains_out = gains_out; gains_err = gains_err } in
+      let shows : Shows words shelf.before out err status reply = record { status_is = is; text = text; is_text = is_text; gains_out = gains_out; gains_err = gains_err } in
       record {
         answered = λ s. record { reply = reply; answers = answers; shows = shows };
         read_fault = λ e. absurd (plain.no_read_fault e);
@@ -95,22 +91,21 @@ module _ (words : List (List ℕ)) (shelf : ShelfChange) (out err : SinkChange) 
     silent = λ e. absurd (omega arith);
   }
 
-  -- a text on `out` is the answer's
-  out_ends : (text : List ℕ) (status : ℕ) → IsSound shelf → Answers words shelf.before (done_reply text) → WritesTo text out err 0 status → Ends words shelf out err status
-  out_ends text status sound answers (inl (is, gains, steady, idle)) =
-      reply_ends (done_reply text) status (inl (omega arith)) sound answers is gains (gains_none err idle.stays) (record { of_out = steady; of_err = idle.steady })
+  -- a text on `out` is the answer's, with what stands after it
+  out_ends : (reply : List ℕ) (text : List ℕ) (status : ℕ) → IsSound shelf → Answers words shelf.before (done_reply reply) → IsOut words shelf.before (done_reply reply) text → WritesTo text out err 0 status → Ends words shelf out err status
+  out_ends reply text status sound answers is_text (inl (is, gains, steady, idle)) =
+      reply_ends (done_reply reply) text status (inl (omega arith)) sound answers is_text is gains (gains_none err idle.stays) (record { of_out = steady; of_err = idle.steady })
       (λ n. absurd (n is)) (λ e. idle.stays)
-  out_ends text status sound answers (inr (is, breaks, idle)) =
-      let reply = done_reply text in
-      breaks_ends status is (inl (record { text = text; is_text = (reply, answers, is_out words shelf keeps reply); breaks = breaks; idle = idle }))
+  out_ends reply text status sound answers is_text (inr (is, breaks, idle)) =
+      breaks_ends status is (inl (record { text = text; is_text = (done_reply reply, answers, is_text); breaks = breaks; idle = idle }))
 
   -- a line on `err` is the answer's
-  err_ends : (code : Status) (line : List ℕ) (status : ℕ) → IsSound shelf → IsRefusal code → Answers words shelf.before (refusal_reply code line)
+  err_ends : (code : Status) (line : List ℕ) (status : ℕ) → IsSound shelf → IsRefusal code → Answers words shelf.before (refusal_reply code line) → IsTailOf words shelf.before (refusal_reply code line) []
       → WritesTo line err out (status_code code) status → Ends words shelf out err status
-  err_ends code line status sound refusal answers (inl (is, gains, steady, idle)) =
-      reply_ends (refusal_reply code line) status refusal.1 sound answers is (gains_none out idle.stays) gains (record { of_out = idle.steady; of_err = steady })
+  err_ends code line status sound refusal answers tail (inl (is, gains, steady, idle)) =
+      reply_ends (refusal_reply code line) [] status refusal.1 sound answers ([], tail, refl) is (gains_none out idle.stays) gains (record { of_out = idle.steady; of_err = steady })
       (λ n. idle.stays) (λ e. absurd (omega (arith, refusal.0)))
-  err_ends code line status sound refusal answers (inr (is, breaks, idle)) =
+  err_ends code line status sound refusal answers tail (inr (is, breaks, idle)) =
       breaks_ends status is (inr (record { text = line; is_text = inl (refusal_reply code line, answers, refl); breaks = breaks; idle = idle }))
 
   -- a file couldn't be read
@@ -132,20 +127,26 @@ module _ (words : List (List ℕ)) (shelf : ShelfChange) (out err : SinkChange) 
       breaks_ends status is (inr (record { text = line; is_text = inr fault; breaks = breaks; idle = idle }))
 
   -- a line that was put ends the call
-  pub line_ends : (reply : Reply) (line : Result Stop AllocError) (status : ℕ) → IsSound shelf → Answers words shelf.before reply
+  pub line_ends : (reply : Reply) (line : Result Stop AllocError) (status : ℕ) → IsSound shelf → Answers words shelf.before reply → IsTailOf words shelf.before reply []
       → IfOk line (StopsWith (λ r. r ≡ reply)) → LineIsWritten line out err status → Ends words shelf out err status
-  line_ends reply (Ok Memory) status sound answers is written = memory_ends status written.0 written.1 written.2
-  line_ends reply (Ok (Refused code line)) status sound answers is written =
-      err_ends code line.items status sound is.0 (subst (Answers words shelf.before) (sym is.1) answers) written
-  line_ends reply (Ok (Unread line)) status sound answers is written = absurd is
-  line_ends reply (Err e) status sound answers is written = memory_ends status written.0 written.1 written.2
+  line_ends reply (Ok Memory) status sound answers tail is written = memory_ends status written.0 written.1 written.2
+  line_ends reply (Ok (Refused code line)) status sound answers tail is written =
+      err_ends code line.items status sound is.0 (subst (Answers words shelf.before) (sym is.1) answers) (subst (λ r. IsTailOf words shelf.before r []) (sym is.1) tail) written
+  line_ends reply (Ok (Unread line)) status sound answers tail is written = absurd is
+  line_ends reply (Err e) status sound answers tail is written = memory_ends status written.0 written.1 written.2
+
+  -- an answer, and what stands after it
+  abbrev Said : Option Files → List ℕ → Reply → Type 0
+  Said told tail reply = Answers words told reply × IsTailOf words told reply tail
 
   -- what the work ended with, once it was written, ends the call
   pub found_ends : (names : List (List ℕ)) (found : Result (Vec ℕ Global) Stop) (status : ℕ) → ((word : List ℕ) → Contains names word → IsFileWord words shelf.before word)
-      → ShelfReplies names (Answers words) shelf found → IsWritten found out err status → Ends words shelf out err status
-  found_ends names (Ok text) status file_word says written = out_ends text.items status says.0 says.1 written
+      → ShelfWrites names Said shelf found → IsWritten found out err status → Ends words shelf out err status
+  found_ends names (Ok text) status file_word says written =
+      let said = says.1.2 in
+      out_ends says.1.0 text.items status says.0 said.0 (says.1.1, said.1, says.1.3) written
   found_ends names (Err Memory) status file_word says written = memory_ends status written.0 written.1 written.2
-  found_ends names (Err (Refused code line)) status file_word says written = err_ends code line.items status says.0 says.1 says.2 written
+  found_ends names (Err (Refused code line)) status file_word says written = err_ends code line.items status says.0 says.1 says.2.0 says.2.1 written
   found_ends names (Err (Unread line)) status file_word says written =
       fault_ends (string_bytes line) status (record {
         cause = says.cause;
@@ -167,39 +168,68 @@ asks_nothing names shelf same = subst (AsksFront names shelf.asked_before) (sym 
 
 -- the words are a line
 module _ (words : List (List ℕ)) (ask : Ask) (place : ℕ) (line : Line words ask place) where
-  none_taken : (told : Option Files) → AreFileWords words told [] → taken_words ask place (drop place words) ≡ []
+  abbrev others : List (List ℕ)
+  others = drop place words
+
+  -- an answer to what is asked, and what stands after it
+  abbrev Asked : List (List ℕ) → Option Files → List ℕ → Reply → Type 0
+  Asked after told tail reply = AskAnswers ask after told reply × IsTail ask after told reply tail
+
+  abbrev SaidOf : Option Files → List ℕ → Reply → Type 0
+  SaidOf told tail reply = Answers words told reply × IsTailOf words told reply tail
+
+  none_taken : (told : Option Files) → AreFileWords words told [] → taken_words ask others ≡ []
   none_taken told (inl (other, there, again, is)) =
       let same = one_reading words other ask there place again line in
-      sym (is ∙ ap (λ a. taken_words a there (drop there words)) same.0 ∙ ap (λ p. taken_words ask p (drop p words)) same.1)
+      sym (is ∙ ap (λ a. taken_words a (drop there words)) same.0 ∙ ap (λ p. taken_words ask (drop p words)) same.1)
   none_taken told (inr (outside, is)) = absurd (outside (ask, place, line))
 
-  pub inside_keeps : (shelf : ShelfChange) → shelf.now ≡ shelf.before → AsksFront (taken_words ask place (drop place words)) shelf.asked_before shelf.asked_now
-      → (taken_words ask place (drop place words) ≡ [] → shelf.bytes_now ≡ shelf.bytes_before) → Keeps words shelf
+  inside_keeps : (shelf : ShelfChange) → shelf.now ≡ shelf.before → AsksFront (taken_words ask others) shelf.asked_before shelf.asked_now
+      → (taken_words ask others ≡ [] → shelf.bytes_now ≡ shelf.bytes_before) → Keeps words shelf
   inside_keeps shelf files asked untaken = record {
     files = files;
-    asked = record { names = taken_words ask place (drop place words); are = inl (ask, place, line, refl); front = asked };
+    asked = record { names = taken_words ask others; are = inl (ask, place, line, refl); front = asked };
     untaken = λ none. untaken (none_taken shelf.before none);
-    tail = λ reply. inl (ask, place, line, refl);
   }
 
-  pub inside_replies : (shelf : ShelfChange) (found : Result (Vec ℕ Global) Stop) → ShelfReplies (taken_words ask place (drop place words)) (AskAnswers ask place (drop place words)) shelf found
-      → ShelfReplies (taken_words ask place (drop place words)) (Answers words) shelf found
-  inside_replies shelf (Ok text) says = (says.0, inl (ask, place, line, says.1))
-  inside_replies shelf (Err Memory) says = tt
-  inside_replies shelf (Err (Refused code text)) says = (says.0, says.1, inl (ask, place, line, says.2))
-  inside_replies shelf (Err (Unread text)) says = says
+  said : (told : Option Files) (tail : List ℕ) (reply : Reply) → Asked others told tail reply → SaidOf told tail reply
+  said told tail reply asked = (inl (ask, place, line, asked.0), inl (ask, place, line, asked.1))
+
+  inside_writes : (shelf : ShelfChange) (found : Result (Vec ℕ Global) Stop) → ShelfWrites (taken_words ask others) (Asked others) shelf found → ShelfWrites (taken_words ask others) SaidOf shelf found
+  inside_writes shelf (Ok text) says = (says.0, (says.1.0, says.1.1, said shelf.before says.1.1 (done_reply says.1.0) says.1.2, says.1.3))
+  inside_writes shelf (Err Memory) says = tt
+  inside_writes shelf (Err (Refused code text)) says = (says.0, says.1, said shelf.before [] (refusal_reply code text.items) says.2)
+  inside_writes shelf (Err (Unread text)) says = says
 
   -- the work on a line, once it was written, ends the call
-  pub work_ends : (shelf : ShelfChange) (out err : SinkChange) (others : List (List ℕ)) (found : Result (Vec ℕ Global) Stop) (status : ℕ) → others ≡ drop place words
-      → shelf.now ≡ shelf.before → AsksFront (taken_words ask place others) shelf.asked_before shelf.asked_now
-      → (taken_words ask place others ≡ [] → shelf.bytes_now ≡ shelf.bytes_before) → ShelfReplies (taken_words ask place others) (AskAnswers ask place others) shelf found
+  pub work_ends : (shelf : ShelfChange) (out err : SinkChange) (after : List (List ℕ)) (found : Result (Vec ℕ Global) Stop) (status : ℕ) → after ≡ others
+      → shelf.now ≡ shelf.before → AsksFront (taken_words ask after) shelf.asked_before shelf.asked_now
+      → (taken_words ask after ≡ [] → shelf.bytes_now ≡ shelf.bytes_before) → ShelfWrites (taken_words ask after) (Asked after) shelf found
       → IsWritten found out err status → Ends words shelf out err status
-  work_ends shelf out err others found status is files asked untaken says =
-      let after = drop place words in
-      let keeps = inside_keeps shelf files (subst (λ o. AsksFront (taken_words ask place o) shelf.asked_before shelf.asked_now) is asked)
-      (subst (λ o. taken_words ask place o ≡ [] → shelf.bytes_now ≡ shelf.bytes_before) is untaken) in
-      found_ends words shelf out err keeps (taken_words ask place after) found status (λ word here. (ask, place, line, here))
-      (inside_replies shelf found (subst (λ o. ShelfReplies (taken_words ask place o) (AskAnswers ask place o) shelf found) is says))
+  work_ends shelf out err after found status is files asked untaken says =
+      let keeps = inside_keeps shelf files (subst (λ o. AsksFront (taken_words ask o) shelf.asked_before shelf.asked_now) is asked)
+      (subst (λ o. taken_words ask o ≡ [] → shelf.bytes_now ≡ shelf.bytes_before) is untaken) in
+      found_ends words shelf out err keeps (taken_words ask others) found status (λ word here. (ask, place, line, here))
+      (inside_writes shelf found (subst (λ o. ShelfWrites (taken_words ask o) (Asked o) shelf found) is says))
+
+-- what stands after some words
+past : (front rest : List (List ℕ)) → drop (length front) (front ++ rest) ≡ rest
+past [] rest = refl
+past (word ∷ front) rest = past front rest
+
+after_place : (words : List (List ℕ)) (ask : Ask) (place : ℕ) (line : Line words ask place) → drop place words ≡ line.others
+after_place words ask place line = ap (λ n. drop n words) line.placed ∙ ap (drop (suc (length line.option_words))) line.parts ∙ past line.option_words line.others
+
+-- a line has few words after its options
+pub few_others : (words : List (List ℕ)) (ask : Ask) (place : ℕ) → Line words ask place → length (drop place words) ≤ 19
+few_others words ask place line = omega (arith, ap length (after_place words ask place line), counted line.command line.settings line.others ask line.asks)
+  where
+    counted : (command : List ℕ) (s : Settings) (rest : List (List ℕ)) (asked : Ask) → Asks command s rest asked → length rest ≤ 19
+    counted command s rest asked (check none) = omega arith
+    counted command s rest asked (choices none) = omega arith
+    counted command s rest asked (run none few) = omega (arith, few)
+    counted command s rest asked (tune none) = omega arith
+    counted command s rest asked (demo none seed size workers) = omega arith
 
 -- words outside the grammar
 pub usage_ends : (words : List (List ℕ)) (shelf : ShelfChange) (out err : SinkChange) (line : Result Stop AllocError) (status : ℕ) → (IsInside words → ⊥)
@@ -209,8 +239,7 @@ usage_ends words shelf out err line status outside same =
       files = same.files;
       asked = record { names = []; are = inr (outside, refl); front = asks_nothing [] shelf same };
       untaken = λ none. same.bytes;
-      tail = λ reply. inr (outside, refl);
-    }) usage line status same.faults (inr (outside, refl))
+    }) usage line status same.faults (inr (outside, refl)) (inr (outside, refl))
 
 -- the texts after the place
 pub texts_after : (words : List (String Global)) (place : ℕ) → map string_bytes (take (length words - place) (drop place words)) ≡ drop place (map string_bytes words)

@@ -12,11 +12,12 @@ use Rattle.pb_top.specs.Texts.{read_fault_line}
 use Rattle.pb_top.specs.Reply.{Reply, refusal_reply}
 use Rattle.pb_top.specs.Steps.{TakesFile, Takes}
 use Rattle.pb_top.specs.Answer.{limited}
-use Rattle.pb_top.specs.Working.{IsUnread, ShelfStops, AreTaken, contents_of}
-use Rattle.pb_top.specs.Tokens.{texts_of}
+use Rattle.pb_top.specs.Working.{IsUnread, ShelfStops, AreTaken, contents_of, texts_of}
 use Rattle.pb_top.specs.declared.reply.Stop.{Stop}
 use Rattle.pb_top.specs.declared.reply.Stop.TheVariants.{Memory, Refused, Unread}
-use Rattle.pb_top.proofs.ProgramLemmas.{no_slice}
+
+abbrev pub no_slice : Bor (List ℕ)
+no_slice = record { ref_ptr = (0, 0); now = [] }
 
 -- no name was asked
 pub asks_none : (names : List (List ℕ)) (told : Option (List (List ℕ))) → AsksFront names told told

@@ -1,93 +1,45 @@
 -- Words and files have one answer.
-use Rattle.std.proofs.Common.{◌≡◌, ℕ, arith, List, [], ◌∷◌, map, drop, ℤ, Option, Some, None, Result, Ok, Err, ◌⊎◌, inl, inr, sym, ap, subst, ◌∙◌, refl}
+use Rattle.std.proofs.Common.{◌≡◌, ℕ, arith, List, [], ◌∷◌, drop, Option, Some, None, ◌⊎◌, inl, inr, sym, ap, subst, ◌∙◌, refl}
 use Rattle.std.proofs.lemmas.Bool.{cases_lt}
 use Rattle.pb_outside.specs.Shelf.{Files}
-use Rattle.pb_values.specs.declared.outcome.Kind.{Kind}
 use Rattle.pb_words.specs.declared.ask.Ask.{Ask}
 use Rattle.pb_words.specs.declared.ask.Ask.TheVariants.{Check, Choices, Run, Tune, Demo}
 use Rattle.pb_words.proofs.LineLemmas.{one_reading}
-use Rattle.pb_matrix.specs.Text.{matrix_text}
-use Rattle.pb_matrix.specs.Value.{MatrixValue}
-use Rattle.pb_matrix.specs.Reading.{matrix_read}
-use Rattle.pb_matrix.specs.declared.matrix.MatrixRefusal.{MatrixRefusal}
-use Rattle.pb_matrix.specs.declared.matrix.MatrixRefusal.TheVariants.{BadHeader, BadNumber, TooFew, TooMany, Memory}
-use Rattle.pb_top.specs.Reply.{Reply, IsFaultyInput, done_reply}
+use Rattle.pb_top.specs.Reply.{Reply}
 use Rattle.pb_top.specs.Steps.{Takes}
-use Rattle.pb_top.specs.OneRule.{WritesSums, InputAnswers, RunsOneRule}
-use Rattle.pb_top.specs.Tokens.{tokens_of}
 use Rattle.pb_top.specs.Check.{its_canonical, its_report}
-use Rattle.pb_top.specs.Answer.{RunLine, built_run, taken_words, limited, RunAnswers, content_at, WorkAnswers, AskAnswers, Answers}
+use Rattle.pb_top.specs.Answer.{RunLine, Runs, built_run, config_text, input_files, taken_words, limited, content_at, WorkAnswers, AskAnswers, Answers}
+use Rattle.pb_top.specs.Runs.{RunReplies}
 use Rattle.pb_top.specs.Sinks.{ShelfChange, SinkChange}
 use Rattle.pb_top.specs.Ends.{Shows, IsAnswered, IsAnswerStatus, OutBreaks, ErrBreaks, Ends, IsFaultless, IsComplete}
-use Rattle.pb_top.specs.declared.program.Sign.{Sign}
-use Rattle.pb_top.proofs.FrameLemmas.{one_form}
 use Rattle.pb_top.proofs.StepLemmas.{then_one, takes_one}
 use Rattle.pb_top.proofs.AcceptLemmas.{prints_one}
 use Rattle.pb_top.proofs.EndLemmas.{other_status}
+use Rattle.pb_top.proofs.RunLemmas.{run_one}
 
-abbrev as_sum : ℤ → Result ℤ Kind
-as_sum z = Ok z
+one_line : (grain : ℕ) (line : Option RunLine) (contents : List (List ℕ)) (first second : Reply) → Runs grain RunReplies line contents first → Runs grain RunReplies line contents second → first ≡ second
+one_line grain (Some line) contents first second left right =
+    run_one line.transform grain (config_text line contents) (input_files line contents) (content_at contents 0) first second left right
+one_line grain None contents first second left right = left ∙ sym right
 
-sums_same : (sums others : List ℤ) → map as_sum sums ≡ map as_sum others → sums ≡ others
-sums_same [] [] is = refl
-sums_same [] (z ∷ others) is = cc
-sums_same (z ∷ sums) [] is = cc
-sums_same (z ∷ sums) (y ∷ others) is =
-    let rest = sums_same sums others cc in
-    cc
+one_work : (ask : Ask) (others contents : List (List ℕ)) (first second : Reply) → WorkAnswers ask others contents first → WorkAnswers ask others contents second → first ≡ second
+one_work Check others contents first second left right = prints_one its_canonical (content_at contents 0) first second left right
+one_work Choices others contents first second left right = prints_one its_report (content_at contents 0) first second left right
+one_work (Run workers depth grain pool trace) others contents first second left right = one_line grain (built_run pool others) contents first second left right
+one_work (Tune up_to) others contents first second left right = left ∙ sym right
+one_work (Demo seed size workers) others contents first second left right = left ∙ sym right
 
-one_text : (signs : List Sign) (matrix : MatrixValue) (first second : List ℕ) → WritesSums signs matrix first → WritesSums signs matrix second → first ≡ second
-one_text signs matrix first second left right =
-    left.written ∙ ap (matrix_text matrix.shape) (sums_same left.sums right.sums (sym left.summed ∙ right.summed)) ∙ sym right.written
-
-one_refusal : (file : List ℕ) (refusal : MatrixRefusal) (first second : Reply) → IsFaultyInput file refusal first → IsFaultyInput file refusal second → first ≡ second
-one_refusal file BadHeader first second left right = left ∙ sym right
-one_refusal file (BadNumber word) first second left right = left ∙ sym right
-one_refusal file (TooFew wanted found) first second left right = left ∙ sym right
-one_refusal file (TooMany wanted) first second left right = left ∙ sym right
-one_refusal file Memory first second left right = absurd left
-
-one_input : (signs : List Sign) (file : List ℕ) (read : Result MatrixValue MatrixRefusal) (first second : Reply) → InputAnswers signs file read first
-    → InputAnswers signs file read second → first ≡ second
-one_input signs file (Ok matrix) first second (inl (text, writes, is)) (inl (other, rewrites, other_is)) =
-    is ∙ ap done_reply (one_text signs matrix text other writes rewrites) ∙ sym other_is
-one_input signs file (Ok matrix) first second (inl (text, writes, is)) (inr (none, other_is)) = absurd (none text writes)
-one_input signs file (Ok matrix) first second (inr (none, is)) (inl (text, writes, other_is)) = absurd (none text writes)
-one_input signs file (Ok matrix) first second (inr (none, is)) (inr (none_too, other_is)) = is ∙ sym other_is
-one_input signs file (Err refusal) first second left right = one_refusal file refusal first second left right
-
-one_run : (program word file input : List ℕ) (first second : Reply) → RunsOneRule program word file input first → RunsOneRule program word file input second → first ≡ second
-one_run program word file input first second (inl (names, signs, rule, left)) (inl (others, more, other_rule, right)) =
-    let same = one_form (tokens_of program) others names more signs other_rule.form rule.form in
-    let P : List Sign → Type 0 = λ s. InputAnswers s file (matrix_read input) second in
-    one_input signs file (matrix_read input) first second left (subst P same.signs_are right)
-one_run program word file input first second (inl (names, signs, rule, left)) (inr (none, is)) = absurd (none names signs rule)
-one_run program word file input first second (inr (none, is)) (inl (names, signs, rule, right)) = absurd (none names signs rule)
-one_run program word file input first second (inr (none, is)) (inr (none_too, other_is)) = is ∙ sym other_is
-
-one_line : (line : Option RunLine) (contents : List (List ℕ)) (first second : Reply) → RunAnswers line contents first → RunAnswers line contents second → first ≡ second
-one_line (Some line) contents first second left right =
-    one_run (content_at contents 0) line.transform line.input (content_at contents 1) first second left right
-one_line None contents first second left right = left ∙ sym right
-
-one_work : (ask : Ask) (place : ℕ) (others contents : List (List ℕ)) (first second : Reply) → WorkAnswers ask place others contents first → WorkAnswers ask place others contents second → first ≡ second
-one_work Check place others contents first second left right = prints_one its_canonical (content_at contents 0) first second left right
-one_work Choices place others contents first second left right = prints_one its_report (content_at contents 0) first second left right
-one_work (Run workers depth grain pool trace) place others contents first second left right = one_line (built_run place pool trace others) contents first second left right
-one_work (Tune up_to) place others contents first second left right = left ∙ sym right
-one_work (Demo seed size workers) place others contents first second left right = left ∙ sym right
-
-one_asked : (ask : Ask) (place : ℕ) (others : List (List ℕ)) (files : Files) (first second : Reply) → AskAnswers ask place others (Some files) first → AskAnswers ask place others (Some files) second
+one_asked : (ask : Ask) (others : List (List ℕ)) (files : Files) (first second : Reply) → AskAnswers ask others (Some files) first → AskAnswers ask others (Some files) second
     → first ≡ second
-one_asked ask place others files =
-    then_one (Takes (Some files) (limited (taken_words ask place others))) (WorkAnswers ask place others) (takes_one files (limited (taken_words ask place others)))
-    (one_work ask place others)
+one_asked ask others files =
+    then_one (Takes (Some files) (limited (taken_words ask others))) (WorkAnswers ask others) (takes_one files (limited (taken_words ask others)))
+    (one_work ask others)
 
 pub one_reply_lem : (words : List (List ℕ)) (files : Files) (first second : Reply) → Answers words (Some files) first → Answers words (Some files) second → first ≡ second
 one_reply_lem words files first second (inl (ask, place, line, left)) (inl (other, there, again, right)) =
     let same = one_reading words other ask there place again line in
-    let moved = subst (λ p. AskAnswers ask p (drop p words) (Some files) second) same.1 (subst (λ a. AskAnswers a there (drop there words) (Some files) second) same.0 right) in
-    one_asked ask place (drop place words) files first second left moved
+    let moved = subst (λ p. AskAnswers ask (drop p words) (Some files) second) same.1 (subst (λ a. AskAnswers a (drop there words) (Some files) second) same.0 right) in
+    one_asked ask (drop place words) files first second left moved
 one_reply_lem words files first second (inl (ask, place, line, left)) (inr (outside, is)) = absurd (outside (ask, place, line))
 one_reply_lem words files first second (inr (outside, is)) (inl (ask, place, line, right)) = absurd (outside (ask, place, line))
 one_reply_lem words files first second (inr (outside, is)) (inr (outside_too, other_is)) = is ∙ sym other_is

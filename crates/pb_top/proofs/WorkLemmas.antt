@@ -1,18 +1,84 @@
--- From the files of a command to its answer.
-use Rattle.std.proofs.Common.{ℕ, List, Result, Ok, Err, Vec, inl}
+-- From the files of a command to its answer, and to what stands after it.
+use Rattle.std.proofs.Common.{◌≡◌, ◌≢◌, refl, ℕ, Bool, true, false, List, [], Option, Some, None, Result, Ok, Err, Vec, inl, inr, arith, append-nil, sym}
 use Rattle.std.specs.declared.alloc.Global.{Global}
+use Rattle.pb_outside.specs.Shelf.{Files}
+use Rattle.pb_program.specs.Trees.{ProgTransform}
+use Rattle.pb_syntax.specs.Trees.{TransformTree}
+use Rattle.pb_check.specs.Orders.{AnalysisValue}
+use Rattle.pb_program.specs.Configs.{ConfigValue}
+use Rattle.pb_matrix.specs.Value.{MatrixValue}
+use Rattle.pb_words.specs.declared.ask.Ask.{Ask}
+use Rattle.pb_words.specs.declared.ask.Ask.TheVariants.{Check, Choices, Run, Tune, Demo}
 use Rattle.pb_top.specs.Sinks.{ShelfChange, IsSound}
-use Rattle.pb_top.specs.Reply.{Reply}
-use Rattle.pb_top.specs.Steps.{Then, Takes}
-use Rattle.pb_top.specs.Answer.{limited}
-use Rattle.pb_top.specs.Working.{Replies, ShelfReplies}
+use Rattle.pb_top.specs.Reply.{Reply, done_reply, refusal_reply, status_code}
+use Rattle.pb_top.specs.Runs.{AfterAccept, AfterBuilt, AfterConfig, AfterFit, AfterInputs, AfterName, Configures, FindsTransform, Fits, Fitting, IsBuilt, IsWithin, ReadsInput, RunReplies, RunWrites, RunsProgram}
+use Rattle.pb_top.specs.Steps.{Accepts, AfterAccepted, AfterResolved, Each, Reads, Resolves, Then, Takes}
+use Rattle.pb_top.specs.Answer.{AskAnswers, IsTail, RunLine, Runs, WorkAnswers, WorkWrites, built_run, limited, taken_words}
+use Rattle.pb_top.specs.Working.{Replies, ShelfStops, ShelfWrites, StopsWith, Writes}
 use Rattle.pb_top.specs.declared.reply.Stop.{Stop}
 use Rattle.pb_top.specs.declared.reply.Stop.TheVariants.{Memory, Refused, Unread}
+use Rattle.pb_top.proofs.StepLemmas.{then_map}
 
--- with the bytes of its files a command has its answer
-pub files_answer : (names contents : List (List ℕ)) (Works : List (List ℕ) → Reply → Type 0) (shelf : ShelfChange) (found : Result (Vec ℕ Global) Stop)
-    → IsSound shelf → Takes shelf.before (limited names) (Ok contents) → Replies (Works contents) found → ShelfReplies names (λ told. Then (Takes told (limited names)) Works) shelf found
-files_answer names contents Works shelf (Ok text) sound takes says = (sound, inl (contents, takes, says))
-files_answer names contents Works shelf (Err Memory) sound takes says = tt
-files_answer names contents Works shelf (Err (Refused status line)) sound takes says = (sound, says.0, inl (contents, takes, says.1))
-files_answer names contents Works shelf (Err (Unread line)) sound takes says = absurd says
+-- a text that is printed has nothing after it
+pub writes_alone : (Says : Reply → Type 0) (found : Result (Vec ℕ Global) Stop) → Replies Says found → Writes (λ tail reply. Says reply × (tail ≡ [])) found
+writes_alone Says (Ok text) says = (text.items, [], (says, refl), sym (append-nil text.items))
+writes_alone Says (Err Memory) says = tt
+writes_alone Says (Err (Refused status line)) says = (says.0, says.1, refl)
+writes_alone Says (Err (Unread line)) says = absurd says
+
+-- what is asked of a run at its end, through all its steps
+module _ (name : List ℕ) (grain : ℕ) (End More : Fitting → Reply → Type 0) (each : (r : Fitting) (reply : Reply) → End r reply → More r reply) where
+  inputs_map : (p : List ProgTransform) (found : List AnalysisValue) (config : ConfigValue) (number : ℕ) (inputs : List MatrixValue) (reply : Reply)
+      → AfterInputs name grain End p found config number inputs reply → AfterInputs name grain More p found config number inputs reply
+  inputs_map p found config number inputs reply (t, a, at, there, rest) =
+      (t, a, at, there, then_map (Fits p name number t inputs) _ _ (λ sizes. then_map (IsWithin _ name) (λ u. End _) (λ u. More _) (λ u. each _)) reply rest)
+
+  accept_map : (text : Option (List ℕ)) (files : List (List ℕ × List ℕ)) (p : List ProgTransform) (found : List AnalysisValue) (reply : Reply)
+      → AfterAccept name grain End p found text files reply → AfterAccept name grain More p found text files reply
+  accept_map text files p found =
+      then_map (IsBuilt p) (λ u. AfterBuilt name grain End p found text files) (λ u. AfterBuilt name grain More p found text files)
+      (λ u. then_map (Configures p text) (AfterConfig name grain End p found files) (AfterConfig name grain More p found files)
+      (λ config. then_map (FindsTransform p name _) (λ number. AfterName name grain End p found config number files) (λ number. AfterName name grain More p found config number files)
+      (λ number. then_map (Each ReadsInput files) (AfterInputs name grain End p found config number) (AfterInputs name grain More p found config number) (inputs_map p found config number))))
+
+  pub run_map : (program : List ℕ) (text : Option (List ℕ)) (files : List (List ℕ × List ℕ)) (reply : Reply) → RunsProgram name grain End program text files reply → RunsProgram name grain More program text files reply
+  run_map program text files =
+      then_map (Reads program) (AfterResolved (λ tree p found. AfterAccept name grain End p found text files)) (AfterResolved (λ tree p found. AfterAccept name grain More p found text files))
+      (λ tree. then_map (Resolves tree) (AfterAccepted (λ tree p found. AfterAccept name grain End p found text files) tree) (AfterAccepted (λ tree p found. AfterAccept name grain More p found text files) tree)
+      (λ p. then_map (Accepts p) (λ found. AfterAccept name grain End p found text files) (λ found. AfterAccept name grain More p found text files) (accept_map text files p)))
+
+line_map : (grain : ℕ) (End More : Fitting → Reply → Type 0) → ((r : Fitting) (reply : Reply) → End r reply → More r reply) → (line : Option RunLine) (contents : List (List ℕ)) (reply : Reply)
+    → Runs grain End line contents reply → Runs grain More line contents reply
+line_map grain End More each (Some line) contents reply runs = run_map line.transform grain End More each _ _ _ reply runs
+line_map grain End More each None contents reply runs = runs
+
+-- what is written begins with the answer
+answered : (ask : Ask) (others : List (List ℕ)) (tail : List ℕ) (contents : List (List ℕ)) (reply : Reply) → WorkWrites ask others tail contents reply → WorkAnswers ask others contents reply
+answered Check others tail contents reply writes = writes.0
+answered Choices others tail contents reply writes = writes.0
+answered (Run workers depth grain pool trace) others tail contents reply writes = line_map grain (RunWrites trace tail) RunReplies (λ r reply w. w.0) (built_run pool others) contents reply writes
+answered (Tune up_to) others tail contents reply writes = writes.0
+answered (Demo seed size workers) others tail contents reply writes = writes.0
+
+module _ (ask : Ask) (others contents : List (List ℕ)) (shelf : ShelfChange) (takes : Takes shelf.before (limited (taken_words ask others)) (Ok contents)) where
+  abbrev Asked : Option Files → List ℕ → Reply → Type 0
+  Asked told tail reply = AskAnswers ask others told reply × IsTail ask others told reply tail
+
+  asked_done : (text tail : List ℕ) → WorkWrites ask others tail contents (done_reply text) → Asked shelf.before tail (done_reply text)
+  asked_done text tail writes = (inl (contents, takes, answered ask others tail contents (done_reply text) writes), inr (refl, inl (contents, takes, writes)))
+
+  -- with the bytes of its files a command writes its answer, and what stands after it
+  pub files_write : (found : Result (Vec ℕ Global) Stop) → IsSound shelf → Writes (λ tail. WorkWrites ask others tail contents) found → ShelfWrites (taken_words ask others) Asked shelf found
+  files_write (Ok text) sound says = (sound, (says.0, says.1, asked_done says.0 says.1 says.2, says.3))
+  files_write (Err Memory) sound says = tt
+  files_write (Err (Refused status line)) sound says =
+      let reply = refusal_reply status line.items in
+      (sound, says.0, (inl (contents, takes, answered ask others [] contents reply says.1), inl ((λ e. omega (arith, says.0.0, e)), refl)))
+  files_write (Err (Unread line)) sound says = absurd says
+
+-- a file that can't be taken is the answer, and nothing stands after it
+pub stops_write : (ask : Ask) (others : List (List ℕ)) (shelf : ShelfChange) (stop : Stop) → ShelfStops (taken_words ask others) (λ told reply. Takes told (limited (taken_words ask others)) (Err reply)) shelf stop
+    → ShelfStops (taken_words ask others) (λ told reply. AskAnswers ask others told reply × IsTail ask others told reply []) shelf stop
+stops_write ask others shelf Memory stops = tt
+stops_write ask others shelf (Refused status line) stops = (stops.0, stops.1, (inr stops.2, inl ((λ e. omega (arith, stops.1.0, e)), refl)))
+stops_write ask others shelf (Unread line) stops = stops

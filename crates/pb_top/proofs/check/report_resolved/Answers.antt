@@ -1,7 +1,8 @@
 use Rattle.std.proofs.Common.{inl}
 use Rattle.pb_program.specs.Trees.{bare_prog}
 use Rattle.pb_syntax.specs.Trees.{bare_text}
-use Rattle.pb_top.specs.Check.{PrintsAccepted, PrintsResolved, its_report}
+use Rattle.pb_top.specs.Check.{Printed, its_report}
+use Rattle.pb_top.specs.Steps.{AfterAccepted, AfterResolved}
 use Rattle.pb_top.proofs.StepLemmas.{replies_map}
 use Rattle.pb_top.proofs.check.report_resolved.Goals as goal
 
@@ -9,4 +10,4 @@ pub returns : goal.returns
 returns c =
     let tree = bare_text c.args.tree.now in
     let p = bare_prog c.in_ok-program.program in
-    replies_map (PrintsAccepted its_report tree p) (PrintsResolved its_report tree) (λ reply more. inl (p, c.in_ok-program.ensures.gives, more)) c.report_accepted.result c.report_accepted.ensures
+    replies_map (AfterAccepted (Printed its_report) tree p) (AfterResolved (Printed its_report) tree) (λ reply more. inl (p, c.in_ok-program.ensures.gives, more)) c.report_accepted.result c.report_accepted.ensures

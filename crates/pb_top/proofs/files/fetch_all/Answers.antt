@@ -3,10 +3,8 @@ use Rattle.pb_outside.specs.Shelf.{asked_after}
 use Rattle.pb_outside.specs.declared.shelf.TheConstants.{FILE_LIMIT}
 use Rattle.pb_top.specs.Sinks.{shelf_change}
 use Rattle.pb_top.specs.Steps.{TakesFile}
-use Rattle.pb_top.specs.Tokens.{texts_of}
-use Rattle.pb_top.specs.Working.{contents_of}
-use Rattle.pb_top.proofs.ProgramLemmas.{no_slice}
-use Rattle.pb_top.proofs.FileLemmas.{Reading, turn, reads_on, asks_more, asked_both, all_stop, all_read, stop_taken, contents_more}
+use Rattle.pb_top.specs.Working.{contents_of, texts_of}
+use Rattle.pb_top.proofs.FileLemmas.{Reading, no_slice, turn, reads_on, asks_more, asked_both, all_stop, all_read, stop_taken, contents_more}
 use Rattle.pb_top.proofs.files.fetch_all.Goals as goal
 
 pub returns-in_err-fetch-clause-taken : goal.returns-in_err-fetch-clause-taken

@@ -1,7 +1,6 @@
 use Rattle.std.proofs.Common.{◌≡◌, take}
 use Rattle.pb_outside.specs.Shelf.{asked_after}
-use Rattle.pb_top.specs.Tokens.{texts_of}
-use Rattle.pb_top.specs.Working.{contents_of}
+use Rattle.pb_top.specs.Working.{contents_of, texts_of}
 use Rattle.pb_top.proofs.FileLemmas.{Reading}
 use Rattle.pb_top.proofs.files.fetch_all.Given as goal
 
