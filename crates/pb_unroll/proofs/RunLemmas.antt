@@ -1,5 +1,5 @@
 -- What is known of a run, of its rules and of its tasks.
-use Rattle.std.proofs.Common.{◌≡◌, ◌∙◌, ap, subst, ℕ, List, length, slice_get, Some}
+use Rattle.std.proofs.Common.{◌≡◌, ◌∙◌, ap, subst, ℕ, suc, ◌+◌, ◌≤◌, List, [], ◌∷◌, length, slice_get, Some, arith}
 use Rattle.std.specs.Prelude.{◌≢◌}
 use Rattle.std.specs.List.{Contains, enumerate_from, flat_map}
 use Rattle.pb_base.proofs.ListLemmas.{at_in}
@@ -17,10 +17,17 @@ use Rattle.pb_frame.specs.Frames.{in_layer, layer_jobs}
 use Rattle.pb_frame.specs.declared.part.FramePart.{FramePart}
 use Rattle.pb_plan.proofs.LaidLemmas.{laid}
 use Rattle.pb_tasks.specs.Made.{jobs_for}
+use Rattle.pb_values.specs.declared.view.View.{View}
+use Rattle.pb_views.specs.Layouts.{AreInARow, area_at}
 use Rattle.pb_views.specs.Windows.{AreLaid}
 use Rattle.pb_unroll.specs.Running.{IsRunning, RunValue, of_sizes, of_transform}
 use Rattle.pb_unroll.specs.Shown.{AreWindowsOf, WindowsValue}
 use Rattle.pb_unroll.proofs.IndexLemmas.{at_zip}
+
+row_length : (sizes : List ℕ) (first : ℕ) (ds : List DeclValue) (vs : List View) → AreInARow first sizes ds vs → length vs ≡ length ds
+row_length sizes first [] vs row = ap length row
+row_length sizes first (d ∷ ds) [] row = absurd row
+row_length sizes first (d ∷ ds) (v ∷ vs) row = ap suc (row_length sizes (first + area_at sizes d) ds vs row.1)
 
 module _ (v : RunValue) (is : IsRunning v) where
   abbrev t : ProgTransform
@@ -34,6 +41,13 @@ module _ (v : RunValue) (is : IsRunning v) where
 
   pub fits : IsTransform (length i.program) t
   fits = at_place (IsTransform (length i.program)) i.program v.number t i.well_formed.transforms i.there
+
+  -- there are as many views as matrices, so those of the results are among them
+  pub results_there : v.transform.inputs + v.transform.middles ≤ length v.laid.views
+  results_there = omega (arith, fits.parts, row_length sizes 0 t.matrices v.laid.views is.run.row)
+
+  pub inputs_there : v.transform.inputs ≤ length v.laid.views
+  inputs_there = omega (arith, results_there)
 
   pub are_laid : AreLaid t.matrices sizes v.laid.views
   are_laid = laid v.number t v.found sizes i v.laid.views is.run.row

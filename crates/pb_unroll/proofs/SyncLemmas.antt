@@ -1,8 +1,11 @@
 -- A run may be shared by threads.
-use base.Fml.{Lft}
+use denote.RattleType.{RattleType}
+use denote.Builtin.{One}
+use denote.Hole.{as_row}
+use denote.Ref.{NamedLft}
 use denote.Param.Send.{IsSync, shr_sync, view_sync, plain_sync}
 use denote.Param.SendFields.{as_row_sync, declared_sync}
-use denote.Struct.Field.{u32-field, u64-field}
+use denote.Struct.Field.{shr_ref_field, u32-field, u64-field}
 use Rattle.std.proofs.Crossing.{Vec-sync}
 use Rattle.pb_check.proofs.orders.Analysis.TheSendSync as analysis
 use Rattle.pb_matrix.proofs.matrix.Matrix.TheSendSync as matrix
@@ -15,17 +18,21 @@ use Rattle.pb_unroll.proofs.windows.Windows.TheSendSync as windows
 use Rattle.pb_unroll.specs.contracts.run.Run.{the_row}
 use Rattle.pb_unroll.specs.contracts.run.Run.TheInside as inside
 
-pub run_sync : (κ : Lft) → IsSync (the_row κ)
+-- what is borrowed may be, if what it refers to may be
+borrowed : (κ : NamedLft) (R : RattleType) (one : One R.mir) → IsSync R → IsSync (as_row (shr_ref_field κ R one))
+borrowed κ R one s = as_row_sync (shr_ref_field κ R one) (shr_sync _ _ R s)
+
+pub run_sync : (κ : NamedLft) → IsSync (the_row κ)
 run_sync κ = view_sync (inside.the_row κ) _ _ _ _ (declared_sync (inside.the_type κ) (
-  as_row_sync _ (shr_sync _ κ _ program_sync),
+  borrowed κ _ tt program_sync,
   (
-    as_row_sync _ (shr_sync _ κ _ config.the_sync),
+    borrowed κ _ tt config.the_sync,
     (
       as_row_sync u32-field (plain_sync _ _ _ _ _),
       (
-        as_row_sync _ (shr_sync _ κ _ transform_sync),
+        borrowed κ _ tt transform_sync,
         (
-          as_row_sync _ (shr_sync _ κ _ analysis.the_sync),
+          borrowed κ _ tt analysis.the_sync,
           (
             as_row_sync u64-field (plain_sync _ _ _ _ _),
             (Vec-sync _ matrix.the_sync, (laid.the_sync, (graph.the_sync, (Vec-sync _ windows.the_sync, (rooms.the_sync, tt))))),

@@ -57,13 +57,15 @@ impl<'a> Run<'a> {
         &frame.sizes
     }
 
-    pub(crate) fn program(&self) -> &Prog
+    /// The program that is run.
+    pub fn program(&self) -> &Prog
         ensures { result.now ≡ self.now.program }
     {
         self.prog
     }
 
-    pub(crate) fn transform_number(&self) -> u32
+    /// The number of the transform that is run.
+    pub fn transform_number(&self) -> u32
         ensures { result ≡ self.now.number }
     {
         self.number
