@@ -7,7 +7,6 @@ use Rattle.std.proofs.lemmas.List.{take_all, length-drop, drop-map}
 use Rattle.pb_outside.specs.Sink.{told_with}
 use Rattle.pb_outside.specs.Shelf.{Files}
 use Rattle.pb_words.specs.Line.{Asks, Line, IsInside, check, choices, demo, run, tune}
-use Rattle.pb_words.specs.declared.options.Settings.{Settings}
 use Rattle.pb_words.specs.declared.ask.Ask.{Ask}
 use Rattle.pb_words.proofs.LineLemmas.{one_reading}
 use Rattle.pb_top.specs.Sinks.{ShelfChange, SinkChange, IsSound, AsksFront, Gains, Stays, IsIdle}
@@ -224,7 +223,7 @@ after_place words ask place line = ap (λ n. drop n words) line.placed ∙ ap (d
 pub few_others : (words : List (List ℕ)) (ask : Ask) (place : ℕ) → Line words ask place → length (drop place words) ≤ 19
 few_others words ask place line = omega (arith, ap length (after_place words ask place line), counted line.command line.settings line.others ask line.asks)
   where
-    counted : (command : List ℕ) (s : Settings) (rest : List (List ℕ)) (asked : Ask) → Asks command s rest asked → length rest ≤ 19
+    counted : (command : List ℕ) (s : _) (rest : List (List ℕ)) (asked : Ask) → Asks command s rest asked → length rest ≤ 19
     counted command s rest asked (check none) = omega arith
     counted command s rest asked (choices none) = omega arith
     counted command s rest asked (run none few) = omega (arith, few)

@@ -8,3 +8,4 @@ pub mod LawLemmas
 pub mod SomeLemmas
 pub mod LineLemmas
 pub mod AcceptLemmas
+pub mod FinishLemmas

@@ -1,5 +1,5 @@
 -- From the files of a command to its answer, and to what stands after it.
-use Rattle.std.proofs.Common.{◌≡◌, ◌≢◌, refl, ℕ, Bool, true, false, List, [], Option, Some, None, Result, Ok, Err, Vec, inl, inr, arith, append-nil, sym}
+use Rattle.std.proofs.Common.{◌≡◌, ◌≢◌, refl, ℕ, List, [], length, Option, Some, None, Result, Ok, Err, Vec, inl, inr, arith, append-nil, sym}
 use Rattle.std.specs.declared.alloc.Global.{Global}
 use Rattle.pb_outside.specs.Shelf.{Files}
 use Rattle.pb_program.specs.Trees.{ProgTransform}
@@ -13,7 +13,7 @@ use Rattle.pb_top.specs.Sinks.{ShelfChange, IsSound}
 use Rattle.pb_top.specs.Reply.{Reply, done_reply, refusal_reply, status_code}
 use Rattle.pb_top.specs.Runs.{AfterAccept, AfterBuilt, AfterConfig, AfterFit, AfterInputs, AfterName, Configures, FindsTransform, Fits, Fitting, IsBuilt, IsWithin, ReadsInput, RunReplies, RunWrites, RunsProgram}
 use Rattle.pb_top.specs.Steps.{Accepts, AfterAccepted, AfterResolved, Each, Reads, Resolves, Then, Takes}
-use Rattle.pb_top.specs.Answer.{AskAnswers, IsTail, RunLine, Runs, WorkAnswers, WorkWrites, built_run, limited, taken_words}
+use Rattle.pb_top.specs.Answer.{AskAnswers, IsTail, RunLine, Runs, WorkAnswers, WorkWrites, built_run, config_text, content_at, input_files, limited, taken_words}
 use Rattle.pb_top.specs.Working.{Replies, ShelfStops, ShelfWrites, StopsWith, Writes}
 use Rattle.pb_top.specs.declared.reply.Stop.{Stop}
 use Rattle.pb_top.specs.declared.reply.Stop.TheVariants.{Memory, Refused, Unread}
@@ -23,7 +23,7 @@ use Rattle.pb_top.proofs.StepLemmas.{then_map}
 pub writes_alone : (Says : Reply → Type 0) (found : Result (Vec ℕ Global) Stop) → Replies Says found → Writes (λ tail reply. Says reply × (tail ≡ [])) found
 writes_alone Says (Ok text) says = (text.items, [], (says, refl), sym (append-nil text.items))
 writes_alone Says (Err Memory) says = tt
-writes_alone Says (Err (Refused status line)) says = (says.0, says.1, refl)
+writes_alone Says (Err (Refused status line)) says = (says.0, (says.1, refl))
 writes_alone Says (Err (Unread line)) says = absurd says
 
 -- what is asked of a run at its end, through all its steps
@@ -31,14 +31,16 @@ module _ (name : List ℕ) (grain : ℕ) (End More : Fitting → Reply → Type 
   inputs_map : (p : List ProgTransform) (found : List AnalysisValue) (config : ConfigValue) (number : ℕ) (inputs : List MatrixValue) (reply : Reply)
       → AfterInputs name grain End p found config number inputs reply → AfterInputs name grain More p found config number inputs reply
   inputs_map p found config number inputs reply (t, a, at, there, rest) =
-      (t, a, at, there, then_map (Fits p name number t inputs) _ _ (λ sizes. then_map (IsWithin _ name) (λ u. End _) (λ u. More _) (λ u. each _)) reply rest)
+      let fit : List ℕ → Fitting = λ sizes. record { program = p; config = config; number = number; transform = t; found = a; inputs = inputs; sizes = sizes; grain = grain } in
+      (t, a, at, there, then_map (Fits p name number t inputs) (λ sizes. AfterFit name grain End (fit sizes)) (λ sizes. AfterFit name grain More (fit sizes))
+      (λ sizes. then_map (IsWithin (fit sizes) name) (λ u. End (fit sizes)) (λ u. More (fit sizes)) (λ u. each (fit sizes))) reply rest)
 
   accept_map : (text : Option (List ℕ)) (files : List (List ℕ × List ℕ)) (p : List ProgTransform) (found : List AnalysisValue) (reply : Reply)
       → AfterAccept name grain End p found text files reply → AfterAccept name grain More p found text files reply
   accept_map text files p found =
       then_map (IsBuilt p) (λ u. AfterBuilt name grain End p found text files) (λ u. AfterBuilt name grain More p found text files)
       (λ u. then_map (Configures p text) (AfterConfig name grain End p found files) (AfterConfig name grain More p found files)
-      (λ config. then_map (FindsTransform p name _) (λ number. AfterName name grain End p found config number files) (λ number. AfterName name grain More p found config number files)
+      (λ config. then_map (FindsTransform p name (length files)) (λ number. AfterName name grain End p found config number files) (λ number. AfterName name grain More p found config number files)
       (λ number. then_map (Each ReadsInput files) (AfterInputs name grain End p found config number) (AfterInputs name grain More p found config number) (inputs_map p found config number))))
 
   pub run_map : (program : List ℕ) (text : Option (List ℕ)) (files : List (List ℕ × List ℕ)) (reply : Reply) → RunsProgram name grain End program text files reply → RunsProgram name grain More program text files reply
@@ -49,7 +51,7 @@ module _ (name : List ℕ) (grain : ℕ) (End More : Fitting → Reply → Type 
 
 line_map : (grain : ℕ) (End More : Fitting → Reply → Type 0) → ((r : Fitting) (reply : Reply) → End r reply → More r reply) → (line : Option RunLine) (contents : List (List ℕ)) (reply : Reply)
     → Runs grain End line contents reply → Runs grain More line contents reply
-line_map grain End More each (Some line) contents reply runs = run_map line.transform grain End More each _ _ _ reply runs
+line_map grain End More each (Some line) contents reply runs = run_map line.transform grain End More each (content_at contents 0) (config_text line contents) (input_files line contents) reply runs
 line_map grain End More each None contents reply runs = runs
 
 -- what is written begins with the answer

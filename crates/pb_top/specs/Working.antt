@@ -1,5 +1,5 @@
 -- For proofs alone: what the private steps of a command give, before anything is written.
-use Rattle.std.specs.Prelude.{◌≡◌, ℕ, ◌<◌, ◌≤◌, List, [], ◌∷◌, ◌++◌, length, map, Option, Some, None, IfSome, Result, Ok, Err, Vec, ◌⊎◌, string_bytes, if◌then◌else◌}
+use Rattle.std.specs.Prelude.{◌≡◌, ℕ, ◌<◌, ◌≤◌, Bool, true, false, List, [], ◌∷◌, ◌++◌, length, map, Option, Some, None, IfSome, Result, Ok, Err, Vec, ◌⊎◌, string_bytes, if◌then◌else◌}
 use Rattle.std.specs.declared.alloc.Global.{Global}
 use Rattle.std.specs.declared.alloc.AllocError.{AllocError}
 use Rattle.std.specs.List.{zip}
@@ -25,7 +25,7 @@ use Rattle.pb_top.specs.Texts.{read_fault_line}
 use Rattle.pb_top.specs.Reply.{Reply, status_code, done_reply, refusal_reply}
 use Rattle.pb_top.specs.Steps.{Takes}
 use Rattle.pb_top.specs.Answer.{RunLine, is_dash, limited}
-use Rattle.pb_top.specs.Runs.{Fitting, trap_status}
+use Rattle.pb_top.specs.Runs.{Fitting, IsTraceOf, trap_status}
 use Rattle.pb_top.specs.declared.reply.Status.{Status}
 use Rattle.pb_top.specs.declared.reply.Status.TheVariants.{Config, Input, TooLarge as TooMuch}
 use Rattle.pb_top.specs.declared.reply.Stop.{Stop}
@@ -95,6 +95,11 @@ fitting_of r = record {
   sizes = of_sizes r;
   grain = r.grain;
 }
+
+-- what stands after its matrices
+abbrev pub IsTailFor : RunValue → Bool → List ℕ → Type 0
+IsTailFor r true tail = IsTraceOf (fitting_of r) tail
+IsTailFor r false tail = tail ≡ []
 
 -- the line of a run's trapped cell
 abbrev pub IsTrapped : RunValue → TrappedCell → Reply → Type 0

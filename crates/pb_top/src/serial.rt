@@ -1,5 +1,5 @@
 ghost use Rattle.std.specs.Prelude.{◌≡◌, ◌++◌, ◌≤◌, IfOk, length, map, string_bytes};
-ghost use Rattle.std.specs.List.{All};
+ghost use Rattle.std.specs.List.{All, range_with_len};
 ghost use Rattle.pb_program.specs.Configs.{IsValid};
 ghost use Rattle.pb_program.specs.Trees.{bare_prog};
 ghost use Rattle.pb_program.specs.WellFormed.{IsWellFormed};
@@ -10,7 +10,7 @@ ghost use Rattle.pb_unroll.specs.Unrolled.{IsWhole};
 ghost use Rattle.pb_check.specs.Ranked.{OfTransform};
 ghost use Rattle.pb_top.specs.Runs.{AfterAccept, AfterConfig, AfterInputs, AfterName, CallsNothing, RunWrites, RunsProgram, trap_status};
 ghost use Rattle.pb_top.specs.Steps.{AfterResolved};
-ghost use Rattle.pb_top.specs.Working.{IsTrapped, StopsWith, Writes, files_of, fitting_of, text_in};
+ghost use Rattle.pb_top.specs.Working.{IsTailFor, IsTrapped, StopsWith, Writes, files_of, fitting_of, text_in};
 
 use crate::phases::{accept, read, resolve_names};
 use crate::reply::{Status, Stop};
@@ -21,7 +21,7 @@ use pb_matrix::Matrix;
 use pb_prog::Text;
 use pb_program::{Config, Prog};
 use pb_run_lines::trap_line;
-use pb_taskgraph::{Work, run_serial};
+use pb_taskgraph::run_serial;
 use pb_trace::trace;
 use pb_unroll::Run;
 use pb_values::Kind;
@@ -65,8 +65,27 @@ fn trapped(alloc: Global, run: &Run<'_>, cell: &TrappedCell) -> Result<Stop, All
     Ok(Stop::Refused(status_of(cell.trap.kind), line))
 }
 
+/// The trace of a run whose tasks were run by number, if it is wanted.
+#[tactic(auto, using(crate::proofs::FinishLemmas::are_tasks, crate::proofs::FinishLemmas::is_trace))]
+fn tail_of(
+    alloc: Global,
+    run: &Run<'_>,
+    order: &[u32],
+    traced: bool,
+) -> Result<Vec<u8>, AllocError>
+    requires { order.now ≡ range_with_len 0 (length run.now.graph.tasks) }
+    ensures { IfOk result (λ text. IsTailFor run.now traced text.items) }
+{
+    if traced {
+        trace(alloc, run.task_graph(), order)
+    } else {
+        Ok(Vec::new(alloc))
+    }
+}
+
 /// Runs the tasks of a run one after another: the texts of its matrices, and then its trace, if it is wanted; or the line of its
 /// first trapped cell.
+#[tactic(auto, using(crate::proofs::FinishLemmas::is_trapped))]
 fn finish(alloc: Global, run: &Run<'_>, traced: bool) -> Result<Vec<u8>, Stop>
     ensures { Writes (λ tail. RunWrites traced tail (fitting_of run.now)) result }
 {
@@ -75,10 +94,8 @@ fn finish(alloc: Global, run: &Run<'_>, traced: bool) -> Result<Vec<u8>, Stop>
         return Err(trapped(alloc, run, &cell)?);
     }
     let mut text = results_text(alloc, run, &finished.outcomes)?;
-    if traced {
-        let lines = trace(alloc, run.graph(), &finished.order)?;
-        text.extend_from_slice(&lines)?;
-    }
+    let tail = tail_of(alloc, run, &finished.order, traced)?;
+    text.extend_from_slice(&tail)?;
     Ok(text)
 }
 
@@ -145,7 +162,7 @@ fn run_accepted(
 ) -> Result<Vec<u8>, Stop>
     requires texts { length r.now.files.now ≡ length r.now.texts.now }
     requires few { length r.now.files.now ≤ 16 }
-    ensures { Writes (λ tail. AfterAccept r.now.transform.now r.now.grain (RunWrites r.now.traced tail) (bare_prog a.now.program) a.now.found (text_in config) (files_of r.now.files.now r.now.texts.now)) result }
+    ensures { Writes (λ tail. AfterAccept r.now.transform.now r.now.grain (RunWrites r.now.traced tail) (bare_prog a.now.program) a.now.found (text_in config.entry) (files_of r.now.files.now r.now.texts.now)) result }
 {
     check_built(alloc, a.prog())?;
     let c = configure(alloc, a.prog(), config)?;
@@ -162,7 +179,7 @@ fn run_tree(
     requires within { IsWithinLimits (bare_text tree.now) }
     requires texts { length r.now.files.now ≡ length r.now.texts.now }
     requires few { length r.now.files.now ≤ 16 }
-    ensures { Writes (λ tail. AfterResolved (λ tree p found. AfterAccept r.now.transform.now r.now.grain (RunWrites r.now.traced tail) p found (text_in config) (files_of r.now.files.now r.now.texts.now)) (bare_text tree.now)) result }
+    ensures { Writes (λ tail. AfterResolved (λ tree p found. AfterAccept r.now.transform.now r.now.grain (RunWrites r.now.traced tail) p found (text_in config.entry) (files_of r.now.files.now r.now.texts.now)) (bare_text tree.now)) result }
 {
     let program = resolve_names(alloc, tree)?;
     let found = accept(alloc, &program)?;
@@ -179,7 +196,7 @@ pub fn run_program(
 ) -> Result<Vec<u8>, Stop>
     requires texts { length r.now.files.now ≡ length r.now.texts.now }
     requires few { length r.now.files.now ≤ 16 }
-    ensures { Writes (λ tail. RunsProgram r.now.transform.now r.now.grain (RunWrites r.now.traced tail) program.now (text_in config) (files_of r.now.files.now r.now.texts.now)) result }
+    ensures { Writes (λ tail. RunsProgram r.now.transform.now r.now.grain (RunWrites r.now.traced tail) program.now (text_in config.entry) (files_of r.now.files.now r.now.texts.now)) result }
 {
     let tree = read(alloc, program)?;
     run_tree(alloc, &tree, config, r)

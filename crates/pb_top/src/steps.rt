@@ -75,7 +75,7 @@ fn read_choices(alloc: Global, p: &Prog, text: &[u8]) -> Result<Config, Stop>
 /// The configuration that a text says for a program, the empty one where there is no text.
 pub fn configure(alloc: Global, p: &Prog, text: Option<&[u8]>) -> Result<Config, Stop>
     requires { IsWellFormed (bare_prog p.now) }
-    ensures gives { Gives (λ c. c) (Configures (bare_prog p.now) (text_in text)) result }
+    ensures gives { Gives (λ c. c) (Configures (bare_prog p.now) (text_in text.entry)) result }
     ensures valid { IfOk result (IsValid (bare_prog p.now)) }
 {
     match text {

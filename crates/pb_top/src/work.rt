@@ -30,7 +30,7 @@ fn with_words<'a>(
     names: Vec<&'a str>,
     words: &'a [String],
 ) -> Result<Vec<&'a str>, AllocError>
-    ensures { IfOk result (λ all. texts_of all.items ≡ texts_of names.items ++ map string_bytes words.now) }
+    ensures { IfOk result (λ all. texts_of all.items ≡ texts_of names.entry.items ++ map string_bytes words.now) }
 {
     let mut all = names;
     for word in words {

@@ -10,6 +10,7 @@ use pb_frame::Job;
 use pb_linear::{Sizes, Step};
 use pb_links::Spot;
 use pb_program::{Prog, Rule, Transform};
+use pb_taskgraph::TaskGraph;
 use pb_values::View;
 
 impl<'a> Run<'a> {
@@ -18,6 +19,14 @@ impl<'a> Run<'a> {
         ensures { result.now ≡ self.now.transform }
     {
         self.transform
+    }
+
+    /// The graph of the tasks.
+    pub fn task_graph(&self) -> &TaskGraph
+        ensures graph { result.now ≡ self.now.graph }
+        ensures running { IsRunning self.now }
+    {
+        &self.graph
     }
 
     /// The matrices after `through` and then those after `to`, in declared order, as views of cells.

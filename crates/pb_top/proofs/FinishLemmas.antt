@@ -1,0 +1,143 @@
+-- From the steps of a run to what it writes.
+use Rattle.std.proofs.Common.{◌≡◌, ◌∙◌, refl, sym, ap, subst, ℕ, zero, suc, ◌+◌, ◌<◌, Bool, true, false, List, [], ◌∷◌, ◌++◌, length, map, Option, Some, None, slice_get, Result, Ok, Err, Vec, ◌⊎◌, inl, inr, string_bytes, String, arith}
+use Rattle.std.specs.Prelude.{IsSomeAnd}
+use Rattle.std.specs.List.{All, range_with_len, zip}
+use Rattle.std.specs.declared.alloc.Global.{Global}
+use Rattle.std.proofs.lemmas.List.{drop_all}
+use Rattle.std.proofs.lemmas.List.Elements.{All-cons, All-nil}
+use Rattle.pb_values.specs.declared.outcome.Kind.{Kind}
+use Rattle.pb_program.specs.Configs.{ConfigValue}
+use Rattle.pb_program.specs.Trees.{ProgTransform, bare_prog}
+use Rattle.pb_matrix.specs.Value.{MatrixValue}
+use Rattle.pb_model.specs.Calls.{TrappedCell}
+use Rattle.pb_check.specs.Accepting.{AcceptedValue}
+use Rattle.pb_check.specs.Orders.{AnalysisValue}
+use Rattle.pb_check.specs.Ranked.{OfTransform}
+use Rattle.pb_entry.specs.Fitting.{AreBound, AreUnfit}
+use Rattle.pb_entry.specs.declared.refusal.RunRefusal.{RunRefusal}
+use Rattle.pb_entry.specs.declared.refusal.RunRefusal.TheVariants.{BadShape, Memory as NoRoom, SizeOutOfRange, TooLarge, UnknownTransform, WrongCount}
+use Rattle.pb_taskgraph.specs.Graphs.{GraphValue}
+use Rattle.pb_unroll.specs.Running.{IsRunning, RunValue, of_sizes, of_transform}
+use Rattle.pb_unroll.specs.Unrolled.{IsRefused, IsTooLarge, IsUnrolled}
+use Rattle.pb_answer.specs.Answers.{answer_of, matrices_of, matrices_text, results_in, trapped_in, unless_trapped}
+use Rattle.pb_trace.specs.Trace.{trace_text}
+use Rattle.pb_run_lines.specs.RunLines.{run_line, trap_line}
+use Rattle.pb_top.specs.Reply.{Reply, done_reply, refusal_reply}
+use Rattle.pb_top.specs.Runs.{AfterFit, AfterInputs, Fitting, IsTraceOf, RunReplies, RunWrites, TailAfter, answer_reply, run_answer, trap_status}
+use Rattle.pb_top.specs.Steps.{Then}
+use Rattle.pb_top.specs.Working.{CannotRun, IsTailFor, IsTrapped, StopsWith, Writes, contents_of, files_of, fitting_of, refusal_status}
+use Rattle.pb_top.specs.declared.reply.Status.{Status}
+use Rattle.pb_top.specs.declared.reply.Status.TheVariants as status
+use Rattle.pb_top.specs.declared.reply.Stop.{Stop}
+use Rattle.pb_top.proofs.StepLemmas.{stops_map, writes_map}
+
+-- ---- the trace
+below : (a n top : ℕ) → a + n ≡ top → All (λ t. t < top) (range_with_len a n)
+below a zero top e = All-nil (λ t. t < top)
+below a (suc n) top e = All-cons (λ t. t < top) a (range_with_len (a + 1) n) (omega (arith, e)) (below (a + 1) n top (omega (arith, e)))
+
+pub are_tasks : (order : List ℕ) (n : ℕ) → order ≡ range_with_len 0 n → All (λ t. t < n) order
+are_tasks order n is = subst (All (λ t. t < n)) (sym is) (below 0 n n (omega arith))
+
+pub is_trace : (r : RunValue) → IsRunning r → (order text : List ℕ) → order ≡ range_with_len 0 (length r.graph.tasks) → text ≡ trace_text r.graph order → IsTraceOf (fitting_of r) text
+is_trace r is order text by_number written = record {
+  views = r.laid.views;
+  tasks = r.graph.tasks;
+  row = is.run.row;
+  are_tasks = is.run.are_tasks;
+  is = written ∙ ap (trace_text r.graph) by_number ∙ ap (λ (g : GraphValue). trace_text g (range_with_len 0 (length r.graph.tasks))) is.graph;
+}
+
+-- ---- the answer
+answer_is : (r : RunValue) (o : Option TrappedCell) → trapped_in r ≡ o → run_answer (fitting_of r) ≡ unless_trapped o (results_in r)
+answer_is r o is = ap (λ t. unless_trapped t (results_in r)) is
+
+tail_is : (r : RunValue) (traced : Bool) (matrices : List MatrixValue) (tail : List ℕ) → IsTailFor r traced tail → TailAfter (fitting_of r) traced (Ok matrices) tail
+tail_is r true matrices tail is = is
+tail_is r false matrices tail is = is
+
+no_tail : (r : RunValue) (traced : Bool) (cell : TrappedCell) → TailAfter (fitting_of r) traced (Err cell) []
+no_tail r true cell = refl
+no_tail r false cell = refl
+
+pub is_done : (r : RunValue) (traced : Bool) (out tail : List ℕ) → trapped_in r ≡ None → out ≡ matrices_text (results_in r) → IsTailFor r traced tail → RunWrites traced tail (fitting_of r) (done_reply out)
+is_done r traced out tail none written is =
+    let answer : run_answer (fitting_of r) ≡ Ok (results_in r) = answer_is r None none in
+    (ap done_reply written ∙ sym (ap (answer_reply (fitting_of r)) answer), subst (λ a. TailAfter (fitting_of r) traced a tail) (sym answer) (tail_is r traced (results_in r) tail is))
+
+pub is_trapped : (r : RunValue) (traced : Bool) (cell : TrappedCell) (reply : Reply) → trapped_in r ≡ Some cell → IsTrapped r cell reply → RunWrites traced [] (fitting_of r) reply
+is_trapped r traced cell reply some is =
+    let answer : run_answer (fitting_of r) ≡ Err cell = answer_is r (Some cell) some in
+    (is ∙ sym (ap (answer_reply (fitting_of r)) answer), subst (λ a. TailAfter (fitting_of r) traced a []) (sym answer) (no_tail r traced cell))
+
+pub trapped_stops : (r : RunValue) (traced : Bool) (cell : TrappedCell) (stop : Stop) → trapped_in r ≡ Some cell → StopsWith (IsTrapped r cell) stop → StopsWith (RunWrites traced [] (fitting_of r)) stop
+trapped_stops r traced cell stop some = stops_map (IsTrapped r cell) (RunWrites traced [] (fitting_of r)) (λ reply. is_trapped r traced cell reply some) stop
+
+-- ---- a run that can't be begun
+some_of : {A : Type 0} (o : Option A) (P : A → Type 0) → IsSomeAnd o P → (x : A) × (o ≡ Some x) × P x
+some_of None P h = absurd h
+some_of (Some x) P h = (x, refl, h)
+
+unfit_status : (t : ProgTransform) (inputs : List MatrixValue) (e : RunRefusal) → AreUnfit t inputs e → refusal_status e ≡ status.Input
+unfit_status t inputs UnknownTransform unfit = refl
+unfit_status t inputs (WrongCount wanted given) unfit = refl
+unfit_status t inputs (BadShape matrix axis wanted found) unfit = refl
+unfit_status t inputs (SizeOutOfRange size value) unfit = refl
+unfit_status t inputs NoRoom unfit = refl
+unfit_status t inputs (TooLarge what) (inl dims) = absurd dims.fails
+unfit_status t inputs (TooLarge what) (inr (dims, later)) = elim later.why [ inl out ↦ absurd out | inr sides ↦ elim sides.1.fails [ inl wide ↦ absurd wide | inr tall ↦ absurd tall.1 ] ]
+
+large_status : (config : ConfigValue) (number : ℕ) (t : ProgTransform) (a : AnalysisValue) (sizes : List ℕ) (grain : ℕ) (e : RunRefusal) → IsTooLarge config number t a sizes grain e → refusal_status e ≡ status.TooLarge
+large_status config number t a sizes grain UnknownTransform large = absurd large
+large_status config number t a sizes grain (WrongCount wanted given) large = absurd large
+large_status config number t a sizes grain (BadShape matrix axis wanted found) large = absurd large
+large_status config number t a sizes grain (SizeOutOfRange size value) large = absurd large
+large_status config number t a sizes grain NoRoom large = absurd large
+large_status config number t a sizes grain (TooLarge what) large = refl
+
+module _ (a : AcceptedValue) (config : ConfigValue) (number : ℕ) (name : List ℕ) (inputs : List MatrixValue) (grain : ℕ) (End : Fitting → Reply → Type 0) where
+  abbrev p : List ProgTransform
+  p = bare_prog a.program
+
+  abbrev line : Status → RunRefusal → Reply
+  line s e = refusal_reply s (run_line p number name e)
+
+  pub cannot_run : (reply : Reply) → CannotRun a config number name inputs grain reply → AfterInputs name grain End p a.found config number inputs reply
+  cannot_run reply c = by (some_of (slice_get p number) _ c.refused)
+    where
+      why : RunRefusal
+      why = c.why
+
+      told : (s : Status) → refusal_status why ≡ s → reply ≡ line s why
+      told s is = c.is ∙ ap (λ x. line x why) is
+
+      Refused : ProgTransform → AnalysisValue → Type 0
+      Refused t found = AreUnfit t inputs why ⊎ ((sizes : List ℕ) × AreBound t inputs sizes × IsTooLarge config number t found sizes grain why)
+
+      ends : (t : ProgTransform) (found : AnalysisValue) → slice_get p number ≡ Some t → slice_get a.found number ≡ Some found → Refused t found → AfterInputs name grain End p a.found config number inputs reply
+      ends t found at there (inl unfit) = (t, found, at, there, inr (why, unfit, told status.Input (unfit_status t inputs why unfit)))
+      ends t found at there (inr (sizes, bound, large)) =
+          (t, found, at, there, inl (sizes, bound, inr (why, large, told status.TooLarge (large_status config number t found sizes grain why large))))
+
+      by : (t : ProgTransform) × (slice_get p number ≡ Some t) × IsSomeAnd (slice_get a.found number) (Refused t) → AfterInputs name grain End p a.found config number inputs reply
+      by (t, at, some) = let f = some_of (slice_get a.found number) (Refused t) some in ends t f.0 at f.1 f.2
+
+  -- one that is begun
+  pub has_run : (r : RunValue) → IsUnrolled a config number inputs grain r → IsRunning r → (reply : Reply) → End (fitting_of r) reply → AfterInputs name grain End p a.found config number inputs reply
+  has_run r u is reply end = (of_transform r, r.found, u.there, u.found, inl (of_sizes r, u.bound, subst (λ f. AfterFit name grain End f reply) fit_is (inl (tt, (is.run.room, is.run.within), end))))
+    where
+      fit_is : fitting_of r ≡ record { program = p; config = config; number = number; transform = of_transform r; found = r.found; inputs = inputs; sizes = of_sizes r; grain = grain }
+      fit_is i = record { program = bare_prog (u.of_program i); config = u.of_config i; number = u.of_number i; transform = of_transform r; found = r.found; inputs = u.of_inputs i; sizes = of_sizes r; grain = u.of_grain i }
+
+-- ---- steps one after another
+pub after_step : {A : Type 0} (Step : Result A Reply → Type 0) (next : List ℕ → A → Reply → Type 0) (x : A) → Step (Ok x) → (found : Result (Vec ℕ Global) Stop) → Writes (λ tail. next tail x) found → Writes (λ tail. Then Step (next tail)) found
+after_step Step next x step = writes_map (λ tail. next tail x) (λ tail. Then Step (next tail)) (λ tail reply more. inl (x, step, more))
+
+pub step_stops : {A : Type 0} (Step : Result A Reply → Type 0) (next : List ℕ → A → Reply → Type 0) (stop : Stop) → StopsWith (λ reply. Step (Err reply)) stop → StopsWith (Then Step (next [])) stop
+step_stops Step next stop = stops_map (λ reply. Step (Err reply)) (Then Step (next [])) (λ reply s. inr s) stop
+
+-- ---- inputs
+zip_length : {A B : Type 0} (xs : List A) (ys : List B) → length xs ≡ length ys → length (zip xs ys) ≡ length xs
+zip_length [] ys e = refl
+zip_length (x ∷ xs) [] e = absurd (omega (arith, e))
+zip_length (x ∷ xs) (y ∷ ys) e = ap suc (zip_length xs ys (omega (arith, e)))
