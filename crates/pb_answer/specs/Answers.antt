@@ -1,12 +1,11 @@
 -- The answer of a run: its first trapped cell, or else the matrices that it gives.
 use Rattle.std.specs.Prelude.{ℕ, ◌+◌, List, drop, map, Option, Some, None, Result, Ok, Err}
 use Rattle.std.specs.List.{flat_map, zip}
-use Rattle.pb_program.specs.Configs.{ConfigValue}
 use Rattle.pb_program.specs.Forms.{DeclValue}
 use Rattle.pb_program.specs.Trees.{ProgTransform}
 use Rattle.pb_matrix.specs.Text.{matrix_text}
 use Rattle.pb_matrix.specs.Value.{MatrixValue}
-use Rattle.pb_model.specs.Calls.{Outcomes, Plans, TrappedCell, first_trapped, made_cells}
+use Rattle.pb_model.specs.Calls.{Outcomes, TrappedCell, first_trapped, made_cells}
 use Rattle.pb_model.specs.Equations.{number_in}
 use Rattle.pb_solution.specs.Solutions.{all_matrices}
 use Rattle.pb_unroll.specs.Running.{RunValue, given_as, no_plans, of_sizes, of_transform}
@@ -23,8 +22,8 @@ abbrev pub unless_trapped : Option TrappedCell → List MatrixValue → Result (
 unless_trapped (Some cell) results = Err cell
 unless_trapped None results = Ok results
 
--- of all matrices of a call, those that are given and those that it makes: the first trapped cell of those after `through` and
--- then `to`, in declared order, each row by row; where none is trapped the matrices after `to`
+-- of all matrices of a call, those that are given and those that it makes: the first trapped cell of those after `through`
+-- and then `to`, in declared order, each row by row; where none is trapped the matrices after `to`
 abbrev pub answer_of : ProgTransform → List ℕ → List Outcomes → Result (List MatrixValue) TrappedCell
 answer_of t sizes ms = unless_trapped (first_trapped ms (made_cells t sizes)) (results_of t ms)
 

@@ -1,19 +1,21 @@
-ghost use Rattle.std.specs.Prelude.{◌≡◌, ◌<◌, IfOk, length};
+ghost use Rattle.std.specs.Prelude.{◌≡◌, IfOk};
 ghost use Rattle.pb_answer.specs.Answers.{matrices_text, results_in};
 ghost use Rattle.pb_unroll.specs.Running.{run_plan};
 
+use crate::texts::texts_in;
 use pb_unroll::Run;
 use pb_values::Outcome;
 use std::alloc::{AllocError, Global};
 
+/// The texts of the matrices that a run with these outcomes gives, those after `to`, in declared order. A trap among them
+/// is written as 0.
 pub fn results_text(
     alloc: Global,
-    _run: &Run<'_>,
-    _outcomes: &[Outcome],
+    run: &Run<'_>,
+    outcomes: &[Outcome],
 ) -> Result<Vec<u8>, AllocError>
-    requires hole { length _outcomes.now < 0 }
-    requires outcomes { _outcomes.now ≡ (run_plan _run.now).solution }
-    ensures { IfOk result (λ text. text.items ≡ matrices_text (results_in _run.now)) }
+    requires { outcomes.now ≡ (run_plan run.now).solution }
+    ensures { IfOk result (λ text. text.items ≡ matrices_text (results_in run.now)) }
 {
-    Ok(Vec::new(alloc))
+    texts_in(alloc, run.outputs(), outcomes)
 }

@@ -1,31 +1,30 @@
 -- From the steps of a run to what it writes.
-use Rattle.std.proofs.Common.{◌≡◌, ◌∙◌, refl, sym, ap, subst, ℕ, zero, suc, ◌+◌, ◌<◌, Bool, true, false, List, [], ◌∷◌, ◌++◌, length, map, Option, Some, None, slice_get, Result, Ok, Err, Vec, ◌⊎◌, inl, inr, string_bytes, String, arith}
+use Rattle.std.proofs.Common.{◌≡◌, ◌∙◌, refl, sym, ap, subst, ℕ, zero, suc, ◌+◌, ◌<◌, Bool, true, false, List, [], ◌∷◌, length, Option, Some, None, slice_get, Result, Ok, Err, Vec, ◌⊎◌, inl, inr, arith}
 use Rattle.std.specs.Prelude.{IsSomeAnd}
 use Rattle.std.specs.List.{All, range_with_len, zip}
 use Rattle.std.specs.declared.alloc.Global.{Global}
-use Rattle.std.proofs.lemmas.List.{drop_all}
 use Rattle.std.proofs.lemmas.List.Elements.{All-cons, All-nil}
-use Rattle.pb_values.specs.declared.outcome.Kind.{Kind}
 use Rattle.pb_program.specs.Configs.{ConfigValue}
 use Rattle.pb_program.specs.Trees.{ProgTransform, bare_prog}
 use Rattle.pb_matrix.specs.Value.{MatrixValue}
 use Rattle.pb_model.specs.Calls.{TrappedCell}
 use Rattle.pb_check.specs.Accepting.{AcceptedValue}
 use Rattle.pb_check.specs.Orders.{AnalysisValue}
-use Rattle.pb_check.specs.Ranked.{OfTransform}
 use Rattle.pb_entry.specs.Fitting.{AreBound, AreUnfit}
 use Rattle.pb_entry.specs.declared.refusal.RunRefusal.{RunRefusal}
 use Rattle.pb_entry.specs.declared.refusal.RunRefusal.TheVariants.{BadShape, Memory as NoRoom, SizeOutOfRange, TooLarge, UnknownTransform, WrongCount}
 use Rattle.pb_taskgraph.specs.Graphs.{GraphValue}
-use Rattle.pb_unroll.specs.Running.{IsRunning, RunValue, of_sizes, of_transform}
-use Rattle.pb_unroll.specs.Unrolled.{IsRefused, IsTooLarge, IsUnrolled}
-use Rattle.pb_answer.specs.Answers.{answer_of, matrices_of, matrices_text, results_in, trapped_in, unless_trapped}
+use Rattle.pb_plan.specs.Tasks.{graph_of}
+use Rattle.pb_solution.specs.Solutions.{plan_of}
+use Rattle.pb_unroll.specs.Running.{IsRunning, RunValue, of_sizes, of_transform, run_plan}
+use Rattle.pb_unroll.specs.Unrolled.{IsTooLarge, IsUnrolled}
+use Rattle.pb_answer.specs.Answers.{matrices_text, results_in, trapped_in, unless_trapped}
 use Rattle.pb_trace.specs.Trace.{trace_text}
-use Rattle.pb_run_lines.specs.RunLines.{run_line, trap_line}
+use Rattle.pb_run_lines.specs.RunLines.{run_line}
 use Rattle.pb_top.specs.Reply.{Reply, done_reply, refusal_reply}
-use Rattle.pb_top.specs.Runs.{AfterFit, AfterInputs, Fitting, IsTraceOf, RunReplies, RunWrites, TailAfter, answer_reply, run_answer, trap_status}
+use Rattle.pb_top.specs.Runs.{AfterFit, AfterInputs, Fitting, IsTraceOf, RunWrites, TailAfter, answer_reply, run_answer}
 use Rattle.pb_top.specs.Steps.{Then}
-use Rattle.pb_top.specs.Working.{CannotRun, IsTailFor, IsTrapped, StopsWith, Writes, contents_of, files_of, fitting_of, refusal_status}
+use Rattle.pb_top.specs.Working.{CannotRun, IsTailFor, IsTrapped, StopsWith, Writes, fitting_of, refusal_status}
 use Rattle.pb_top.specs.declared.reply.Status.{Status}
 use Rattle.pb_top.specs.declared.reply.Status.TheVariants as status
 use Rattle.pb_top.specs.declared.reply.Stop.{Stop}
@@ -38,6 +37,11 @@ below a (suc n) top e = All-cons (λ t. t < top) a (range_with_len (a + 1) n) (o
 
 pub are_tasks : (order : List ℕ) (n : ℕ) → order ≡ range_with_len 0 n → All (λ t. t < n) order
 are_tasks order n is = subst (All (λ t. t < n)) (sym is) (below 0 n n (omega arith))
+
+-- the graph of what a run stands for
+pub run_graph : (r : RunValue) → (run_plan r).graph ≡ graph_of (of_transform r) (of_sizes r) r.graph.tasks
+unfolding run_plan plan_of
+run_graph r = refl
 
 pub is_trace : (r : RunValue) → IsRunning r → (order text : List ℕ) → order ≡ range_with_len 0 (length r.graph.tasks) → text ≡ trace_text r.graph order → IsTraceOf (fitting_of r) text
 is_trace r is order text by_number written = record {
@@ -137,7 +141,7 @@ pub step_stops : {A : Type 0} (Step : Result A Reply → Type 0) (next : List �
 step_stops Step next stop = stops_map (λ reply. Step (Err reply)) (Then Step (next [])) (λ reply s. inr s) stop
 
 -- ---- inputs
-zip_length : {A B : Type 0} (xs : List A) (ys : List B) → length xs ≡ length ys → length (zip xs ys) ≡ length xs
+pub zip_length : {A B : Type 0} (xs : List A) (ys : List B) → length xs ≡ length ys → length (zip xs ys) ≡ length xs
 zip_length [] ys e = refl
 zip_length (x ∷ xs) [] e = absurd (omega (arith, e))
 zip_length (x ∷ xs) (y ∷ ys) e = ap suc (zip_length xs ys (omega (arith, e)))

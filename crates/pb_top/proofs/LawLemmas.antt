@@ -1,5 +1,5 @@
 -- Words and files have one answer.
-use Rattle.std.proofs.Common.{◌≡◌, ℕ, arith, List, [], ◌∷◌, drop, Option, Some, None, ◌⊎◌, inl, inr, sym, ap, subst, ◌∙◌, refl}
+use Rattle.std.proofs.Common.{◌≡◌, ℕ, arith, List, drop, Option, Some, None, ◌⊎◌, inl, inr, sym, subst, ◌∙◌, refl}
 use Rattle.std.proofs.lemmas.Bool.{cases_lt}
 use Rattle.pb_outside.specs.Shelf.{Files}
 use Rattle.pb_words.specs.declared.ask.Ask.{Ask}

@@ -9,3 +9,5 @@ pub mod SomeLemmas
 pub mod LineLemmas
 pub mod AcceptLemmas
 pub mod FinishLemmas
+pub mod BuiltLemmas
+pub mod CommandLemmas

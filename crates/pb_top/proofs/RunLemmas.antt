@@ -1,5 +1,5 @@
 -- A run has one answer.
-use Rattle.std.proofs.Common.{◌≡◌, ◌≢◌, ◌∙◌, refl, sym, ap, subst, ℕ, zero, suc, ◌+◌, ◌<◌, ◌≤◌, Bool, true, false, nat_lt, cond, IsTrue, ◌↔◌, List, [], ◌∷◌, length, map, flat_map, filter_map, take, Option, Some, None, slice_get, Result, Ok, Err, ◌⊎◌, inl, inr, arith}
+use Rattle.std.proofs.Common.{◌≡◌, ◌≢◌, ◌∙◌, refl, sym, ap, subst, ℕ, zero, suc, ◌<◌, ◌≤◌, Bool, true, false, nat_lt, cond, IsTrue, ◌↔◌, List, [], ◌∷◌, length, map, flat_map, filter_map, take, Option, Some, None, slice_get, Result, Ok, Err, ◌⊎◌, inl, inr, arith}
 use Rattle.std.specs.List.{All, list_all, position_from}
 use Rattle.std.specs.Str.{bytes_eq}
 use Rattle.std.specs.Str.Lines.{lines}
@@ -375,8 +375,8 @@ module _ (name : List ℕ) (grain : ℕ) (p : List ProgTransform) (found : List 
         let t = enters.named.transform in
         let a = found_at p found are number t enters.named.there in
         let some = then_given (Fits p name number t inputs) (λ sizes. AfterFit name grain RunReplies (fitting t a.0 inputs sizes))
-            (fits_some p name number t inputs (enterable p number t well sound enters.named.there) (count ∙ sym enters.count))
-            (λ sizes bound. then_given (IsWithin (fitting t a.0 inputs sizes) name) (λ u. RunReplies (fitting t a.0 inputs sizes)) (within_some (fitting t a.0 inputs sizes) name) (λ u within. (_, refl))) in
+        (fits_some p name number t inputs (enterable p number t well sound enters.named.there) (count ∙ sym enters.count))
+        (λ sizes bound. then_given (IsWithin (fitting t a.0 inputs sizes) name) (λ u. RunReplies (fitting t a.0 inputs sizes)) (within_some (fitting t a.0 inputs sizes) name) (λ u within. (_, refl))) in
         (some.0, (t, a.0, enters.named.there, a.1, some.1))
 
   accepted_one : (text : Option (List ℕ)) (files : List (List ℕ × List ℕ)) (x y : Reply) → AfterAccept name grain RunReplies p found text files x → AfterAccept name grain RunReplies p found text files y → x ≡ y

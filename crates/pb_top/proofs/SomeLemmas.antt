@@ -1,5 +1,5 @@
 -- Words and files have some answer.
-use Rattle.std.proofs.Common.{◌≡◌, ℕ, List, drop, Option, Some, None, ◌⊎◌, inl, inr, refl}
+use Rattle.std.proofs.Common.{ℕ, List, drop, Option, Some, None, ◌⊎◌, inl, inr, refl}
 use Rattle.pb_outside.specs.Shelf.{Files}
 use Rattle.pb_words.specs.declared.ask.Ask.{Ask}
 use Rattle.pb_words.specs.declared.ask.Ask.TheVariants.{Check, Choices, Run, Tune, Demo}

@@ -1,20 +1,19 @@
 -- From the files of a command to its answer, and to what stands after it.
-use Rattle.std.proofs.Common.{◌≡◌, ◌≢◌, refl, ℕ, List, [], length, Option, Some, None, Result, Ok, Err, Vec, inl, inr, arith, append-nil, sym}
+use Rattle.std.proofs.Common.{◌≡◌, refl, ℕ, List, [], length, Option, Some, None, Result, Ok, Err, Vec, inl, inr, arith, append-nil, sym}
 use Rattle.std.specs.declared.alloc.Global.{Global}
 use Rattle.pb_outside.specs.Shelf.{Files}
 use Rattle.pb_program.specs.Trees.{ProgTransform}
-use Rattle.pb_syntax.specs.Trees.{TransformTree}
 use Rattle.pb_check.specs.Orders.{AnalysisValue}
 use Rattle.pb_program.specs.Configs.{ConfigValue}
 use Rattle.pb_matrix.specs.Value.{MatrixValue}
 use Rattle.pb_words.specs.declared.ask.Ask.{Ask}
 use Rattle.pb_words.specs.declared.ask.Ask.TheVariants.{Check, Choices, Run, Tune, Demo}
 use Rattle.pb_top.specs.Sinks.{ShelfChange, IsSound}
-use Rattle.pb_top.specs.Reply.{Reply, done_reply, refusal_reply, status_code}
+use Rattle.pb_top.specs.Reply.{Reply, done_reply, refusal_reply}
 use Rattle.pb_top.specs.Runs.{AfterAccept, AfterBuilt, AfterConfig, AfterFit, AfterInputs, AfterName, Configures, FindsTransform, Fits, Fitting, IsBuilt, IsWithin, ReadsInput, RunReplies, RunWrites, RunsProgram}
-use Rattle.pb_top.specs.Steps.{Accepts, AfterAccepted, AfterResolved, Each, Reads, Resolves, Then, Takes}
+use Rattle.pb_top.specs.Steps.{Accepts, AfterAccepted, AfterResolved, Each, Reads, Resolves, Takes}
 use Rattle.pb_top.specs.Answer.{AskAnswers, IsTail, RunLine, Runs, WorkAnswers, WorkWrites, built_run, config_text, content_at, input_files, limited, taken_words}
-use Rattle.pb_top.specs.Working.{Replies, ShelfStops, ShelfWrites, StopsWith, Writes}
+use Rattle.pb_top.specs.Working.{Replies, ShelfStops, ShelfWrites, Writes}
 use Rattle.pb_top.specs.declared.reply.Stop.{Stop}
 use Rattle.pb_top.specs.declared.reply.Stop.TheVariants.{Memory, Refused, Unread}
 use Rattle.pb_top.proofs.StepLemmas.{then_map}
@@ -31,9 +30,14 @@ module _ (name : List ℕ) (grain : ℕ) (End More : Fitting → Reply → Type 
   inputs_map : (p : List ProgTransform) (found : List AnalysisValue) (config : ConfigValue) (number : ℕ) (inputs : List MatrixValue) (reply : Reply)
       → AfterInputs name grain End p found config number inputs reply → AfterInputs name grain More p found config number inputs reply
   inputs_map p found config number inputs reply (t, a, at, there, rest) =
-      let fit : List ℕ → Fitting = λ sizes. record { program = p; config = config; number = number; transform = t; found = a; inputs = inputs; sizes = sizes; grain = grain } in
-      (t, a, at, there, then_map (Fits p name number t inputs) (λ sizes. AfterFit name grain End (fit sizes)) (λ sizes. AfterFit name grain More (fit sizes))
-      (λ sizes. then_map (IsWithin (fit sizes) name) (λ u. End (fit sizes)) (λ u. More (fit sizes)) (λ u. each (fit sizes))) reply rest)
+      let fit : List ℕ → Fitting = λ sizes. record { program = p; config = config; number = number; transform = t; found = a; inputs = inputs; sizes = sizes; grain = grain } in (
+        t,
+        a,
+        at,
+        there,
+        then_map (Fits p name number t inputs) (λ sizes. AfterFit name grain End (fit sizes)) (λ sizes. AfterFit name grain More (fit sizes))
+            (λ sizes. then_map (IsWithin (fit sizes) name) (λ u. End (fit sizes)) (λ u. More (fit sizes)) (λ u. each (fit sizes))) reply rest,
+      )
 
   accept_map : (text : Option (List ℕ)) (files : List (List ℕ × List ℕ)) (p : List ProgTransform) (found : List AnalysisValue) (reply : Reply)
       → AfterAccept name grain End p found text files reply → AfterAccept name grain More p found text files reply

@@ -67,12 +67,7 @@ fn trapped(alloc: Global, run: &Run<'_>, cell: &TrappedCell) -> Result<Stop, All
 
 /// The trace of a run whose tasks were run by number, if it is wanted.
 #[tactic(auto, using(crate::proofs::FinishLemmas::are_tasks, crate::proofs::FinishLemmas::is_trace))]
-fn tail_of(
-    alloc: Global,
-    run: &Run<'_>,
-    order: &[u32],
-    traced: bool,
-) -> Result<Vec<u8>, AllocError>
+fn tail_of(alloc: Global, run: &Run<'_>, order: &[u32], traced: bool) -> Result<Vec<u8>, AllocError>
     requires { order.now ≡ range_with_len 0 (length run.now.graph.tasks) }
     ensures { IfOk result (λ text. IsTailFor run.now traced text.items) }
 {
@@ -137,12 +132,7 @@ fn run_transform(
 }
 
 /// The run with a configuration.
-fn run_configured(
-    alloc: Global,
-    a: &Accepted,
-    c: &Config,
-    r: &Request<'_>,
-) -> Result<Vec<u8>, Stop>
+fn run_configured(alloc: Global, a: &Accepted, c: &Config, r: &Request<'_>) -> Result<Vec<u8>, Stop>
     requires valid { IsValid (bare_prog a.now.program) c.now }
     requires computes { CallsNothing (bare_prog a.now.program) }
     requires texts { length r.now.files.now ≡ length r.now.texts.now }

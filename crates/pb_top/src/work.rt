@@ -1,10 +1,11 @@
 ghost use Rattle.std.specs.Prelude.{◌≡◌, ◌≤◌, ◌++◌, [], length, take, map, string_bytes, IfOk};
+ghost use Rattle.std.specs.List.{zip};
 ghost use Rattle.pb_words.specs.Files.{run_files};
 ghost use Rattle.pb_words.specs.Line.{least_others};
 ghost use Rattle.pb_top.specs.Sinks.{shelf_change, AsksFront};
-ghost use Rattle.pb_top.specs.Answer.{AskAnswers, IsTail, Runs, WorkWrites, taken_words};
-ghost use Rattle.pb_top.specs.Runs.{RunWrites};
-ghost use Rattle.pb_top.specs.Working.{HasFewInputs, ShelfWrites, Writes, contents_of, line_files, texts_of};
+ghost use Rattle.pb_top.specs.Answer.{AskAnswers, IsTail, Runs, WorkWrites, is_dash, taken_words};
+ghost use Rattle.pb_top.specs.Runs.{RunWrites, RunsProgram};
+ghost use Rattle.pb_top.specs.Working.{HasFewInputs, ShelfWrites, Writes, contents_of, line_files, text_in, texts_of};
 
 use crate::check::{check, choices};
 use crate::files::fetch_all;
@@ -26,10 +27,7 @@ fn first_name<'a>(alloc: Global, words: &'a [String]) -> Result<Vec<&'a str>, Al
 }
 
 // These words, after some names.
-fn with_words<'a>(
-    names: Vec<&'a str>,
-    words: &'a [String],
-) -> Result<Vec<&'a str>, AllocError>
+fn with_words<'a>(names: Vec<&'a str>, words: &'a [String]) -> Result<Vec<&'a str>, AllocError>
     ensures { IfOk result (λ all. texts_of all.items ≡ texts_of names.entry.items ++ map string_bytes words.now) }
 {
     let mut all = names;
@@ -37,6 +35,13 @@ fn with_words<'a>(
         all.push(word.as_str())?;
     }
     Ok(all)
+}
+
+// Whether a word stands for no configuration.
+fn is_dash(word: &str) -> bool
+    ensures { result ≡ is_dash word.now }
+{
+    word == "-"
 }
 
 // The words of a run that name files.
@@ -47,27 +52,48 @@ fn run_names<'a>(alloc: Global, others: &'a [String]) -> Result<Vec<&'a str>, Al
         return Ok(Vec::new(alloc));
     };
     let mut names = vec![in alloc; program.as_str()]?;
-    if config.as_str() != "-" {
+    if !is_dash(config.as_str()) {
         names.push(config.as_str())?;
     }
     with_words(names, inputs)
 }
 
 // The words that name the files of what is asked, in order; what isn't built takes none.
-fn file_names<'a>(
-    alloc: Global,
-    ask: Ask,
-    others: &'a [String],
-) -> Result<Vec<&'a str>, AllocError>
+fn file_names<'a>(alloc: Global, ask: Ask, others: &'a [String]) -> Result<Vec<&'a str>, AllocError>
     ensures { IfOk result (λ names. texts_of names.items ≡ taken_words ask (map string_bytes others.now)) }
 {
     match ask {
         Ask::Check | Ask::Choices => first_name(alloc, others),
         Ask::Run {
-            pool: Pool::Serial, ..
+            pool: Pool::Serial,
+            ..
         } => run_names(alloc, others),
         Ask::Run { .. } | Ask::Tune { .. } | Ask::Demo { .. } => Ok(Vec::new(alloc)),
     }
+}
+
+// A run over the texts of its program, of its configuration and of its inputs.
+fn run_line(
+    alloc: Global,
+    line: &RunLine<'_>,
+    grain: u64,
+    traced: bool,
+    program: &[u8],
+    config: Option<&[u8]>,
+    texts: &[Vec<u8>],
+) -> Result<Vec<u8>, Stop>
+    requires texts { length line.now.inputs ≡ length texts.now }
+    requires few { length line.now.inputs ≤ 16 }
+    ensures { Writes (λ tail. RunsProgram line.now.transform grain (RunWrites traced tail) program.now (text_in config.entry) (zip line.now.inputs (contents_of texts.now))) result }
+{
+    let request = Request {
+        transform: line.transform,
+        grain,
+        traced,
+        files: line.inputs,
+        texts,
+    };
+    run_program(alloc, program, config, &request)
 }
 
 // A run over the bytes of its files.
@@ -85,28 +111,16 @@ fn run(
     let Some(line) = line else {
         return Err(not_built(alloc)?);
     };
-    let (config, texts) = if line.config == "-" {
-        (None, &contents[1..])
-    } else {
-        (Some(contents[1].as_slice()), &contents[2..])
-    };
-    let request = Request {
-        transform: line.transform,
-        grain,
-        traced,
-        files: line.inputs,
-        texts,
-    };
-    run_program(alloc, &contents[0], config, &request)
+    let program = &contents[0];
+    if is_dash(line.config) {
+        return run_line(alloc, line, grain, traced, program, None, &contents[1..]);
+    }
+    let config = Some(contents[1].as_slice());
+    run_line(alloc, line, grain, traced, program, config, &contents[2..])
 }
 
 // What is written of what is asked, over the bytes of its files.
-fn answer(
-    alloc: Global,
-    ask: Ask,
-    others: &[String],
-    contents: &[Vec<u8>],
-) -> Result<Vec<u8>, Stop>
+fn answer(alloc: Global, ask: Ask, others: &[String], contents: &[Vec<u8>]) -> Result<Vec<u8>, Stop>
     requires enough { least_others ask ≤ length others.now }
     requires few { length others.now ≤ 19 }
     requires all { length contents.now ≡ length (taken_words ask (map string_bytes others.now)) }
@@ -116,7 +130,10 @@ fn answer(
         Ask::Check => check(alloc, &contents[0]),
         Ask::Choices => choices(alloc, &contents[0]),
         Ask::Run {
-            pool, trace, grain, ..
+            pool,
+            trace,
+            grain,
+            ..
         } => run(alloc, &read_run(pool, others), grain, trace, contents),
         Ask::Tune { .. } | Ask::Demo { .. } => Err(not_built(alloc)?),
     }

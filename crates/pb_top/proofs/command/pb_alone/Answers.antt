@@ -1,6 +1,7 @@
-use Rattle.std.proofs.Common.{map, string_bytes, refl}
+use Rattle.std.proofs.Common.{◌-◌, ap, arith, drop, length, map, string_bytes, take, refl}
+use Rattle.std.proofs.lemmas.List.{length-map}
 use Rattle.pb_top.specs.Sinks.{shelf_change, sink_change}
-use Rattle.pb_top.proofs.EndLemmas.{usage_ends, work_ends, texts_after}
+use Rattle.pb_top.proofs.EndLemmas.{few_others, usage_ends, work_ends, texts_after}
 use Rattle.pb_top.proofs.command.pb_alone.Goals as goal
 
 pub returns-in_default-clause-ends : goal.returns-in_default-clause-ends
@@ -19,3 +20,10 @@ returns-clause-ends g c =
     (sink_change g.E.Sink.written g.E.Sink.faults c.args.err.now c.write.new.err)
     _ c.work-found.result c.write.result (texts_after c.args.words.now c.in-Some.place) c.work-found.ensures.stays c.work-found.ensures.asked
     c.work-found.ensures.untaken c.work-found.ensures.answer c.write.ensures
+
+pub work-found-requires-clause-few : goal.work-found-requires-clause-few
+work-found-requires-clause-few g c =
+    let words = c.args.words.now in
+    let place = c.in-Some.place in
+    let after = take (length words - place) (drop place words) in
+    omega (arith, length-map after string_bytes, ap length (texts_after words place), few_others (map string_bytes words) c.in-Some.ask place c.in-Some.ensures.found)

@@ -1,4 +1,4 @@
-use Rattle.std.proofs.Common.{◌≡◌, subst}
+use Rattle.std.proofs.Common.{[], subst}
 use Rattle.std.proofs.lemmas.Result.{err_from_is_err_and}
 use Rattle.pb_program.specs.Trees.{bare_prog}
 use Rattle.pb_unroll.specs.Running.{IsRunning}
@@ -16,7 +16,7 @@ returns-in_err-run c =
     let End = RunWrites c.args.r.now.traced [] in
     let p = err_from_is_err_and c.from_residual.result c.from_residual.ensures.1 in
     rw (p.1, p.2) (stops_map (CannotRun a c.args.c.now c.args.t name c.args.inputs.items grain) (AfterInputs name grain End (bare_prog a.program) a.found c.args.c.now c.args.t c.args.inputs.items)
-        (cannot_run a c.args.c.now c.args.t name c.args.inputs.items grain End) c.in_err-run.field-0.0 c.in_err-run.ensures.refused)
+    (cannot_run a c.args.c.now c.args.t name c.args.inputs.items grain End) c.in_err-run.field-0.0 c.in_err-run.ensures.refused)
 
 pub returns : goal.returns
 returns c =

@@ -1,25 +1,21 @@
-use Rattle.std.proofs.Common.{rules, ◌≡◌, ◌≢◌, ◌↔◌, IfErr, IfOk, IsTrue, length, map, string_bytes, ℕ, ◌+◌, ◌-◌, ◌*◌, ◌<◌, ◌≤◌, ◌/◌, ◌%◌, Bool, true, false, nat_eq, nat_lt, List, [], ◌∷◌, ◌++◌, slice_index_or, slice_set, bit_and, bit_or, Fits, w8, w32, w64, Bor, MutBor}
-use Rattle.std.specs.List.{All}
-use Rattle.pb_program.specs.Configs.{IsValid}
-use Rattle.pb_program.specs.Rules.{RuleValue}
-use Rattle.pb_program.specs.Trees.{bare_prog, bare_rule}
-use Rattle.pb_program.specs.WellFormed.{IsWellFormed}
-use Rattle.pb_program.specs.declared.rule.RuleKind.TheVariants as kind
-use Rattle.pb_region.specs.Dims.{HasTransform}
-use Rattle.pb_unroll.specs.Unrolled.{IsUnrolled, IsWhole}
-use Rattle.pb_top.specs.Runs.{CallsNothing, Configures, FindsTransform, IsBuilt, ReadsInput}
-use Rattle.pb_top.specs.Steps.{Each}
-use Rattle.pb_top.specs.Working.{CannotRun, Gives, ReadsConfig, StopsWith, files_of, refusal_status, text_in}
+use Rattle.std.proofs.lemmas.List.Elements.{All-push, All-same}
+use Rattle.std.proofs.lemmas.Result.{err_from_is_err_and}
+use Rattle.pb_unroll.specs.Unrolled.{IsWhole}
+use Rattle.pb_top.proofs.BuiltLemmas.{inputs_done, inputs_next, inputs_stop}
 use Rattle.pb_top.proofs.steps.read_inputs.Goals as goal
 
--- src/steps.rt:120:20
 pub returns-in_err-read_input-clause-gives : goal.returns-in_err-read_input-clause-gives
-returns-in_err-read_input-clause-gives c = ?
+returns-in_err-read_input-clause-gives c =
+    let p = err_from_is_err_and c.from_residual-in_err-read_input.result c.from_residual-in_err-read_input.ensures.1 in
+    rw (p.1, p.2) (inputs_stop c.args.files.now c.args.texts.now c.requires c.loop-i.i c.index-files-i.result c.index-texts-i.result c.loop-i-test.true c.index-files-i.is c.index-texts-i.is
+    c.as_str.result.now c.deref.result.now c.as_str.ensures.value c.deref.ensures.value c.loop-i.found.items c.loop-i.invariant.0 c.in_err-read_input.field-0.0 c.in_err-read_input.ensures.gives)
 
--- src/steps.rt:119:5
 pub loop-i-preserved : goal.loop-i-preserved
-loop-i-preserved c = ?
+loop-i-preserved c = (
+  inputs_next c.args.files.now c.args.texts.now c.requires c.loop-i.i c.index-files-i.result c.index-texts-i.result c.loop-i-test.true c.index-files-i.is c.index-texts-i.is
+      c.as_str.result.now c.deref.result.now c.as_str.ensures.value c.deref.ensures.value c.loop-i.found.items c.loop-i.invariant.0 c.in_ok-read_input.field-0 c.push.new.self.items c.in_ok-push.ensures.items c.in_ok-read_input.ensures.gives,
+  All-same IsWhole c.push.new.self.items _ c.in_ok-push.ensures.items (All-push IsWhole c.loop-i.found.items c.in_ok-read_input.field-0 c.loop-i.invariant.1 c.in_ok-read_input.ensures.whole),
+)
 
--- src/steps.rt:113:1
 pub returns-clause-gives : goal.returns-clause-gives
-returns-clause-gives c = ?
+returns-clause-gives c = inputs_done c.args.files.now c.args.texts.now c.requires c.loop-i.i c.loop-i.found.items c.loop-i-test.false c.loop-i.invariant.0

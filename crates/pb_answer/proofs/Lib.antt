@@ -1,0 +1,4 @@
+pub mod PlaceLemmas
+pub mod TrapLemmas
+pub mod TextLemmas
+pub mod AnswerLemmas

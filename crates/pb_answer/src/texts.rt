@@ -1,0 +1,63 @@
+ghost use Rattle.std.specs.Prelude.{◌≡◌, IfOk, flat_map, map};
+ghost use Rattle.std.specs.List.{All};
+ghost use Rattle.pb_answer.specs.Shown.{IsWritable, cells_in, text_in};
+ghost use Rattle.pb_model.specs.Equations.{number_in};
+
+use pb_matrix::write_matrix;
+use pb_values::{Outcome, View};
+use std::alloc::{AllocError, Global};
+
+/// The number of an outcome; 0 for a trap.
+fn number_in(outcome: &Outcome) -> i64
+    ensures { result ≡ number_in outcome.now }
+{
+    match outcome {
+        Outcome::Value(value) => *value,
+        Outcome::Trapped(_) => 0,
+    }
+}
+
+/// The outcomes of the cells of a matrix, row by row. Where it has none, nothing is known of where they begin.
+fn cells_in<'a>(view: &View, outcomes: &'a [Outcome]) -> &'a [Outcome]
+    requires { IsWritable outcomes.now view.now }
+    ensures { result.now ≡ cells_in outcomes.now view.now }
+{
+    let cells = (view.shape.w * view.shape.h) as usize;
+    if cells == 0 {
+        return &outcomes[..0];
+    }
+    let first = view.first as usize;
+    &outcomes[first..first + cells]
+}
+
+/// The numbers of some outcomes; 0 for a trap.
+fn numbers_in(alloc: Global, outcomes: &[Outcome]) -> Result<Vec<i64>, AllocError>
+    ensures { IfOk result (λ numbers. numbers.items ≡ map number_in outcomes.now) }
+{
+    outcomes.iter().map(number_in).collect(alloc)
+}
+
+/// The text of a matrix.
+fn text_in(alloc: Global, view: &View, outcomes: &[Outcome]) -> Result<Vec<u8>, AllocError>
+    requires { IsWritable outcomes.now view.now }
+    ensures { IfOk result (λ text. text.items ≡ text_in outcomes.now view.now) }
+{
+    let numbers = numbers_in(alloc, cells_in(view, outcomes))?;
+    write_matrix(alloc, &view.shape, &numbers)
+}
+
+/// The texts of matrices, one after the other.
+pub(crate) fn texts_in(
+    alloc: Global,
+    views: &[View],
+    outcomes: &[Outcome],
+) -> Result<Vec<u8>, AllocError>
+    requires { All (IsWritable outcomes.now) views.now }
+    ensures { IfOk result (λ text. text.items ≡ flat_map (text_in outcomes.now) views.now) }
+{
+    let mut text = Vec::new(alloc);
+    for view in views {
+        text.extend_from_slice(&text_in(alloc, view, outcomes)?)?;
+    }
+    Ok(text)
+}

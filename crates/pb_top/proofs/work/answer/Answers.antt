@@ -1,0 +1,24 @@
+use Rattle.std.proofs.Common.{◌∙◌, ap, map, string_bytes, subst, sym}
+use Rattle.pb_words.specs.Line.{least_others}
+use Rattle.pb_top.specs.Answer.{WorkWrites, content_at, taken_words}
+use Rattle.pb_top.specs.Check.{CheckAnswers, ChoicesAnswers}
+use Rattle.pb_top.specs.Working.{Replies, Writes, contents_of}
+use Rattle.pb_top.proofs.CommandLemmas.{first_content}
+use Rattle.pb_top.proofs.WorkLemmas.{writes_alone}
+use Rattle.pb_top.proofs.work.answer.Goals as goal
+
+pub returns-in-Check : goal.returns-in-Check
+returns-in-Check c =
+    let words = map string_bytes c.args.others.now in
+    let contents = contents_of c.args.contents.now in
+    let first = first_content c.args.others.now (taken_words c.args.ask words) c.args.contents.now c.index-contents-0.result (least_others c.args.ask) c.requires.enough (ap least_others c.in-Check.is) (ap (λ a. taken_words a words) c.in-Check.is) c.requires.all c.index-contents-0.is in
+    subst (λ a. Writes (λ tail. WorkWrites a words tail contents) c.check.result) (sym c.in-Check.is)
+    (writes_alone (CheckAnswers (content_at contents 0)) c.check.result (subst (λ t. Replies (CheckAnswers t) c.check.result) (c.deref.ensures.value ∙ first) c.check.ensures))
+
+pub returns-in-Choices : goal.returns-in-Choices
+returns-in-Choices c =
+    let words = map string_bytes c.args.others.now in
+    let contents = contents_of c.args.contents.now in
+    let first = first_content c.args.others.now (taken_words c.args.ask words) c.args.contents.now c.index-contents-0-in-Choices.result (least_others c.args.ask) c.requires.enough (ap least_others c.in-Choices.is) (ap (λ a. taken_words a words) c.in-Choices.is) c.requires.all c.index-contents-0-in-Choices.is in
+    subst (λ a. Writes (λ tail. WorkWrites a words tail contents) c.choices.result) (sym c.in-Choices.is)
+    (writes_alone (ChoicesAnswers (content_at contents 0)) c.choices.result (subst (λ t. Replies (ChoicesAnswers t) c.choices.result) (c.deref-in-Choices.ensures.value ∙ first) c.choices.ensures))
