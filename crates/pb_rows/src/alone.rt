@@ -1,4 +1,4 @@
-use crate::first_path::DOUBLE;
+use crate::examples::{DOUBLE, MUL};
 use pb_outside::{MemShelf, MemSink, NotingShelf};
 use pb_top::pb_alone;
 use std::alloc::{AllocError, Global};
@@ -21,13 +21,16 @@ fn texts(alloc: Global, words: &str) -> Result<Vec<String>, AllocError> {
     Ok(texts)
 }
 
-// The files p, a program of one rule, and a, its input.
+// The files p, a program without plans, a, its input, and m, a program with plans.
+const CONTENTS: &[(&str, &str)] = &[("p", DOUBLE), ("a", "matrix 3\n1 2 3\n"), ("m", MUL)];
+
 fn files(alloc: Global) -> Result<MemShelf, AllocError> {
     let mut entries = Vec::new(alloc);
-    let program = Vec::from_slice(alloc, DOUBLE.as_bytes())?;
-    entries.push((String::from_str(alloc, "p")?, program))?;
-    let input = Vec::from_slice(alloc, b"matrix 3\n1 2 3\n")?;
-    entries.push((String::from_str(alloc, "a")?, input))?;
+    for (name, content) in CONTENTS {
+        let name = String::from_str(alloc, name)?;
+        let content = Vec::from_slice(alloc, content.as_bytes())?;
+        entries.push((name, content))?;
+    }
     Ok(MemShelf::new(entries, Vec::new(alloc)))
 }
 
@@ -64,8 +67,11 @@ const ALONE: &[(&str, u8, &str)] = &[
     ("demo 1 96 4", 12, ""),
     ("run p - Double a", 12, ""),
     ("run --pool locked p - Double a", 12, ""),
-    ("run --workers 1 --pool serial p - Double a", 12, ""),
-    ("run --pool serial p - Double", 12, ""),
+    ("run --workers 1 --pool serial p - Double a", 0, "p a "),
+    ("run --pool serial p - Double", 5, "p "),
+    ("run --pool serial p c Double a", 14, "p c "),
+    ("run --pool serial p - Double a a a", 5, "p a a a "),
+    ("run --pool serial m - Nope a p", 12, "m a p "),
     ("check", 2, ""),
 ];
 

@@ -1,7 +1,7 @@
 ghost use Rattle.std.specs.Prelude.{◌<◌};
 
 use crate::examples::{EXAMPLES, ROLL};
-use crate::run::{Row, holds};
+use crate::run::{Files, Row, holds};
 use pb_outside::{MemShelf, MemSink};
 use pb_top::pb_command;
 use std::alloc::{AllocError, Global};
@@ -9,8 +9,6 @@ use std::process::Abort;
 use std::sync::Wait;
 use std::test::Fail;
 use std::thread::Threads;
-
-type Files = &'static [(&'static str, &'static str)];
 
 /// A row of `check p`.
 pub fn check(files: Files, status: u8, out: &'static str, err: &'static str) -> Row {

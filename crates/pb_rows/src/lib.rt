@@ -5,18 +5,38 @@
 #[cfg(test)]
 mod alone;
 #[cfg(test)]
+mod bodies;
+#[cfg(test)]
 mod check;
 #[cfg(test)]
 mod choices;
 #[cfg(test)]
+mod chosen;
+#[cfg(test)]
 mod devices;
+#[cfg(test)]
+mod documented;
 #[cfg(test)]
 mod examples;
 #[cfg(test)]
-mod first_path;
+mod handed;
+#[cfg(test)]
+mod large;
+#[cfg(test)]
+mod precedence;
+#[cfg(test)]
+mod refusals;
 #[cfg(test)]
 mod run;
 #[cfg(test)]
 mod segments;
+#[cfg(test)]
+mod serial;
+#[cfg(test)]
+mod traces;
+#[cfg(test)]
+mod traps;
+#[cfg(test)]
+mod unbuilt;
 #[cfg(test)]
 mod words;

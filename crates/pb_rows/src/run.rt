@@ -8,6 +8,9 @@ use std::sync::Wait;
 use std::test::Fail;
 use std::thread::Threads;
 
+/// Files by their names.
+pub type Files = &'static [(&'static str, &'static str)];
+
 /// A call of the top call in memory: words in one text with single blanks between them, the files, the
 /// calls of the shelf that fail, the puts on either sink that fail and the most bytes of each; then the status and
 /// what the sinks hold in the end.
@@ -22,6 +25,39 @@ pub struct Row {
     pub out: &'static str,
     pub err: &'static str,
     ghost takes_some: { 0 < most },
+}
+
+/// A row that ends with a text on `out`.
+pub fn done(words: &'static str, files: Files, out: &'static str) -> Row {
+    Row {
+        words,
+        files,
+        failing_takes: &[],
+        failing_puts: &[],
+        most: 4096,
+        status: 0,
+        out,
+        err: "",
+    }
+}
+
+/// A row that ends with a line on `err`.
+pub fn stopped(words: &'static str, files: Files, status: u8, err: &'static str) -> Row {
+    Row {
+        words,
+        files,
+        failing_takes: &[],
+        failing_puts: &[],
+        most: 4096,
+        status,
+        out: "",
+        err,
+    }
+}
+
+/// A row that ends with a trap.
+pub fn trapped(words: &'static str, files: Files, err: &'static str) -> Row {
+    stopped(words, files, 7, err)
 }
 
 fn shelf(alloc: Global, row: &Row) -> Result<MemShelf, AllocError> {
@@ -43,9 +79,9 @@ fn sink(alloc: Global, row: &Row) -> Result<MemSink, AllocError> {
     )
 }
 
-fn words(alloc: Global, row: &Row) -> Result<Vec<String>, AllocError> {
+fn words(alloc: Global, line: &str) -> Result<Vec<String>, AllocError> {
     let mut words = Vec::new(alloc);
-    for word in row.words.split(' ') {
+    for word in line.split(' ') {
         words.push(String::from_str(alloc, word)?)?;
     }
     Ok(words)
@@ -63,7 +99,7 @@ pub fn holds<R: Threads + Wait + Sync + Abort>(
     let status = pb_command(
         rt,
         alloc,
-        &words(alloc, row)?,
+        &words(alloc, row.words)?,
         &mut files,
         &mut out,
         &mut err,
@@ -72,4 +108,39 @@ pub fn holds<R: Threads + Wait + Sync + Abort>(
     assert_eq!(rt; out.written(), row.out.as_bytes(), "{}", row.words);
     assert_eq!(rt; err.written(), row.err.as_bytes(), "{}", row.words);
     Ok(())
+}
+
+// A shelf with the files p and a.
+fn shelf_of(alloc: Global, program: &str, input: &str) -> Result<MemShelf, AllocError> {
+    let mut entries = Vec::new(alloc);
+    let program = Vec::from_slice(alloc, program.as_bytes())?;
+    entries.push((String::from_str(alloc, "p")?, program))?;
+    let input = Vec::from_slice(alloc, input.as_bytes())?;
+    entries.push((String::from_str(alloc, "a")?, input))?;
+    Ok(MemShelf::new(entries, Vec::new(alloc)))
+}
+
+/// A call over a program p and an input a that may be built, with its words in one text: the status, and what is put on
+/// `out` and `err`, each of which has room for 4,194,304 bytes.
+pub fn ran<R: Threads + Wait + Sync + Abort>(
+    rt: &R,
+    alloc: Global,
+    line: &str,
+    program: &str,
+    input: &str,
+) -> Result<(u8, Vec<u8>, Vec<u8>), AllocError> {
+    let mut files = shelf_of(alloc, program, input)?;
+    let mut out = MemSink::new(alloc, 4_194_304, 4_194_304, Vec::new(alloc))?;
+    let mut err = MemSink::new(alloc, 4_194_304, 4_194_304, Vec::new(alloc))?;
+    let status = pb_command(
+        rt,
+        alloc,
+        &words(alloc, line)?,
+        &mut files,
+        &mut out,
+        &mut err,
+    );
+    let out = Vec::from_slice(alloc, out.written())?;
+    let err = Vec::from_slice(alloc, err.written())?;
+    Ok((status, out, err))
 }

@@ -1,4 +1,4 @@
-use crate::first_path::DOUBLE;
+use crate::examples::DOUBLE;
 use crate::run::{Row, holds};
 use std::test::Fail;
 
@@ -9,7 +9,7 @@ const USAGE: &str = "usage: pb check PROGRAM
        pb demo SEED SIZE WORKERS
 ";
 
-// The first take would fail, so no file is taken.
+// The first take fails, if there is one.
 fn without_files(words: &'static str, status: u8, err: &'static str) -> Row {
     Row {
         words,
@@ -43,22 +43,23 @@ fn words_outside_the_grammar_get_the_usage(rt: HostRuntime) -> Result<(), Fail> 
     Ok(())
 }
 
-fn unbuilt_rows() -> [Row; 6] {
-    let line = "N1 NotBuilt\n";
+// Files in their order, of which the first can't be read.
+fn first_rows() -> [Row; 3] {
     [
-        without_files("tune p Double", 12, line),
-        without_files("demo 1 96 4", 12, line),
-        without_files("run --pool locked p - Double a", 12, line),
-        without_files("run --pool serial p c Double a", 12, line),
-        without_files("run --pool serial p - Double a a", 12, line),
-        // `--trace` stands in an option's place: the program is `-`.
-        without_files("run --pool serial --trace - Double a", 12, line),
+        without_files("run --pool serial p c Double a", 9, "R ReadFault: p\n"),
+        without_files("check -", 9, "R ReadFault: -\n"),
+        // `--trace` stands in an option's place, so the program is `-`.
+        without_files(
+            "run --pool serial --trace - Double a",
+            9,
+            "R ReadFault: -\n",
+        ),
     ]
 }
 
 #[test]
-fn other_command_lines_take_no_file(rt: HostRuntime) -> Result<(), Fail> {
-    for row in unbuilt_rows() {
+fn the_first_word_after_the_options_is_the_program(rt: HostRuntime) -> Result<(), Fail> {
+    for row in first_rows() {
         holds(&rt, rt.alloc(), &row)?;
     }
     Ok(())
