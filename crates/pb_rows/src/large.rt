@@ -68,3 +68,35 @@ fn a_size_is_at_most_so_great(rt: HostRuntime) -> Result<(), Fail> {
     );
     Ok(())
 }
+
+const HEAD: &str = "transform T from A[n] to B[n] { to (B.cell(i) b) from (A.cell(i) a) { ";
+
+// A body of as many statements as there may be, and bodies that nest as deep as they may, by parentheses and by branches.
+#[test]
+fn the_largest_bodies_run(rt: HostRuntime) -> Result<(), Fail> {
+    let alloc = rt.alloc();
+    let line = "run --pool serial p - T a";
+    let input = "matrix 2\n1 2\n";
+    let long = repeated(alloc, HEAD, 256, "b = b + a; ", "} }")?;
+    let (status, out, _) = ran(&rt, alloc, line, long.as_str(), input)?;
+    assert_eq!(rt;
+        (status, out.as_slice()),
+        (0, b"matrix 2\n256 512\n".as_slice())
+    );
+    let begun = repeated(alloc, HEAD, 1, "b = ", "")?;
+    let opened = repeated(alloc, begun.as_str(), 31, "(", "a")?;
+    let deep = repeated(alloc, opened.as_str(), 31, " + 1)", "; } }")?;
+    let (status, out, _) = ran(&rt, alloc, line, deep.as_str(), input)?;
+    assert_eq!(rt;
+        (status, out.as_slice()),
+        (0, b"matrix 2\n32 33\n".as_slice())
+    );
+    let opened = repeated(alloc, HEAD, 31, "if (a > 1) { ", "b = a; ")?;
+    let branches = repeated(alloc, opened.as_str(), 31, "} ", "} }")?;
+    let (status, out, _) = ran(&rt, alloc, line, branches.as_str(), input)?;
+    assert_eq!(rt;
+        (status, out.as_slice()),
+        (0, b"matrix 2\n0 2\n".as_slice())
+    );
+    Ok(())
+}
