@@ -79,24 +79,18 @@ fn the_largest_bodies_run(rt: HostRuntime) -> Result<(), Fail> {
     let input = "matrix 2\n1 2\n";
     let long = repeated(alloc, HEAD, 256, "b = b + a; ", "} }")?;
     let (status, out, _) = ran(&rt, alloc, line, long.as_str(), input)?;
-    assert_eq!(rt;
-        (status, out.as_slice()),
-        (0, b"matrix 2\n256 512\n".as_slice())
-    );
+    assert_eq!(rt; status, 0);
+    assert_eq!(rt; out.as_slice(), b"matrix 2\n256 512\n".as_slice());
     let begun = repeated(alloc, HEAD, 1, "b = ", "")?;
     let opened = repeated(alloc, begun.as_str(), 31, "(", "a")?;
     let deep = repeated(alloc, opened.as_str(), 31, " + 1)", "; } }")?;
     let (status, out, _) = ran(&rt, alloc, line, deep.as_str(), input)?;
-    assert_eq!(rt;
-        (status, out.as_slice()),
-        (0, b"matrix 2\n32 33\n".as_slice())
-    );
+    assert_eq!(rt; status, 0);
+    assert_eq!(rt; out.as_slice(), b"matrix 2\n32 33\n".as_slice());
     let opened = repeated(alloc, HEAD, 31, "if (a > 1) { ", "b = a; ")?;
     let branches = repeated(alloc, opened.as_str(), 31, "} ", "} }")?;
     let (status, out, _) = ran(&rt, alloc, line, branches.as_str(), input)?;
-    assert_eq!(rt;
-        (status, out.as_slice()),
-        (0, b"matrix 2\n0 2\n".as_slice())
-    );
+    assert_eq!(rt; status, 0);
+    assert_eq!(rt; out.as_slice(), b"matrix 2\n0 2\n".as_slice());
     Ok(())
 }
