@@ -1,0 +1,5 @@
+pub mod Shapes
+pub mod Plans
+pub mod Depths
+pub mod Counts
+pub mod Ordered

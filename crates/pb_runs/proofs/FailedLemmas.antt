@@ -1,0 +1,184 @@
+-- Calls that can't be made: a trap in each cell of their targets.
+use Rattle.std.proofs.Common.{◌≡◌, ◌∙◌, refl, sym, ap, subst, inl, inr, ◌⊎◌, ⊎_elim, ℕ, zero, suc, ◌+◌, ◌-◌, ◌*◌, ◌<◌, ◌≤◌, Bool, true, false, List, [], ◌∷◌, ◌++◌, length, map, slice_get, Some, None, arith, length-append}
+use Rattle.std.specs.Prelude.{filter, replicate, nat_lt, ◌&&◌}
+use Rattle.std.specs.List.{All, AllZip, Contains, flat_map, range_with_len}
+use Rattle.std.proofs.lemmas.Bool.{cases_lt}
+use Rattle.std.proofs.lemmas.Bool.Decides.{nat_tests}
+use Rattle.std.proofs.lemmas.List.{length-replicate}
+use Rattle.pb_values.specs.declared.outcome.Outcome.{Outcome}
+use Rattle.pb_values.specs.declared.rect.Rect.{Rect}
+use Rattle.pb_program.specs.Configs.{ConfigValue}
+use Rattle.pb_model.specs.Calls.{Outcomes}
+use Rattle.pb_model.specs.Cells.{natural}
+use Rattle.pb_base.proofs.ListLemmas.{filter_in, flat_in, in_cases, in_head, in_none, in_tail, map_in}
+use Rattle.pb_frame.specs.Frames.{has_place}
+use Rattle.pb_recursion.specs.Depths.{IsWhole, filled}
+use Rattle.pb_recursion.specs.Shapes.{Sides, area}
+use Rattle.pb_runs.specs.Right.{IsRight, outcome_of}
+use Rattle.pb_runs.specs.Seats.{Seat, across, cell_at, down, seat_cells}
+use Rattle.pb_runs.specs.Steps.{Step, by_trap, cells_in, cells_of}
+use Rattle.pb_runs.specs.Unrolled.{Met, after_call, after_matrices, after_matrix, failed, seat_has_cells, seats_from, trap_step, whole_seat}
+use Rattle.pb_runs.proofs.BaseLemmas.{Reaches, Stands, reaches_both, stands_left, stands_right, total}
+use Rattle.pb_runs.proofs.CountLemmas.{counted, in_row, row_in, row_split}
+use Rattle.pb_runs.proofs.SeatLemmas.{HasCell, IsPlaced, has_whole, whole_has, whole_placed}
+use Rattle.pb_runs.proofs.SoundLemmas.{Cells, IsDeep, IsMade, Sound}
+
+-- ---- matrices one after the other
+module _ (ms : List Outcomes) where
+  -- they have these sides, and all their cells
+  abbrev pub HasSides : Sides → Outcomes → Type 0
+  HasSides s m = (m.width ≡ natural s.0) × (m.height ≡ natural s.1) × IsWhole m
+
+  abbrev pub HaveSides : List Sides → List Outcomes → Type 0
+  HaveSides [] [] = Unit {0}
+  HaveSides (s ∷ ss) (m ∷ mats) = HasSides s m × HaveSides ss mats
+  HaveSides _ _ = ⊥
+
+  area_is : (s : Sides) (m : Outcomes) → HasSides s m → length m.cells ≡ area s
+  area_is s m h = h.2 ∙ (λ i. h.0 i * h.1 i)
+
+  one_reaches : (n : Met) (s : Sides) (m : Outcomes) → HasSides s m → Reaches ms n (m ∷ []) (after_matrix n s)
+  one_reaches n s m h = record { matrices = omega arith; cells = let cells = area_is s m h in omega (arith, cells) }
+
+  pub seats_reach : (n : Met) (ss : List Sides) (mats : List Outcomes) → HaveSides ss mats → Reaches ms n mats (after_matrices n ss)
+  seats_reach n [] [] h = record { matrices = omega arith; cells = omega arith }
+  seats_reach n [] (m ∷ mats) h = absurd h
+  seats_reach n (s ∷ ss) [] h = absurd h
+  seats_reach n (s ∷ ss) (m ∷ mats) h = reaches_both ms n (after_matrix n s) (after_matrices (after_matrix n s) ss) (m ∷ []) mats (one_reaches n s m h.0) (seats_reach (after_matrix n s) ss mats h.1)
+
+  pub seats_placed : (n : Met) (ss : List Sides) (mats : List Outcomes) → HaveSides ss mats → Stands ms n mats → AllZip (IsPlaced ms) (seats_from n ss) mats
+  seats_placed n [] [] h stands = tt
+  seats_placed n [] (m ∷ mats) h stands = absurd h
+  seats_placed n (s ∷ ss) [] h stands = absurd h
+  seats_placed n (s ∷ ss) (m ∷ mats) h stands =
+      (whole_placed ms n s m mats stands h.0.0 h.0.1 h.0.2,
+      seats_placed (after_matrix n s) ss mats h.1 (stands_right ms n (after_matrix n s) (m ∷ []) mats stands (one_reaches n s m h.0)))
+
+  pub seats_within : (n : Met) (ss : List Sides) (mats : List Outcomes) → HaveSides ss mats → (s : Seat) → Contains (seats_from n ss) s → (c : ℕ) → HasCell s c → Contains (range_with_len n.cells (total mats)) c
+  seats_within n [] mats h s there c has = absurd (in_none s there)
+  seats_within n (z ∷ ss) [] h s there c has = absurd h
+  seats_within n (z ∷ ss) (m ∷ mats) h s there c has = elim (in_cases (whole_seat n z) s (seats_from (after_matrix n z) ss) there) [
+    | inl same ↦
+        let in_whole = whole_has n z c (subst (λ q. HasCell q c) (sym same) has) in
+        let cells = area_is z m h.0 in
+        row_in c n.cells (total (m ∷ mats)) in_whole.0 (omega (arith, in_whole.1, cells))
+    | inr later ↦
+        let rest = in_row c (n.cells + area z) (total mats) (seats_within (after_matrix n z) ss mats h.1 s later c has) in
+        let cells = area_is z m h.0 in
+        row_in c n.cells (total (m ∷ mats)) (omega (arith, rest.0)) (omega (arith, rest.1, cells))
+  ]
+
+-- ---- the cells of such a seat are numbers in a row
+map_row : (f a n k : ℕ) → map (λ x. f + (a + (0 + x))) (range_with_len k n) ≡ range_with_len (f + a + k) n
+map_row f a zero k = refl
+map_row f a (suc n) k =
+    let head : f + (a + (0 + k)) ≡ f + a + k = omega arith in
+    let next : f + a + (k + 1) ≡ (f + a + k) + 1 = omega arith in
+    (λ i. head i ∷ (map_row f a n (k + 1) ∙ ap (λ m. range_with_len m n) next) i)
+
+rows_row : (f w h a : ℕ) → flat_map (λ y. map (λ x. f + ((0 + y) * w + (0 + x))) (range_with_len 0 w)) (range_with_len a h) ≡ range_with_len (f + a * w) (h * w)
+rows_row f w zero a = refl
+rows_row f w (suc h) a =
+    let first : map (λ x. f + ((0 + a) * w + (0 + x))) (range_with_len 0 w) ≡ range_with_len (f + a * w) w = (map_row f ((0 + a) * w) w 0 ∙ ap (λ m. range_with_len m w) (let plain : (0 + a) * w ≡ a * w = ap (λ k. k * w) (omega arith) in omega (arith, plain))) in
+    let step : f + (a + 1) * w ≡ (f + a * w) + w = grind arith in
+    let count : suc h * w ≡ w + h * w = grind arith in
+    (λ i. first i ++ (rows_row f w h (a + 1) ∙ ap (λ m. range_with_len m (h * w)) step) i) ∙ sym (row_split (f + a * w) w (h * w)) ∙ ap (range_with_len (f + a * w)) (sym count)
+
+pub whole_cells : (n : Met) (s : Sides) → seat_cells (whole_seat n s) ≡ range_with_len n.cells (area s)
+unfolding cell_at
+whole_cells n s =
+    let w = natural s.0 in
+    let h = natural s.1 in
+    let none : n.cells + 0 * w ≡ n.cells = (let zero_times : 0 * w ≡ 0 = refl in omega (arith, zero_times)) in
+    let count : h * w ≡ w * h = grind arith in
+    rows_row n.cells w h 0 ∙ (λ i. range_with_len (none i) (count i))
+
+-- the seats without cells can be left out
+pub full_cells : (n : Met) (ss : List Sides) → flat_map seat_cells (filter seat_has_cells (seats_from n ss)) ≡ flat_map seat_cells (seats_from n ss)
+full_cells n [] = refl
+full_cells n (s ∷ ss) = by (seat_has_cells (whole_seat n s)) refl
+  where
+    by : (b : Bool) → seat_has_cells (whole_seat n s) ≡ b → flat_map seat_cells (filter seat_has_cells (seats_from n (s ∷ ss))) ≡ flat_map seat_cells (seats_from n (s ∷ ss))
+    by true e = rw e (ap (λ l. seat_cells (whole_seat n s) ++ l) (full_cells (after_matrix n s) ss))
+    by false e = rw e (full_cells (after_matrix n s) ss ∙ ap (λ l. l ++ flat_map seat_cells (seats_from (after_matrix n s) ss)) (sym none))
+      where
+        empty : (w h : ℕ) → (nat_lt 0 w && nat_lt 0 h) ≡ false → w * h ≡ 0
+        empty zero h f = refl
+        empty (suc w) zero f = grind arith
+        empty (suc w) (suc h) f = absurd (let wrong : true ≡ false = f in cc)
+
+        none : seat_cells (whole_seat n s) ≡ []
+        none = whole_cells n s ∙ ap (range_with_len n.cells) (empty (natural s.0) (natural s.1) e)
+
+-- all together they are the cells of the matrices
+pub all_cells : (ms : List Outcomes) (n : Met) (ss : List Sides) (mats : List Outcomes) → HaveSides ms ss mats → flat_map seat_cells (seats_from n ss) ≡ range_with_len n.cells (total mats)
+all_cells ms n [] [] h = refl
+all_cells ms n [] (m ∷ mats) h = absurd h
+all_cells ms n (s ∷ ss) [] h = absurd h
+all_cells ms n (s ∷ ss) (m ∷ mats) h =
+    let cells : area s ≡ length m.cells = sym (h.0.2 ∙ (λ i. h.0.0 i * h.0.1 i)) in
+    (λ i. whole_cells n s i ++ all_cells ms (after_matrix n s) ss mats h.1 i) ∙ sym (row_split n.cells (area s) (total mats)) ∙ ap (λ a. range_with_len n.cells (a + total mats)) cells
+
+-- ---- a call that can't be made
+pub filled_sides : (ms : List Outcomes) (o : Outcome) (ss : List Sides) → HaveSides ms ss (map (filled o) ss)
+filled_sides ms o [] = tt
+filled_sides ms o (s ∷ ss) = ((refl, refl, length-replicate (area s) o), filled_sides ms o ss)
+
+same_filled : (n k : ℕ) (o q : Outcome) → slice_get (replicate n o) k ≡ Some q → q ≡ o
+same_filled zero k o q e = absurd (let wrong : None ≡ Some q = e in cc)
+same_filled (suc n) zero o q e = let some : Some o ≡ Some q = e in cc
+same_filled (suc n) (suc k) o q e = same_filled n k o q e
+
+module _ (config : ConfigValue) (ms : List Outcomes) where
+  -- each cell has the trap
+  filled_right : (o : Outcome) (n : Met) (ss : List Sides) → AllZip (IsPlaced ms) (seats_from n ss) (map (filled o) ss) → (s : Seat) → Contains (seats_from n ss) s → (c : ℕ) → HasCell s c → outcome_of ms c ≡ o
+  filled_right o n [] placed s there c has = absurd (in_none s there)
+  filled_right o n (z ∷ ss) placed s there c has = elim (in_cases (whole_seat n z) s (seats_from (after_matrix n z) ss) there) [
+    | inl same ↦
+        let h = subst (λ q. HasCell q c) (sym same) has in
+        let at = placed.0.cells h.0 h.1 h.2 h.3 in
+        ap (outcome_of ms) h.4 ∙ at.2.is ∙ same_filled (area z) (h.1 * natural z.0 + h.0) o at.0 at.1
+    | inr later ↦ filled_right o (after_matrix n z) ss placed.1 s later c has
+  ]
+
+  seat_in_row : (s : Seat) (c : ℕ) → Contains (seat_cells s) c → HasCell s c
+  seat_in_row s c h =
+      let row = flat_in (λ y. map (λ x. cell_at s x y) (range_with_len 0 (across s))) (range_with_len 0 (down s)) c h in
+      let at = map_in (λ x. cell_at s x row.0) (range_with_len 0 (across s)) c row.2 in
+      let in_x = in_row at.0 0 (across s) at.1 in
+      let in_y = in_row row.0 0 (down s) row.1 in
+      (at.0, row.0, omega (arith, in_x.1), omega (arith, in_y.1), sym at.2)
+
+  filter_from : (ss : List Seat) (s : Seat) → Contains (filter seat_has_cells ss) s → Contains ss s
+  filter_from ss s h = (filter_in seat_has_cells ss s h).0
+
+  trap_cells : (call : ℕ) (o : Outcome) (seats : List Seat) → cells_in (trap_step call o seats) ≡ flat_map seat_cells seats
+  unfolding cells_of
+  trap_cells call o [] = refl
+  trap_cells call o (s ∷ seats) = append_none (flat_map seat_cells (s ∷ seats))
+    where
+      append_none : (xs : List ℕ) → xs ++ [] ≡ xs
+      append_none [] = refl
+      append_none (x ∷ xs) = ap (λ l. x ∷ l) (append_none xs)
+
+  trap_sound : (known : Cells) (call : ℕ) (o : Outcome) (seats : List Seat) → ((s : Seat) → Contains seats s → (c : ℕ) → HasCell s c → outcome_of ms c ≡ o) → Sound config ms known (trap_step call o seats)
+  unfolding cells_of
+  trap_sound known call o [] right = tt
+  trap_sound known call o (s ∷ seats) right =
+      (record { reads = λ b h c cell. absurd (in_none b h); right = λ c h. (let seat = flat_in seat_cells (s ∷ seats) c h in right seat.0 seat.1 c (seat_in_row seat.0 c seat.2)) }, tt)
+
+  pub failed_deep : (known : Cells) (o : Outcome) (ss : List Sides) (n : Met) → Stands ms n (map (filled o) ss) → IsDeep config ms known n (failed o ss n) (map (filled o) ss) (map (filled o) ss)
+  failed_deep known o ss n stands =
+      let m = after_call n in
+      let sides = filled_sides ms o ss in
+      let stands_m : Stands ms m (map (filled o) ss) = record { at = stands.at; cells = stands.cells } in
+      let placed = seats_placed ms m ss (map (filled o) ss) sides stands_m in
+      let reach = seats_reach ms m ss (map (filled o) ss) sides in
+      let full = filter seat_has_cells (seats_from m ss) in
+      record {
+        placed = placed;
+        within = seats_within ms m ss (map (filled o) ss) sides;
+        sound = trap_sound known n.calls o full (λ s there c has. filled_right o m ss placed s (filter_from (seats_from m ss) s there) c has);
+        counts = λ c. ap (counted c) (trap_cells n.calls o full ∙ full_cells m ss ∙ all_cells ms m ss (map (filled o) ss) sides);
+        reaches = record { matrices = reach.matrices; cells = reach.cells };
+      }

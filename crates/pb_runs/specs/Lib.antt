@@ -1,0 +1,5 @@
+pub mod Seats
+pub mod Steps
+pub mod Unrolled
+pub mod Matrices
+pub mod Right

@@ -1,0 +1,38 @@
+-- What it means that steps are right: each makes its cells as its rules say, from cells that are known before.
+use Rattle.std.specs.Prelude.{◌≡◌, ◌⊎◌, ℕ, ◌+◌, ◌-◌, ◌<◌, List, [], ◌∷◌, ◌++◌, map, length, Option, Some, None, slice_get}
+use Rattle.std.specs.List.{All, Contains}
+use Rattle.pb_values.specs.declared.outcome.Outcome.{Outcome}
+use Rattle.pb_links.specs.declared.places.Spot.{Spot}
+use Rattle.pb_program.specs.Configs.{ConfigValue}
+use Rattle.pb_model.specs.Calls.{Outcomes, Plans, cell_equation, cell_reads, no_outcome}
+use Rattle.pb_taskgraph.specs.Plans.{outcome_at}
+use Rattle.pb_frame.specs.Frames.{JobValue}
+use Rattle.pb_values.specs.Views.{HasPlace}
+use Rattle.pb_walk.specs.declared.stop.Stop.{Stop}
+use Rattle.pb_solution.specs.Solutions.{outcomes_of, stop_cell, stops_of}
+use Rattle.pb_runs.specs.Seats.{Seat, cell_at}
+use Rattle.pb_runs.specs.Steps.{Copied, Failed, Instance, Step, boxes_of, by_copy, by_job, by_trap, cells_of, copied_stops, number_at, stop_number}
+
+-- no plan plays a part
+abbrev pub no_plans : Plans
+no_plans rule r c seen = no_outcome
+
+-- the place in the source of a copy
+abbrev pub source_number : Copied → Stop → ℕ
+source_number c s = cell_at c.source (s.x - c.corner.0) (s.y - c.corner.1)
+
+module _ (config : ConfigValue) (ms : List Outcomes) where
+  -- the outcome of a cell of a run whose matrices are these
+  abbrev pub outcome_of : ℕ → Outcome
+  outcome_of c = outcome_at (outcomes_of ms) c
+
+  -- a cell of a job is what its rule makes of the outcomes of what it reads
+  abbrev pub IsMadeByRule : Instance → Stop → Type 0
+  IsMadeByRule i s =
+      outcome_of (stop_number i s) ≡ cell_equation config no_plans i.number i.transform i.sizes (stop_cell s) (map (λ d. outcome_of (number_at i d)) (cell_reads config no_plans i.number i.transform i.sizes (stop_cell s)))
+
+  -- a copied cell has the outcome of its source, and a cell of a call that can't be made the trap
+  abbrev pub IsRight : Step → Type 0
+  IsRight (by_job i job) = (s : Stop) → Contains (stops_of i.found.nodes i.found.order.layers job) s → IsMadeByRule i s
+  IsRight (by_copy i c) = (s : Stop) → Contains (copied_stops i c) s → outcome_of (stop_number i s) ≡ outcome_of (source_number c s)
+  IsRight (by_trap f) = (k : ℕ) → Contains (cells_of (by_trap f)) k → outcome_of k ≡ f.outcome
