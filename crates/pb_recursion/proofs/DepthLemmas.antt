@@ -1,6 +1,5 @@
 -- Each cell of a call at a depth is its rule's equation.
-use Rattle.std.proofs.Common.{◌≡◌, ◌∙◌, refl, sym, ap, subst, ℕ, zero, suc, ◌≤◌, true, List, [], ◌++◌, length, map, slice_get, Some, arith}
-use Rattle.std.specs.Prelude.{Option}
+use Rattle.std.proofs.Common.{◌≡◌, sym, ap, subst, ℕ, zero, suc, ◌≤◌, true, List, [], ◌++◌, length, map, slice_get, Some, arith}
 use Rattle.std.specs.List.{All}
 use Rattle.std.specs.Option.{option_map_or}
 use Rattle.pb_program.specs.Configs.{ConfigValue, IsValid}
@@ -11,7 +10,7 @@ use Rattle.pb_model.specs.Calls.{IsSettled, Outcomes, call_of}
 use Rattle.pb_calls.proofs.SettledLemmas.{call_settled}
 use Rattle.pb_check.specs.Orders.{AnalysisValue, IsAnalysis}
 use Rattle.pb_check.specs.Phases.{IsSound}
-use Rattle.pb_recursion.specs.Depths.{IsWhole, call_at, deeper_at, made_by_transform, plans_at, plans_over, sides_of_matrix, sizes_given}
+use Rattle.pb_recursion.specs.Depths.{IsWhole, call_at, deeper_at, made_by_transform, plans_at, sides_of_matrix, sizes_given}
 use Rattle.pb_recursion.specs.Shapes.{can_enter}
 use Rattle.pb_recursion.proofs.ShapeLemmas.{entered_given, entered_range}
 

@@ -17,7 +17,7 @@ use Rattle.pb_program.specs.Exprs as e
 use Rattle.pb_program.specs.Stmts.{StmtValue}
 use Rattle.pb_program.specs.Stmts as s
 use Rattle.pb_program.specs.Forms.{DeclValue}
-use Rattle.pb_program.specs.Plans.{PlanCallValue, PlanValue, slot_of, argument_slot, put, target_slots, argument_slots, transform_call as called, call_by, called_by, call_of, calls_of, items}
+use Rattle.pb_program.specs.Plans.{PlanCallValue, PlanValue, slot_of, argument_slot, put, target_slots, argument_slots, transform_call as called, call_by, calls_of, items}
 use Rattle.pb_program.specs.Trees.{ProgRule, ProgTransform}
 use Rattle.pb_program.specs.WellFormed.{Around, IsRule, IsTransform, IsWellFormed, PlanFits, around}
 use Rattle.pb_program.specs.declared.rule.RuleKind.TheVariants as kind
@@ -25,7 +25,7 @@ use Rattle.pb_region.proofs.SmallLemmas.{at_place}
 use Rattle.pb_check.specs.Phases.{IsSound}
 use Rattle.pb_recursion.specs.Plans.{calls_of_rule}
 use Rattle.pb_types.specs.Least.{unless}
-use Rattle.pb_types.specs.Plans.{Known, is_given, is_free, make, make_all, made_at, made_by, declare, out_target, at_first, unmade, never_made, argument_broken, argument_misfit, target_misfit, numbered, misfit, argument_dims, wanted, targets_broken, count_broken, takes, gives, call_broken, assign_broken, plan_stmt_broken, plan_stmts_broken, plan_view_broken, after}
+use Rattle.pb_types.specs.Plans.{Known, is_given, is_free, make, make_all, made_at, made_by, declare, out_target, at_first, unmade, never_made, argument_broken, argument_misfit, target_misfit, numbered, misfit, argument_dims, wanted, targets_broken, count_broken, takes, gives, call_broken, plan_stmt_broken, plan_stmts_broken, plan_view_broken, after}
 use Rattle.pb_types.specs.Sorts.{place_of}
 use Rattle.pb_types.specs.Types.{body_broken, rule_broken, transform_broken}
 use Rattle.pb_types.specs.Views.{view_broken}

@@ -1,11 +1,10 @@
 -- Matrices that can enter a transform have the sides of its declarations, at sizes in range.
-use Rattle.std.proofs.Common.{◌≡◌, ◌∙◌, refl, sym, ap, subst, ℕ, zero, suc, ◌<◌, ◌≤◌, ℤ, pos, Bool, true, false, ◌&&◌, List, [], ◌∷◌, take, map, length, slice_get, Some, None, arith}
+use Rattle.std.proofs.Common.{◌≡◌, ◌∙◌, refl, sym, ap, ℕ, zero, suc, ◌<◌, ◌≤◌, true, false, ◌&&◌, List, [], ◌∷◌, take, map, length, slice_get, Some, None, arith}
 use Rattle.std.specs.Prelude.{nat_le}
 use Rattle.std.specs.List.{All}
 use Rattle.std.specs.Ordering.{int_eq}
 use Rattle.std.proofs.lemmas.Bool.{and_parts}
 use Rattle.std.proofs.lemmas.Bool.Decides.{Decides-int_eq, nat_tests}
-use Rattle.pb_linear.specs.Numbers.{exact_value}
 use Rattle.pb_linear.specs.Sizes.{InRange, leasts_of}
 use Rattle.pb_linear.specs.declared.sizes.TheConstants.{SIZE_TOP}
 use Rattle.pb_program.specs.Forms.{DeclValue}
@@ -15,7 +14,7 @@ use Rattle.pb_model.specs.Cells.{natural}
 use Rattle.pb_calls.specs.Given.{AreGiven, HasSides}
 use Rattle.pb_check.proofs.FirstLemmas.{all_at}
 use Rattle.pb_recursion.specs.Depths.{IsWhole, sides_of_matrix, sizes_given}
-use Rattle.pb_recursion.specs.Shapes.{Sides, all_same_sides, are_in_range, can_enter, same_sides, sides_of_decl, sizes_from}
+use Rattle.pb_recursion.specs.Shapes.{Sides, all_same_sides, are_in_range, can_enter, same_sides, sides_of_decl}
 
 le_of : (a b : ℕ) → nat_le a b ≡ true → a ≤ b
 le_of a b h = grind (arith, nat_tests, h)

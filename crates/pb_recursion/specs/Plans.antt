@@ -1,5 +1,5 @@
 -- What a plan makes: matrices by their names, call by call. The cells may be anything: outcomes, or the places where they stand.
-use Rattle.std.specs.Prelude.{ℕ, ◌+◌, ◌*◌, ℤ, pos, Bool, false, ◌==◌, if◌then◌else◌, List, [], ◌∷◌, ◌++◌, map, take, drop, Option, Some, None, slice_get, slice_index_or}
+use Rattle.std.specs.Prelude.{ℕ, pos, Bool, false, ◌==◌, if◌then◌else◌, List, [], ◌∷◌, ◌++◌, map, slice_get}
 use Rattle.std.specs.List.{enumerate_from, zip}
 use Rattle.std.specs.Option.{option_map_or}
 use Rattle.pb_program.specs.declared.plan.Slot.{Slot}
@@ -10,7 +10,6 @@ use Rattle.pb_program.specs.Plans.{PlanCallValue, PlanValue}
 use Rattle.pb_program.specs.Trees.{ProgRule, ProgTransform}
 use Rattle.pb_model.specs.Cells.{Cell}
 use Rattle.pb_model.specs.Equations.{shown_area}
-use Rattle.pb_model.specs.Grids.{Grid, no_grid}
 use Rattle.pb_recursion.specs.Shapes.{Sides, fits, sides_of_area, sides_of_decl}
 
 -- ---- names
