@@ -40,8 +40,8 @@ abbrev pub IsWhole : {A : Type 0} → Grid A → Type 0
 IsWhole m = length m.cells ≡ m.width * m.height
 
 -- ---- a plan
--- the program; the transform with its number and the sizes of an instance; a rule with its number
-module _ (p : List ProgTransform) (number : ℕ) (t : ProgTransform) (sizes : List ℕ) (rule : ℕ) (r : ProgRule) where
+-- a transform with its number and the sizes of an instance, and a rule with its number
+module _ (number : ℕ) (t : ProgTransform) (sizes : List ℕ) (rule : ℕ) (r : ProgRule) where
   -- the trap of a call that can't be made
   abbrev pub trapped_by : Kind → Outcome
   trapped_by k = Trapped (trap_of t.matrices sizes no_cell number rule r k)
@@ -49,14 +49,15 @@ module _ (p : List ProgTransform) (number : ℕ) (t : ProgTransform) (sizes : Li
   abbrev pub targets_filled : Kind → PlanCallValue → List Outcomes
   targets_filled k c = map (filled (trapped_by k)) (target_sides t.matrices sizes r c)
 
-  -- the matrices after `to`
-  abbrev pub given_back : PlanCallValue → List Outcomes → List Outcomes
-  given_back c made = drop (option_map_or (λ (called : ProgTransform). called.middles) (slice_get p c.transform) 0) made
+-- the matrices after `to` of the called transform
+abbrev pub given_back : List ProgTransform → PlanCallValue → List Outcomes → List Outcomes
+given_back p c made = drop (option_map_or (λ (called : ProgTransform). called.middles) (slice_get p c.transform) 0) made
 
+module _ (p : List ProgTransform) (number : ℕ) (t : ProgTransform) (sizes : List ℕ) (rule : ℕ) (r : ProgRule) where
   -- at depth 0 no call can be made; else one that doesn't fit; else it is one less deep
   abbrev pub made_by_call : Option Call → PlanCallValue → List Outcomes → List Outcomes
-  made_by_call None c given = targets_filled DepthEnded c
-  made_by_call (Some deeper) c given = if fits_call t.matrices sizes p r c then given_back c (deeper c.transform given) else targets_filled BadShape c
+  made_by_call None c given = targets_filled number t sizes rule r DepthEnded c
+  made_by_call (Some deeper) c given = if fits_call t.matrices sizes p r c then given_back p c (deeper c.transform given) else targets_filled number t sizes rule r BadShape c
 
   -- the matrices by their names, after all calls
   abbrev pub plan_names : Option Call → List Outcomes → Names Outcomes

@@ -3,3 +3,8 @@ pub mod BaseLemmas
 pub mod SeatLemmas
 pub mod SoundLemmas
 pub mod FailedLemmas
+pub mod NameLemmas
+pub mod PlayedLemmas
+pub mod ViewLemmas
+pub mod FitLemmas
+pub mod CalledLemmas

@@ -29,29 +29,26 @@ abbrev pub call_below : Option Below → Option Call
 call_below None = None
 call_below (Some b) = Some b.call
 
-module _ (p : List ProgTransform) (number : ℕ) (t : ProgTransform) (sizes : List ℕ) (rule : ℕ) (r : ProgRule) (below : Option Below) where
+module _ (p : List ProgTransform) (number : ℕ) (t : ProgTransform) (sizes : List ℕ) (rule : ℕ) (r : ProgRule) where
   -- the matrices of a call of a plan, and of all calls below it
   abbrev pub call_matrices : Option Below → PlanCallValue → List Outcomes → List Outcomes
-  call_matrices None c given = targets_filled p number t sizes rule r DepthEnded c
-  call_matrices (Some b) c given = if fits_call t.matrices sizes p r c then b.all c.transform given else targets_filled p number t sizes rule r BadShape c
+  call_matrices None c given = targets_filled number t sizes rule r DepthEnded c
+  call_matrices (Some b) c given = if fits_call t.matrices sizes p r c then b.all c.transform given else targets_filled number t sizes rule r BadShape c
 
   -- one call after another
-  abbrev pub calls_matrices : List PlanCallValue → Names Outcomes → List Outcomes
-  calls_matrices [] names = []
-  calls_matrices (c ∷ rest) names =
-      call_matrices below c (map (named no_grid names) c.arguments) ++ calls_matrices rest (after_call no_grid (made_by_call p number t sizes rule r (call_below below)) c names)
+  abbrev pub calls_matrices : Option Below → List PlanCallValue → Names Outcomes → List Outcomes
+  calls_matrices below [] names = []
+  calls_matrices below (c ∷ rest) names =
+      call_matrices below c (map (named no_grid names) c.arguments) ++ calls_matrices below rest (after_call no_grid (made_by_call p number t sizes rule r (call_below below)) c names)
 
-  -- what its reads show of the matrices of an instance
-  abbrev pub read_matrices : List Outcomes → List Outcomes
-  read_matrices ms = cut_into (map (sides_of_view t.matrices sizes) r.reads) (map (outcome_in ms) (reads t.matrices sizes no_cell r))
-
-  abbrev pub plan_matrices : List Outcomes → List Outcomes
-  plan_matrices ms = calls_matrices (calls_of_rule r) (names_of_reads (read_matrices ms))
+-- what the reads of a rule show of the matrices of an instance
+abbrev pub read_matrices : ProgTransform → List ℕ → ProgRule → List Outcomes → List Outcomes
+read_matrices t sizes r ms = cut_into (map (sides_of_view t.matrices sizes) r.reads) (map (outcome_in ms) (reads t.matrices sizes no_cell r))
 
 module _ (p : List ProgTransform) (number : ℕ) (t : ProgTransform) (sizes : List ℕ) (below : Option Below) (ms : List Outcomes) where
   abbrev pub rule_matrices : ℕ → Option ProgRule → List Outcomes
   rule_matrices rule None = []
-  rule_matrices rule (Some r) = if is_plan_kind r.kind then plan_matrices p number t sizes rule r below ms else []
+  rule_matrices rule (Some r) = if is_plan_kind r.kind then calls_matrices p number t sizes rule r below (calls_of_rule r) (names_of_reads (read_matrices t sizes r ms)) else []
 
   -- those of the calls of a job, if it is one of a plan
   abbrev pub job_matrices : Option ℕ → List Outcomes

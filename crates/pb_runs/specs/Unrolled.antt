@@ -1,5 +1,5 @@
 -- A run, unrolled: the steps of a call and of all calls below it, and where its matrices stand.
-use Rattle.std.specs.Prelude.{ℕ, zero, suc, ◌+◌, Bool, false, if◌then◌else◌, List, [], ◌∷◌, ◌++◌, map, drop, filter, Option, Some, None, slice_get}
+use Rattle.std.specs.Prelude.{ℕ, zero, suc, ◌+◌, Bool, ◌&&◌, ◌==◌, false, if◌then◌else◌, List, [], ◌∷◌, ◌++◌, map, drop, filter, Option, Some, None, slice_get}
 use Rattle.std.specs.List.{zip}
 use Rattle.std.specs.Option.{option_map_or}
 use Rattle.pb_values.specs.declared.outcome.Kind.TheVariants.{BadShape, DepthEnded}
@@ -11,9 +11,9 @@ use Rattle.pb_program.specs.Plans.{PlanCallValue}
 use Rattle.pb_program.specs.Trees.{ProgRule, ProgTransform}
 use Rattle.pb_model.specs.Cells.{natural}
 use Rattle.pb_model.specs.Equations.{shown_area}
-use Rattle.pb_model.specs.Lawful.{output_holds}
 use Rattle.pb_check.specs.Orders.{AnalysisValue}
-use Rattle.pb_frame.specs.Frames.{JobValue, has_place}
+use Rattle.pb_values.specs.declared.rect.Rect.{Rect}
+use Rattle.pb_frame.specs.Frames.{JobValue, cut_by, has_place, within}
 use Rattle.pb_frame.specs.declared.part.FramePart.{FramePart}
 use Rattle.pb_tasks.specs.Boxes.{rect_from, spot_of}
 use Rattle.pb_tasks.specs.Made.{jobs_for}
@@ -121,23 +121,27 @@ abbrev pub plan_played : List ProgTransform → Instance → ℕ → ProgRule �
 plan_played p i rule r deeper n = played (unrolled_by p i rule r deeper) (calls_of_rule r) (names_of_reads (map (view_seat i) r.reads)) n
 
 -- ---- copies
--- the part lies in the output: its cell of least place does
-abbrev pub is_part_of : Instance → Read → FramePart → Bool
-is_part_of i o part = output_holds i.transform.matrices i.sizes (record { matrix = (spot_of i.found.nodes part).base; x = part.rect.x0; y = part.rect.y0 }) o
+-- where an output lies
+abbrev pub output_rect : Instance → Read → Rect
+output_rect i o = rect_from (shown_area i.transform.matrices i.sizes no_cell o)
 
--- of the parts of a job, those in an output, from the matrix that the plan made for it
+-- a part has a place of it
+abbrev pub is_part_of : Instance → Read → FramePart → Bool
+is_part_of i o part = ((spot_of i.found.nodes part).base == o.matrix) && has_place (cut_by (output_rect i o) part.rect)
+
+-- of the parts of a job, what they have of an output, from the matrix that the plan made for it
 abbrev pub copy_step : Instance → JobValue → Seat → ℕ × ℕ → List FramePart → List Step
 copy_step i job source corner [] = []
 copy_step i job source corner (part ∷ rest) = by_copy i (record { layer = job.layer; rule = job.rule; parts = part ∷ rest; corner = corner; source = source }) ∷ []
 
-abbrev pub output_corner : Instance → Read → ℕ × ℕ
-output_corner i o = (natural (shown_area i.transform.matrices i.sizes no_cell o).x.low, natural (shown_area i.transform.matrices i.sizes no_cell o).y.low)
+abbrev pub output_parts : Instance → JobValue → Read → List FramePart
+output_parts i job o = map (within (output_rect i o)) (filter (is_part_of i o) job.parts)
 
 -- output by output, from this number on
 abbrev pub copies_of : Instance → JobValue → Names Seat → ℕ → List Read → List Step
 copies_of i job names k [] = []
 copies_of i job names k (o ∷ rest) =
-    copy_step i job (named no_seat names (slot.Out k)) (output_corner i o) (filter (is_part_of i o) job.parts) ++ copies_of i job names (k + 1) rest
+    copy_step i job (named no_seat names (slot.Out k)) ((output_rect i o).x0, (output_rect i o).y0) (output_parts i job o) ++ copies_of i job names (k + 1) rest
 
 -- ---- jobs
 -- some steps, and what is met after them

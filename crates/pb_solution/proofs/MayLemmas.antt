@@ -156,7 +156,7 @@ module _ (config : ConfigValue) (plans : Plans) (number : ℕ) (t : ProgTransfor
     stops = stops_of a.nodes a.order.layers job
 
     pub of_job : IsMadeBy jobs a.nodes c j s.piece
-    of_job = stop_made config number t a sizes grain i run.valid views run.row j job e s (in_at stops k s at)
+    of_job = stop_made config number t a sizes grain i run.valid j job e s (in_at stops k s at)
 
     pub of_made : IsMadeCell t sizes c
     of_made = made_cell config number t a sizes grain i c j s.piece of_job
@@ -183,7 +183,7 @@ module _ (config : ConfigValue) (plans : Plans) (number : ℕ) (t : ProgTransfor
     stands_before : (d : Cell) (l : ℕ) (m : IsMadeBy jobs a.nodes d j l) → job.rule ≡ None → ((rank : Rank) → HasRank t a sizes c rank → StandsBelow t a sizes rank d) → Contains (take k (job_order a.nodes a.order.layers views job)) (number_in views d)
     stands_before d l m none lower =
         let r : Stop = record { piece = l; base = d.matrix; x = d.x; y = d.y } in
-        let p = at_in stops r (made_stop config number t a sizes grain i run.valid views run.row j job e d l m) in
+        let p = at_in stops r (made_stop config number t a sizes grain i run.valid j job e d l m) in
         ⊎_elim
         (λ (early : p.0 < k).
         in_at (take k (job_order a.nodes a.order.layers views job)) p.0 (number_in views d) (taken_at (job_order a.nodes a.order.layers views job) k p.0 (number_in views d) early (at_map (λ (q : Stop). number_in views (stop_cell q)) stops p.0 r p.1)))

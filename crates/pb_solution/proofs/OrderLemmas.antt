@@ -43,15 +43,9 @@ pub order_at : (a : AnalysisValue) (views : List View) (jobs : List JobValue) (j
 unfolding own_order
 order_at a views jobs j job e = index_is (map (job_order a.nodes a.order.layers views) jobs) j (job_order a.nodes a.order.layers views job) (at_map (job_order a.nodes a.order.layers views) jobs j job e)
 
-module _ (config : ConfigValue) (number : ℕ) (t : ProgTransform) (a : AnalysisValue) (sizes : List ℕ) (grain : ℕ) (i : IsInstance number t a sizes) (valid : IsValid i.program config) (views : List View) (row : AreInARow 0 sizes t.matrices views) where
+module _ (config : ConfigValue) (number : ℕ) (t : ProgTransform) (a : AnalysisValue) (sizes : List ℕ) (grain : ℕ) (i : IsInstance number t a sizes) (valid : IsValid i.program config) where
   abbrev jobs : List JobValue
   jobs = jobs_for config number t a sizes grain
-
-  abbrev pub IsAt : Cell → ℕ → Type 0
-  IsAt c n = IsNumbered sizes 0 t.matrices views row c.matrix c.x c.y n
-
-  pub number_for : (c : Cell) (n : ℕ) → IsAt c n → number_in views c ≡ n
-  number_for c n is = rw is.at (sym is.is)
 
   module _ (j : ℕ) (job : JobValue) (e : slice_get jobs j ≡ Some job) where
     abbrev steps : List Step
@@ -97,34 +91,46 @@ module _ (config : ConfigValue) (number : ℕ) (t : ProgTransform) (a : Analysis
     abbrev stops : List Stop
     stops = stops_of a.nodes a.order.layers job
 
-    -- ---- by number
-    stop_number : (s : Stop) → Contains stops s → IsAt (stop_cell s) (number_in views (stop_cell s))
-    stop_number s h =
-        let n = numbered config number t a sizes grain i valid views row (stop_cell s) (made_cell config number t a sizes grain i (stop_cell s) j s.piece (stop_made s h)) in
-        subst (IsAt (stop_cell s)) (sym (number_for (stop_cell s) n.0 n.1)) n.1
+    -- two stops at one cell are one
+    pub one_piece : (s r : Stop) → Contains stops s → Contains stops r → stop_cell s ≡ stop_cell r → s ≡ r
+    one_piece s r hs hr same =
+        let piece = (made_once config number t a sizes grain i (stop_cell r) j s.piece j r.piece (subst (λ (q : Cell). IsMadeBy jobs a.nodes q j s.piece) same (stop_made s hs)) (stop_made r hr)).1 in
+        λ k. record { piece = piece k; base = (same k).matrix; x = (same k).x; y = (same k).y }
 
-    -- two stops with one number are one
-    one_stop : (s r : Stop) → Contains stops s → Contains stops r → number_in views (stop_cell s) ≡ number_in views (stop_cell r) → s ≡ r
-    one_stop s r hs hr same =
-        let c = stop_cell s in
-        let d = stop_cell r in
-        let cell = number_once sizes 0 t.matrices views row c.matrix c.x c.y d.matrix d.x d.y (number_in views d) (subst (IsAt c) same (stop_number s hs)) (stop_number r hr) in
-        let cells : c ≡ d = λ k. record { matrix = cell.0 k; x = cell.1 k; y = cell.2 k } in
-        let piece = (made_once config number t a sizes grain i d j s.piece j r.piece (subst (λ (q : Cell). IsMadeBy jobs a.nodes q j s.piece) cells (stop_made s hs)) (stop_made r hr)).1 in
-        λ k. record { piece = piece k; base = cell.0 k; x = cell.1 k; y = cell.2 k }
+  -- ---- by number
+  module _ (views : List View) (row : AreInARow 0 sizes t.matrices views) where
+    abbrev pub IsAt : Cell → ℕ → Type 0
+    IsAt c n = IsNumbered sizes 0 t.matrices views row c.matrix c.x c.y n
 
-    pub own_once : Once (job_order a.nodes a.order.layers views job)
-    own_once = once_map (λ (s : Stop). number_in views (stop_cell s)) stops (λ k l s at_k at_l. walked_once steps pieces k l s at_k at_l) one_stop
+    pub number_for : (c : Cell) (n : ℕ) → IsAt c n → number_in views c ≡ n
+    number_for c n is = rw is.at (sym is.is)
 
-    module _ (tasks : List TaskValue) (are : AreTasks t a.nodes sizes views jobs tasks) where
-      pub own_listed : (n : ℕ) → Contains (job_order a.nodes a.order.layers views job) n → Contains (cells_of (graph config number t a sizes grain i valid views row tasks are) j) n
-      own_listed n h =
-          let s = map_in (λ (s : Stop). number_in views (stop_cell s)) stops n h in
-          cell_to config number t a sizes grain i valid views row tasks are (stop_cell s.0) j s.0.piece n (stop_made s.0 s.1) (subst (IsAt (stop_cell s.0)) s.2 (stop_number s.0 s.1))
+    module _ (j : ℕ) (job : JobValue) (e : slice_get jobs j ≡ Some job) where
+      stop_number : (s : Stop) → Contains (stops j job e) s → IsAt (stop_cell s) (number_in views (stop_cell s))
+      stop_number s h =
+          let n = numbered config number t a sizes grain i valid views row (stop_cell s) (made_cell config number t a sizes grain i (stop_cell s) j s.piece (stop_made j job e s h)) in
+          subst (IsAt (stop_cell s)) (sym (number_for (stop_cell s) n.0 n.1)) n.1
 
-      pub listed_own : (n : ℕ) → Contains (cells_of (graph config number t a sizes grain i valid views row tasks are) j) n → Contains (job_order a.nodes a.order.layers views job) n
-      listed_own n h =
-          let f = cell_from config number t a sizes grain i valid views row tasks are j n h in
-          let c = f.1.cell in
-          subst (Contains (job_order a.nodes a.order.layers views job)) (number_for c n f.1.is_number)
-          (in_map (λ (s : Stop). number_in views (stop_cell s)) stops (record { piece = f.0; base = c.matrix; x = c.x; y = c.y }) (made_stop c f.0 f.1.made))
+      -- two stops with one number are one
+      one_stop : (s r : Stop) → Contains (stops j job e) s → Contains (stops j job e) r → number_in views (stop_cell s) ≡ number_in views (stop_cell r) → s ≡ r
+      one_stop s r hs hr same =
+          let c = stop_cell s in
+          let d = stop_cell r in
+          let cell = number_once sizes 0 t.matrices views row c.matrix c.x c.y d.matrix d.x d.y (number_in views d) (subst (IsAt c) same (stop_number s hs)) (stop_number r hr) in
+          one_piece j job e s r hs hr (λ k. record { matrix = cell.0 k; x = cell.1 k; y = cell.2 k })
+
+      pub own_once : Once (job_order a.nodes a.order.layers views job)
+      own_once = once_map (λ (s : Stop). number_in views (stop_cell s)) (stops j job e) (λ k l s at_k at_l. walked_once (steps j job e) (pieces j job e) k l s at_k at_l) one_stop
+
+      module _ (tasks : List TaskValue) (are : AreTasks t a.nodes sizes views jobs tasks) where
+        pub own_listed : (n : ℕ) → Contains (job_order a.nodes a.order.layers views job) n → Contains (cells_of (graph config number t a sizes grain i valid views row tasks are) j) n
+        own_listed n h =
+            let s = map_in (λ (s : Stop). number_in views (stop_cell s)) (stops j job e) n h in
+            cell_to config number t a sizes grain i valid views row tasks are (stop_cell s.0) j s.0.piece n (stop_made j job e s.0 s.1) (subst (IsAt (stop_cell s.0)) s.2 (stop_number s.0 s.1))
+
+        pub listed_own : (n : ℕ) → Contains (cells_of (graph config number t a sizes grain i valid views row tasks are) j) n → Contains (job_order a.nodes a.order.layers views job) n
+        listed_own n h =
+            let f = cell_from config number t a sizes grain i valid views row tasks are j n h in
+            let c = f.1.cell in
+            subst (Contains (job_order a.nodes a.order.layers views job)) (number_for c n f.1.is_number)
+            (in_map (λ (s : Stop). number_in views (stop_cell s)) (stops j job e) (record { piece = f.0; base = c.matrix; x = c.x; y = c.y }) (made_stop j job e c f.0 f.1.made))

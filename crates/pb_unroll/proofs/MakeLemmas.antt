@@ -144,7 +144,7 @@ module _ (v : RunValue) (is : IsRunning v) (j k : ℕ) (by : IsTaskBy v j (Some 
 
   pub found0 : (q : ℕ) × (slice_get stops q ≡ Some s0)
   unfolding s0
-  found0 = at_in stops s0 (made_stop v.config v.number t v.found sizes v.grain i is.run.valid v.laid.views is.run.row j job e corner (at_in job.parts first.0 first.1).0 corner_made)
+  found0 = at_in stops s0 (made_stop v.config v.number t v.found sizes v.grain i is.run.valid j job e corner (at_in job.parts first.0 first.1).0 corner_made)
 
   abbrev pub rule0 : ProgRule
   rule0 = stop_rule v is j job by.there found0.0 s0 found0.1
