@@ -179,12 +179,6 @@ module _ (config : ConfigValue) (ms : List Outcomes) (p : List ProgTransform) wh
           ins : List Outcomes
           ins = map (named no_grid mm) c.arguments
 
-          by_deeper : (o : Option Unroll) → deeper ≡ o → IsCalled config ms sides player make all known n c seats ins
-          by_deeper None e =
-              let none = are_deeper.none e in
-              failed_called DepthEnded player all make known n c seats ins (ap (λ o. unrolled_by p i rule r o c seats n) e) (ap (λ o. call_matrices p i.number i.transform i.sizes rule r o c ins) none) (ap (λ o. made_by_call p i.number i.transform i.sizes rule r (call_below o) c ins) none) stands
-          by_deeper (Some u) e = by_below u (are_deeper.some u e) e
-
           by_below : (u : Unroll) → ((b : Below) × (below ≡ Some b) × IsDeeper u b.all b.call) → deeper ≡ Some u → IsCalled config ms sides player make all known n c seats ins
           by_below u h e = by_fits (fits_call i.transform.matrices i.sizes p r c) refl
             where
@@ -227,3 +221,9 @@ module _ (config : ConfigValue) (ms : List Outcomes) (p : List ProgTransform) wh
                     where
                       fits_true : fits_call i.transform.matrices i.sizes p r c ≡ true
                       fits_true = ap (λ o. option_map_or (λ t. fits t (argument_sides i.transform.matrices i.sizes r c) (target_sides i.transform.matrices i.sizes r c)) o false) there ∙ fit
+
+          by_deeper : (o : Option Unroll) → deeper ≡ o → IsCalled config ms sides player make all known n c seats ins
+          by_deeper None e =
+              let none = are_deeper.none e in
+              failed_called DepthEnded player all make known n c seats ins (ap (λ o. unrolled_by p i rule r o c seats n) e) (ap (λ o. call_matrices p i.number i.transform i.sizes rule r o c ins) none) (ap (λ o. made_by_call p i.number i.transform i.sizes rule r (call_below o) c ins) none) stands
+          by_deeper (Some u) e = by_below u (are_deeper.some u e) e

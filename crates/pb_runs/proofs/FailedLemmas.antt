@@ -77,7 +77,7 @@ map_row f a (suc n) k =
     (λ i. head i ∷ (map_row f a n (k + 1) ∙ ap (λ m. range_with_len m n) next) i)
 
 rows_row : (f w h a : ℕ) → flat_map (λ y. map (λ x. f + ((0 + y) * w + (0 + x))) (range_with_len 0 w)) (range_with_len a h) ≡ range_with_len (f + a * w) (h * w)
-rows_row f w zero a = refl
+rows_row f w zero a = let none : 0 ≡ 0 * w = omega arith in ap (range_with_len (f + a * w)) none
 rows_row f w (suc h) a =
     let first : map (λ x. f + ((0 + a) * w + (0 + x))) (range_with_len 0 w) ≡ range_with_len (f + a * w) w = (map_row f ((0 + a) * w) w 0 ∙ ap (λ m. range_with_len m w) (let plain : (0 + a) * w ≡ a * w = ap (λ k. k * w) (omega arith) in omega (arith, plain))) in
     let step : f + (a + 1) * w ≡ (f + a * w) + w = grind arith in
@@ -89,26 +89,33 @@ unfolding cell_at
 whole_cells n s =
     let w = natural s.0 in
     let h = natural s.1 in
-    let none : n.cells + 0 * w ≡ n.cells = (let zero_times : 0 * w ≡ 0 = refl in omega (arith, zero_times)) in
+    let none : n.cells + 0 * w ≡ n.cells = omega arith in
     let count : h * w ≡ w * h = grind arith in
-    rows_row n.cells w h 0 ∙ (λ i. range_with_len (none i) (count i))
+    (λ i. flat_map (λ y. map (λ x. n.cells + ((0 + y) * w + (0 + x))) (range_with_len 0 (minus_none w i))) (range_with_len 0 (minus_none h i))) ∙ rows_row n.cells w h 0 ∙ (λ i. range_with_len (none i) (count i))
+  where
+    minus_none : (k : ℕ) → k - 0 ≡ k
+    minus_none k = omega arith
 
 -- the seats without cells can be left out
 pub full_cells : (n : Met) (ss : List Sides) → flat_map seat_cells (filter seat_has_cells (seats_from n ss)) ≡ flat_map seat_cells (seats_from n ss)
 full_cells n [] = refl
-full_cells n (s ∷ ss) = by (seat_has_cells (whole_seat n s)) refl
+full_cells n (s ∷ ss) = by (seat_has_cells (whole_seat n s)) refl (full_cells (after_matrix n s) ss)
   where
-    by : (b : Bool) → seat_has_cells (whole_seat n s) ≡ b → flat_map seat_cells (filter seat_has_cells (seats_from n (s ∷ ss))) ≡ flat_map seat_cells (seats_from n (s ∷ ss))
-    by true e = rw e (ap (λ l. seat_cells (whole_seat n s) ++ l) (full_cells (after_matrix n s) ss))
-    by false e = rw e (full_cells (after_matrix n s) ss ∙ ap (λ l. l ++ flat_map seat_cells (seats_from (after_matrix n s) ss)) (sym none))
-      where
-        empty : (w h : ℕ) → (nat_lt 0 w && nat_lt 0 h) ≡ false → w * h ≡ 0
-        empty zero h f = refl
-        empty (suc w) zero f = grind arith
-        empty (suc w) (suc h) f = absurd (let wrong : true ≡ false = f in cc)
+    some : (k : ℕ) → nat_lt 0 (suc k) ≡ true
+    some k = grind (arith, nat_tests)
 
-        none : seat_cells (whole_seat n s) ≡ []
-        none = whole_cells n s ∙ ap (range_with_len n.cells) (empty (natural s.0) (natural s.1) e)
+    empty : (w h : ℕ) → (nat_lt 0 w && nat_lt 0 h) ≡ false → w * h ≡ 0
+    empty zero h f = omega arith
+    empty (suc w) zero f = omega arith
+    empty (suc w) (suc h) f = absurd (let wrong : true ≡ false = (λ i. sym (some w) i && sym (some h) i) ∙ f in cc)
+
+    none : seat_has_cells (whole_seat n s) ≡ false → seat_cells (whole_seat n s) ≡ []
+    none e = whole_cells n s ∙ ap (range_with_len n.cells) (empty (natural s.0) (natural s.1) e)
+
+    by : (b : Bool) → seat_has_cells (whole_seat n s) ≡ b → flat_map seat_cells (filter seat_has_cells (seats_from (after_matrix n s) ss)) ≡ flat_map seat_cells (seats_from (after_matrix n s) ss)
+        → flat_map seat_cells (filter seat_has_cells (seats_from n (s ∷ ss))) ≡ flat_map seat_cells (seats_from n (s ∷ ss))
+    by true e rest = rw e (ap (λ l. seat_cells (whole_seat n s) ++ l) rest)
+    by false e rest = rw e (rest ∙ ap (λ l. l ++ flat_map seat_cells (seats_from (after_matrix n s) ss)) (sym (none e)))
 
 -- all together they are the cells of the matrices
 pub all_cells : (ms : List Outcomes) (n : Met) (ss : List Sides) (mats : List Outcomes) → HaveSides ms ss mats → flat_map seat_cells (seats_from n ss) ≡ range_with_len n.cells (total mats)

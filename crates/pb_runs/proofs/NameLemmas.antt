@@ -96,9 +96,9 @@ module _ (ms : List Outcomes) (sides : Slot → Sides) where
 
 -- ---- the names of reads
 read_name : {M : Type 0} (none : M) (xs : List M) (n k : ℕ) → named none (map (λ (m : ℕ × M). (slot.Read m.0, m.1)) (enumerate_from n xs)) (slot.Read (n + k)) ≡ slice_index_or xs k none
-read_name none [] n k = refl
-read_name none (x ∷ xs) n zero = let here : (n == n + 0) ≡ true = eq-eqb n (n + 0) (omega arith) in rw here refl
-read_name none (x ∷ xs) n (suc k) =
+read_name {M} none [] n k = refl
+read_name {M} none (x ∷ xs) n zero = let here : (n == n + 0) ≡ true = eq-eqb n (n + 0) (omega arith) in rw here refl
+read_name {M} none (x ∷ xs) n (suc k) =
     let other : (n == n + suc k) ≡ false = unequal n k (n == n + suc k) refl in
     let next : n + suc k ≡ (n + 1) + k = omega arith in
     rw other (ap (λ i. named none (map (λ (m : ℕ × M). (slot.Read m.0, m.1)) (enumerate_from (n + 1) xs)) (slot.Read i)) next ∙ read_name none xs (n + 1) k)
@@ -108,4 +108,4 @@ read_name none (x ∷ xs) n (suc k) =
     unequal n k true e = absurd (let same = eqb-true n (n + suc k) e in omega (arith, same))
 
 pub name_of_read : {M : Type 0} (none : M) (xs : List M) (k : ℕ) → named none (names_of_reads xs) (slot.Read k) ≡ slice_index_or xs k none
-name_of_read none xs k = let here : 0 + k ≡ k = omega arith in ap (λ i. named none (names_of_reads xs) (slot.Read i)) (sym here) ∙ read_name none xs 0 k
+name_of_read {M} none xs k = let here : 0 + k ≡ k = omega arith in ap (λ i. named none (names_of_reads xs) (slot.Read i)) (sym here) ∙ read_name none xs 0 k

@@ -20,7 +20,7 @@ use Rattle.pb_runs.proofs.NameLemmas.{Answer, AreNamed, IsNamed, after_named, na
 use Rattle.pb_runs.proofs.SeatLemmas.{HasCell, IsPlaced}
 use Rattle.pb_runs.proofs.SoundLemmas.{Cells, IsDeep, IsMade, Sound, sound_append, with_cells}
 
-module _ (config : ConfigValue) (ms : List Outcomes) (sides : Slot → Sides) (outputs : ℕ) (player : Player) (make : PlanCallValue → List Outcomes → List Outcomes) (all : PlanCallValue → List Outcomes → List Outcomes) where
+module _ (config : ConfigValue) (ms : List Outcomes) (sides : Slot → Sides) (player : Player) (make : PlanCallValue → List Outcomes → List Outcomes) (all : PlanCallValue → List Outcomes → List Outcomes) where
   -- the matrices of all calls
   abbrev pub of_calls : List PlanCallValue → Names Outcomes → List Outcomes
   of_calls [] names = []
@@ -38,7 +38,7 @@ module _ (config : ConfigValue) (ms : List Outcomes) (sides : Slot → Sides) (o
       → Stands ms n (all c (map (named no_grid mm) c.arguments)) → IsCalled known n c (map (named no_seat ss) c.arguments) (map (named no_grid mm) c.arguments)
 
   -- after the calls of a plan each output is made
-  pub record IsPlayed (known : Cells) (n : Met) (p : Played) (mats : List Outcomes) (names : Names Outcomes) : Type 0 where
+  pub record IsPlayed (outputs : ℕ) (known : Cells) (n : Met) (p : Played) (mats : List Outcomes) (names : Names Outcomes) : Type 0 where
     pub made : List Slot
     pub outs : (k : ℕ) → k < outputs → Contains made (slot.Out k)
     pub named : AreNamed ms sides (with_cells known (cells_in p.steps)) made p.names names
@@ -54,9 +54,9 @@ module _ (config : ConfigValue) (ms : List Outcomes) (sides : Slot → Sides) (o
       assoc [] ys zs = refl
       assoc (x ∷ xs) ys zs = ap (λ l. x ∷ l) (assoc xs ys zs)
 
-  pub all_played : AreCalled → (calls : List PlanCallValue) (known : Cells) (n : Met) (made : List Slot) (ss : Names Seat) (mm : Names Outcomes) → AreOrdered outputs made calls → AreNamed ms sides known made ss mm → Stands ms n (of_calls calls mm)
-      → IsPlayed known n (played player calls ss n) (of_calls calls mm) (after_calls no_grid make calls mm)
-  all_played called [] known n made ss mm ordered are stands = record {
+  pub all_played : AreCalled → (outputs : ℕ) (calls : List PlanCallValue) (known : Cells) (n : Met) (made : List Slot) (ss : Names Seat) (mm : Names Outcomes) → AreOrdered outputs made calls → AreNamed ms sides known made ss mm → Stands ms n (of_calls calls mm)
+      → IsPlayed outputs known n (played player calls ss n) (of_calls calls mm) (after_calls no_grid make calls mm)
+  all_played called outputs [] known n made ss mm ordered are stands = record {
     made = made;
     outs = ordered;
     named = λ s given. named_more ms sides known (with_cells known []) s (named no_seat ss s) (named no_grid mm s) (λ c k. inl k) (are s given);
@@ -64,7 +64,7 @@ module _ (config : ConfigValue) (ms : List Outcomes) (sides : Slot → Sides) (o
     counts = λ c. refl;
     reaches = record { matrices = omega arith; cells = omega arith };
   }
-  all_played called (c ∷ rest) known n made ss mm ordered are stands =
+  all_played called outputs (c ∷ rest) known n made ss mm ordered are stands =
       let seats = map (named no_seat ss) c.arguments in
       let given = map (named no_grid mm) c.arguments in
       let u = player c seats n in
@@ -74,7 +74,7 @@ module _ (config : ConfigValue) (ms : List Outcomes) (sides : Slot → Sides) (o
       let one = called known n c made ss mm are ordered.0 (stands_left ms n first (of_calls rest mm2) stands) in
       let known2 = with_cells known (cells_in u.steps) in
       let are2 = after_named ms sides known2 c.targets made u.seats (make c given) ss mm one.answer (λ s g. named_more ms sides known known2 s (named no_seat ss s) (named no_grid mm s) (λ k h. inl h) (are s g)) in
-      let later = all_played called rest known2 u.next (c.targets ++ made) ss2 mm2 ordered.1 are2 (stands_right ms n u.next first (of_calls rest mm2) stands one.deep.reaches) in
+      let later = all_played called outputs rest known2 u.next (c.targets ++ made) ss2 mm2 ordered.1 are2 (stands_right ms n u.next first (of_calls rest mm2) stands one.deep.reaches) in
       let steps = (played player rest ss2 u.next).steps in
       let joined = cells_append u.steps steps in
       record {

@@ -19,6 +19,9 @@ use Rattle.pb_runs.specs.Seats.{Seat, across, base_x, base_y, cell_at, down, is_
 use Rattle.pb_runs.specs.Unrolled.{Met, after_matrices, after_matrix, seats_from, whole_seat}
 use Rattle.pb_runs.proofs.BaseLemmas.{Reaches, Stands, before, before_all, before_grows, before_next, outcome_there, stands_left, stands_right, total}
 
+zero_plus : (n : ℕ) → 0 + n ≡ n
+zero_plus n = omega arith
+
 -- ---- a rectangle of a rectangle
 -- the place of what a view shows, in what it shows a part of
 abbrev pub of_turning : Bool → ℕ → ℕ → ℕ
@@ -133,10 +136,7 @@ module _ (ms : List Outcomes) where
           is = ap (outcome_of ms) number ∙ outcome_there ms n.matrices m (y * m.width + x) o.0 there o.1;
         });
   }
-    where
-      zero_plus : (k : ℕ) → 0 + k ≡ k
-      zero_plus k = omega arith
-
+  
   -- what a view shows of a matrix
   pub record IsPart (v : ReadView) (s : Seat) (r : Rect) (m g : Outcomes) : Type 0 where
     pub width : g.width ≡ across (part_seat v s r)
@@ -178,19 +178,13 @@ part_has v s r lies c h =
 pub whole_has : (n : Met) (s : Sides) (c : ℕ) → HasCell (whole_seat n s) c → (n.cells ≤ c) × (c < n.cells + area s)
 unfolding cell_at
 whole_has n s c h =
-    let below = row_below (natural s.0) (natural s.1) h.0 h.1 h.2 h.3 in
+    let below = row_below (natural s.0) (natural s.1) h.0 h.1 (omega (arith, h.2)) (omega (arith, h.3)) in
     let plain : (0 + h.1) * natural s.0 + (0 + h.0) ≡ h.1 * natural s.0 + h.0 = (λ i. zero_plus h.1 i * natural s.0 + zero_plus h.0 i) in
     (omega (arith, h.4), omega (arith, h.4, below, plain))
-  where
-    zero_plus : (k : ℕ) → 0 + k ≡ k
-    zero_plus k = omega arith
 
 pub has_whole : (n : Met) (s : Sides) (c : ℕ) → n.cells ≤ c → c < n.cells + area s → HasCell (whole_seat n s) c
 unfolding cell_at
 has_whole n s c low high =
     let p = row_at (natural s.0) (natural s.1) (c - n.cells) (omega (arith, low, high)) in
     let plain : (0 + p.1) * natural s.0 + (0 + p.0) ≡ p.1 * natural s.0 + p.0 = (λ i. zero_plus p.1 i * natural s.0 + zero_plus p.0 i) in
-    (p.0, p.1, p.2, p.3, omega (arith, p.4, plain, low))
-  where
-    zero_plus : (k : ℕ) → 0 + k ≡ k
-    zero_plus k = omega arith
+    (p.0, p.1, omega (arith, p.2), omega (arith, p.3), omega (arith, p.4, plain, low))

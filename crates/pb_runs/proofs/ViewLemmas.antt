@@ -91,6 +91,9 @@ narrow s z side e along = ap (λ (q : Span). natural q.high - natural q.low) e �
 swapped : (a b : ℕ) → b * a ≡ a * b
 swapped a b = grind arith
 
+zero_times : (n : ℕ) → 0 * n ≡ 0
+zero_times n = omega arith
+
 times_one : (n : ℕ) → n * 1 ≡ n
 times_one n = omega arith
 
@@ -268,27 +271,27 @@ module _ (ms : List Outcomes) where
             }
 
         turned : wide ≡ 1 → IsPart ms view.Column seat r h.grid (one_cut (sides_of_area view.Column a) outcomes)
-        turned narrow =
+        turned thin =
             let width : natural (span_length a.y) ≡ tall = span_is a.y (exact_value d.h i.sizes) within.y in
             let goes : across (part_seat view.Column seat r) ≡ tall = part_across view.Column seat r in
-            let falls : down (part_seat view.Column seat r) ≡ 1 = part_down view.Column seat r ∙ narrow in
+            let falls : down (part_seat view.Column seat r) ≡ 1 = part_down view.Column seat r ∙ thin in
             record {
               width = width ∙ sym goes;
               height = sym falls;
-              whole = length-map cells (outcome_in lm) ∙ cells_length ∙ (λ j. sym width j * narrow j);
+              whole = length-map cells (outcome_in lm) ∙ cells_length ∙ (λ j. sym width j * thin j);
               cells = λ x y on_x on_y. (
                   let first : y ≡ 0 = omega (arith, on_y, falls) in
-                  let place : y * natural (span_length a.y) + x ≡ x * wide + 0 = (let none : y * natural (span_length a.y) ≡ 0 = ap (λ n. n * natural (span_length a.y)) first in let one : x * wide ≡ x = ap (λ n. x * n) narrow ∙ times_one x in omega (arith, none, one)) in
+                  let place : y * natural (span_length a.y) + x ≡ x * wide + 0 = (let none : y * natural (span_length a.y) ≡ 0 = ap (λ n. n * natural (span_length a.y)) first ∙ zero_times (natural (span_length a.y)) in let one : x * wide ≡ x = ap (λ n. x * n) thin ∙ times_one x in omega (arith, none, one)) in
                   let px : natural a.x.low + 0 ≡ natural a.x.low + y = ap (λ n. natural a.x.low + n) (sym first) in
-                  ap (slice_get outcomes) place ∙ outcome_there 0 x (omega (arith, narrow)) (subst (λ n. x < n) goes on_x) ∙ (λ j. slice_get h.grid.cells ((natural a.y.low + x) * h.grid.width + px j)));
+                  ap (slice_get outcomes) place ∙ outcome_there 0 x (omega (arith, thin)) (subst (λ n. x < n) goes on_x) ∙ (λ j. slice_get h.grid.cells ((natural a.y.low + x) * h.grid.width + px j)));
             }
 
         part_for : (k : ReadView) → (k ≡ view.Column → wide ≡ 1) → IsPart ms k seat r h.grid (one_cut (sides_of_area k a) outcomes)
-        part_for view.Cell narrow = plain view.Cell refl refl
-        part_for view.Row narrow = plain view.Row refl refl
-        part_for view.Column narrow = turned (narrow refl)
-        part_for view.Region narrow = plain view.Region refl refl
-        part_for view.Whole narrow = plain view.Whole refl refl
+        part_for view.Cell thin = plain view.Cell refl refl
+        part_for view.Row thin = plain view.Row refl refl
+        part_for view.Column thin = turned (thin refl)
+        part_for view.Region thin = plain view.Region refl refl
+        part_for view.Whole thin = plain view.Whole refl refl
 
         lies : LiesIn v.view seat r
         lies = record { right = omega (arith, right_end, h.placed.width); high = omega (arith, high_end, h.placed.height) }
@@ -305,8 +308,8 @@ module _ (ms : List Outcomes) where
       view_count = by v.view (λ e. column_wide e)
         where
           by : (k : ReadView) → (k ≡ view.Column → wide ≡ 1) → length cells ≡ area (sides_of_area k a)
-          by view.Column narrow = cells_length ∙ (λ j. sym (span_is a.y (exact_value d.h i.sizes) within.y) j * narrow refl j)
-          by view.Cell narrow = cells_length ∙ swapped wide tall ∙ (λ j. sym (span_is a.x (exact_value d.w i.sizes) within.x) j * sym (span_is a.y (exact_value d.h i.sizes) within.y) j)
-          by view.Row narrow = cells_length ∙ swapped wide tall ∙ (λ j. sym (span_is a.x (exact_value d.w i.sizes) within.x) j * sym (span_is a.y (exact_value d.h i.sizes) within.y) j)
-          by view.Region narrow = cells_length ∙ swapped wide tall ∙ (λ j. sym (span_is a.x (exact_value d.w i.sizes) within.x) j * sym (span_is a.y (exact_value d.h i.sizes) within.y) j)
-          by view.Whole narrow = cells_length ∙ swapped wide tall ∙ (λ j. sym (span_is a.x (exact_value d.w i.sizes) within.x) j * sym (span_is a.y (exact_value d.h i.sizes) within.y) j)
+          by view.Column thin = cells_length ∙ (λ j. sym (span_is a.y (exact_value d.h i.sizes) within.y) j * thin refl j)
+          by view.Cell thin = cells_length ∙ swapped wide tall ∙ (λ j. sym (span_is a.x (exact_value d.w i.sizes) within.x) j * sym (span_is a.y (exact_value d.h i.sizes) within.y) j)
+          by view.Row thin = cells_length ∙ swapped wide tall ∙ (λ j. sym (span_is a.x (exact_value d.w i.sizes) within.x) j * sym (span_is a.y (exact_value d.h i.sizes) within.y) j)
+          by view.Region thin = cells_length ∙ swapped wide tall ∙ (λ j. sym (span_is a.x (exact_value d.w i.sizes) within.x) j * sym (span_is a.y (exact_value d.h i.sizes) within.y) j)
+          by view.Whole thin = cells_length ∙ swapped wide tall ∙ (λ j. sym (span_is a.x (exact_value d.w i.sizes) within.x) j * sym (span_is a.y (exact_value d.h i.sizes) within.y) j)

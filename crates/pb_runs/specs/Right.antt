@@ -21,18 +21,18 @@ no_plans rule r c seen = no_outcome
 abbrev pub source_number : Copied → Stop → ℕ
 source_number c s = cell_at c.source (s.x - c.corner.0) (s.y - c.corner.1)
 
-module _ (config : ConfigValue) (ms : List Outcomes) where
-  -- the outcome of a cell of a run whose matrices are these
-  abbrev pub outcome_of : ℕ → Outcome
-  outcome_of c = outcome_at (outcomes_of ms) c
+-- the outcome of a cell of a run with these matrices
+abbrev pub outcome_of : List Outcomes → ℕ → Outcome
+outcome_of ms c = outcome_at (outcomes_of ms) c
 
+module _ (config : ConfigValue) (ms : List Outcomes) where
   -- a cell of a job is what its rule makes of the outcomes of what it reads
   abbrev pub IsMadeByRule : Instance → Stop → Type 0
   IsMadeByRule i s =
-      outcome_of (stop_number i s) ≡ cell_equation config no_plans i.number i.transform i.sizes (stop_cell s) (map (λ d. outcome_of (number_at i d)) (cell_reads config no_plans i.number i.transform i.sizes (stop_cell s)))
+      outcome_of ms (stop_number i s) ≡ cell_equation config no_plans i.number i.transform i.sizes (stop_cell s) (map (λ d. outcome_of ms (number_at i d)) (cell_reads config no_plans i.number i.transform i.sizes (stop_cell s)))
 
   -- a copied cell has the outcome of its source, and a cell of a call that can't be made the trap
   abbrev pub IsRight : Step → Type 0
   IsRight (by_job i job) = (s : Stop) → Contains (stops_of i.found.nodes i.found.order.layers job) s → IsMadeByRule i s
-  IsRight (by_copy i c) = (s : Stop) → Contains (copied_stops i c) s → outcome_of (stop_number i s) ≡ outcome_of (source_number c s)
-  IsRight (by_trap f) = (k : ℕ) → Contains (cells_of (by_trap f)) k → outcome_of k ≡ f.outcome
+  IsRight (by_copy i c) = (s : Stop) → Contains (copied_stops i c) s → outcome_of ms (stop_number i s) ≡ outcome_of ms (source_number c s)
+  IsRight (by_trap f) = (k : ℕ) → Contains (cells_of (by_trap f)) k → outcome_of ms k ≡ f.outcome

@@ -173,24 +173,24 @@ module _ (p : List ProgTransform) (deeper : Option Unroll) (i : Instance) where
       record { steps = here.steps ++ later.steps; next = later.next }
 
 -- ---- instances
+abbrev pub no_unrolled : Met → Unrolled
+no_unrolled n = record { seats = []; steps = []; next = n }
+
+-- its own matrices stand after all that is met
+abbrev pub own_sides : ProgTransform → List ℕ → List Sides
+own_sides t sizes = map (sides_of_decl sizes) (drop t.inputs t.matrices)
+
+abbrev pub instance_of : ℕ → ProgTransform → AnalysisValue → List ℕ → List Seat → Met → Instance
+instance_of number t a sizes given n = record {
+  call = n.calls;
+  number = number;
+  transform = t;
+  found = a;
+  sizes = sizes;
+  seats = given ++ seats_from (after_call n) (own_sides t sizes);
+}
+
 module _ (p : List ProgTransform) (found : List AnalysisValue) (config : ConfigValue) (grain : ℕ) where
-  abbrev pub no_unrolled : Met → Unrolled
-  no_unrolled n = record { seats = []; steps = []; next = n }
-
-  -- its own matrices stand after all that is met
-  abbrev pub own_sides : ProgTransform → List ℕ → List Sides
-  own_sides t sizes = map (sides_of_decl sizes) (drop t.inputs t.matrices)
-
-  abbrev pub instance_of : ℕ → ProgTransform → AnalysisValue → List ℕ → List Seat → Met → Instance
-  instance_of number t a sizes given n = record {
-    call = n.calls;
-    number = number;
-    transform = t;
-    found = a;
-    sizes = sizes;
-    seats = given ++ seats_from (after_call n) (own_sides t sizes);
-  }
-
   abbrev pub unrolled_at : Option Unroll → ℕ → ProgTransform → AnalysisValue → List ℕ → List Seat → Met → Unrolled
   unrolled_at deeper number t a sizes given n =
       let jobs = jobs_done p deeper (instance_of number t a sizes given n) (jobs_for config number t a sizes grain) (after_matrices (after_call n) (own_sides t sizes)) in
