@@ -8,3 +8,4 @@ pub mod PlayedLemmas
 pub mod ViewLemmas
 pub mod FitLemmas
 pub mod CalledLemmas
+pub mod OwnLemmas

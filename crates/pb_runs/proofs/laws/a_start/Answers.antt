@@ -9,6 +9,8 @@ use Rattle.pb_runs.proofs.PlayedLemmas.{all_played}
 use Rattle.pb_runs.proofs.ViewLemmas.{view_placed}
 use Rattle.pb_runs.proofs.FitLemmas.{fits_enters}
 use Rattle.pb_runs.specs.Matrices.{run_matrices}
+use Rattle.pb_runs.proofs.OwnLemmas.{own_once}
+use Rattle.pb_runs.proofs.CalledLemmas.{calls_called}
 use Rattle.pb_runs.proofs.laws.a_start.Goals as goal
 
 pub returns : goal.returns
