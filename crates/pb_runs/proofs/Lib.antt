@@ -9,3 +9,5 @@ pub mod ViewLemmas
 pub mod FitLemmas
 pub mod CalledLemmas
 pub mod OwnLemmas
+pub mod SpotLemmas
+pub mod BoxLemmas

@@ -22,19 +22,19 @@ Cells = ℕ → Type 0
 abbrev pub with_cells : Cells → List ℕ → Cells
 with_cells known xs c = known c ⊎ Contains xs c
 
-module _ (config : ConfigValue) (ms : List Outcomes) where
-  -- a spot of a matrix of the run has a cell
-  pub record SpotCell (b : Spot) (c : ℕ) : Type 0 where
-    pub grid : Outcomes
-    pub there : slice_get ms b.base ≡ Some grid
-    pub x : ℕ
-    pub y : ℕ
-    pub has : HasPlace b.rect x y
-    pub is : c ≡ before ms b.base + (y * grid.width + x)
+-- a spot of a matrix of the run has a cell
+pub record SpotCell (ms : List Outcomes) (b : Spot) (c : ℕ) : Type 0 where
+  pub grid : Outcomes
+  pub there : slice_get ms b.base ≡ Some grid
+  pub x : ℕ
+  pub y : ℕ
+  pub has : HasPlace b.rect x y
+  pub is : c ≡ before ms b.base + (y * grid.width + x)
 
+module _ (config : ConfigValue) (ms : List Outcomes) where
   -- a step is right, and reads what is known or what it makes
   pub record IsMade (known : Cells) (s : Step) : Type 0 where
-    pub reads : (b : Spot) → Contains (boxes_of s) b → (c : ℕ) → SpotCell b c → known c ⊎ Contains (cells_of s) c
+    pub reads : (b : Spot) → Contains (boxes_of s) b → (c : ℕ) → SpotCell ms b c → known c ⊎ Contains (cells_of s) c
     pub right : IsRight config ms s
 
   -- each step, one after another

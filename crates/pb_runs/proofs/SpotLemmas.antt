@@ -1,0 +1,49 @@
+-- The cells of a rectangle of a seat, in the matrix of the run.
+use Rattle.std.proofs.Common.{◌≡◌, ◌∙◌, refl, sym, ap, subst, ℕ, ◌+◌, ◌-◌, ◌*◌, ◌<◌, ◌≤◌, Bool, true, false, List, slice_get, Some, arith}
+use Rattle.std.specs.Prelude.{if◌then◌else◌}
+use Rattle.pb_values.specs.Views.{HasPlace}
+use Rattle.pb_values.specs.declared.rect.Rect.{Rect}
+use Rattle.pb_model.specs.Calls.{Outcomes}
+use Rattle.pb_check.proofs.FirstLemmas.{some_same}
+use Rattle.pb_runs.specs.Seats.{Seat, across, base_x, base_y, cell_at, down, rect_at, spot_at}
+use Rattle.pb_runs.proofs.BaseLemmas.{before}
+use Rattle.pb_runs.proofs.SeatLemmas.{IsAt, IsPlaced}
+use Rattle.pb_runs.proofs.SoundLemmas.{SpotCell}
+
+-- a rectangle in the matrix of the run
+abbrev laid : Bool → ℕ → ℕ → Rect → Rect
+laid turned a b r = record {
+  x0 = a + (if turned then r.y0 else r.x0);
+  y0 = b + (if turned then r.x0 else r.y0);
+  x1 = a + (if turned then r.y1 else r.x1);
+  y1 = b + (if turned then r.x1 else r.y1);
+}
+
+-- a place there is that of a place of the rectangle
+place_back : (turned : Bool) (a b : ℕ) (r : Rect) (u v : ℕ) → HasPlace (laid turned a b r) u v → (x : ℕ) × (y : ℕ) × HasPlace r x y × (a + (if turned then y else x) ≡ u) × (b + (if turned then x else y) ≡ v)
+place_back true a b r u v h =
+    (v - b, u - a, record { left = omega (arith, h.low); right = omega (arith, h.low, h.high); low = omega (arith, h.left); high = omega (arith, h.left, h.right) }, omega (arith, h.left), omega (arith, h.low))
+place_back false a b r u v h =
+    (u - a, v - b, record { left = omega (arith, h.left); right = omega (arith, h.left, h.right); low = omega (arith, h.low); high = omega (arith, h.low, h.high) }, omega (arith, h.left), omega (arith, h.low))
+
+pub place_laid : (turned : Bool) (a b : ℕ) (r : Rect) (x y : ℕ) → HasPlace r x y → HasPlace (laid turned a b r) (a + (if turned then y else x)) (b + (if turned then x else y))
+place_laid true a b r x y h = record { left = omega (arith, h.low); right = omega (arith, h.high); low = omega (arith, h.left); high = omega (arith, h.right) }
+place_laid false a b r x y h = record { left = omega (arith, h.left); right = omega (arith, h.right); low = omega (arith, h.low); high = omega (arith, h.high) }
+
+module _ (ms : List Outcomes) (s : Seat) (m : Outcomes) (placed : IsPlaced ms s m) (r : Rect) (right : r.x1 ≤ across s) (high : r.y1 ≤ down s) where
+  -- a cell of the spot is one of the rectangle
+  pub spot_back : (c : ℕ) → SpotCell ms (spot_at s r) c → (x : ℕ) × (y : ℕ) × HasPlace r x y × (c ≡ cell_at s x y)
+  unfolding cell_at
+  spot_back c h =
+      let p = place_back s.turned s.rect.x0 s.rect.y0 r h.x h.y h.has in
+      let at = (placed.cells p.0 p.1 (omega (arith, p.2.right, right)) (omega (arith, p.2.high, high))).2 in
+      let grid : h.grid ≡ at.grid = some_same h.grid at.grid (sym h.there ∙ at.there) in
+      let width : h.grid.width ≡ s.row = ap (λ (g : Outcomes). g.width) grid ∙ sym at.row in
+      (p.0, p.1, p.2, h.is ∙ (λ k. sym at.first k + (sym p.4 k * width k + sym p.3 k)))
+
+  -- and back
+  pub spot_cell : (x y : ℕ) → HasPlace r x y → SpotCell ms (spot_at s r) (cell_at s x y)
+  unfolding cell_at
+  spot_cell x y h =
+      let at = (placed.cells x y (omega (arith, h.right, right)) (omega (arith, h.high, high))).2 in
+      record { grid = at.grid; there = at.there; x = base_x s x y; y = base_y s x y; has = place_laid s.turned s.rect.x0 s.rect.y0 r x y h; is = λ k. at.first k + (base_y s x y * at.row k + base_x s x y) }
