@@ -11,3 +11,4 @@ pub mod CalledLemmas
 pub mod OwnLemmas
 pub mod SpotLemmas
 pub mod BoxLemmas
+pub mod JobLemmas
