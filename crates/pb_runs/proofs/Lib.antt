@@ -12,3 +12,4 @@ pub mod OwnLemmas
 pub mod SpotLemmas
 pub mod BoxLemmas
 pub mod JobLemmas
+pub mod OutputLemmas
