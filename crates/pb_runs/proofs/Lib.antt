@@ -13,3 +13,4 @@ pub mod SpotLemmas
 pub mod BoxLemmas
 pub mod JobLemmas
 pub mod OutputLemmas
+pub mod CopyLemmas
