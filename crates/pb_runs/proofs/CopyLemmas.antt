@@ -64,8 +64,8 @@ use Rattle.pb_recursion.specs.Plans.{Names, named, no_cell, sides_of_slot, sides
 use Rattle.pb_recursion.specs.Shapes.{Sides, sides_of_area, span_length}
 use Rattle.pb_runs.specs.Matrices.{read_matrices}
 use Rattle.pb_runs.specs.Right.{outcome_of, source_number}
-use Rattle.pb_runs.specs.Seats.{Seat, across, cell_at, down, no_seat}
-use Rattle.pb_runs.specs.Steps.{Copied, Instance, Step, by_copy, cells_in, cells_of, copied_stops, number_at, stop_number}
+use Rattle.pb_runs.specs.Seats.{Seat, across, cell_at, down, no_seat, spot_at}
+use Rattle.pb_runs.specs.Steps.{Copied, Instance, Step, by_copy, cells_in, cells_of, from_corner, number_at, stop_number}
 use Rattle.pb_runs.specs.Unrolled.{copies_of, copy_step, is_part_of, output_parts, output_rect}
 use Rattle.pb_runs.proofs.BoxLemmas.{IsSituated, inst, jobs}
 use Rattle.pb_runs.proofs.CountLemmas.{counted, counted_same}
@@ -73,7 +73,7 @@ use Rattle.pb_runs.proofs.JobLemmas.{made_own, made_value, own_cells, rule_for}
 use Rattle.pb_runs.proofs.NameLemmas.{IsNamed}
 use Rattle.pb_runs.proofs.OutputLemmas.{Holds, holds_is, in_output, one_output, some_output}
 use Rattle.pb_runs.proofs.SeatLemmas.{HasCell, IsAt, IsPlaced}
-use Rattle.pb_runs.proofs.SoundLemmas.{Cells, IsMade, Sound, SpotCell, sound_append, sound_more, with_cells}
+use Rattle.pb_runs.proofs.SoundLemmas.{Cells, IsMade, Sound, SpotCell, cells_append, sound_append, sound_more, with_cells}
 use Rattle.pb_runs.proofs.SpotLemmas.{spot_back}
 use Rattle.pb_runs.proofs.ViewLemmas.{IsLocal, span_is}
 
@@ -95,6 +95,14 @@ some_place r x y h =
 both_true : (a b : Bool) → a ≡ true → b ≡ true → (a && b) ≡ true
 both_true true b h k = k
 both_true false b h k = h
+
+test_below : (a b : ℕ) → nat_lt a b ≡ true → a < b
+test_below a b h = grind (arith, nat_tests, h)
+
+get_below : {A : Type 0} (xs : List A) (k : ℕ) (x : A) → slice_get xs k ≡ Some x → k < length xs
+get_below [] k x e = absurd (let wrong : None ≡ Some x = e in cc)
+get_below (y ∷ xs) zero x e = omega arith
+get_below (y ∷ xs) (suc k) x e = let rest = get_below xs k x e in omega (arith, rest)
 
 below_test : (a b : ℕ) → a < b → nat_lt a b ≡ true
 below_test a b h = grind (arith, nat_tests, h)
@@ -323,6 +331,12 @@ module _ (config : ConfigValue) (ms : List Outcomes) (p : List ProgTransform) (i
         sides_are : sides (slot.Out m) ≡ (span_length a.x, span_length a.y)
         sides_are = ap (λ q. option_map_or (sides_of_view t.matrices i.sizes) q (pos 0, pos 0)) at_m ∙ out_plain m o at_m a
 
+        -- how far it goes
+        source_sides : (c : Cell) → IsHeld c → (d : DeclValue) → slice_get t.matrices o.matrix ≡ Some d → (across source ≡ natural a.x.high - natural a.x.low) × (down source ≡ natural a.y.high - natural a.y.low)
+        source_sides c h d decl =
+            let w = out_within c h m o d at_m decl in
+            (sym named_is.placed.width ∙ named_is.width ∙ ap (λ (s : Sides). natural s.0) sides_are ∙ span_is a.x (exact_value d.w i.sizes) w.x, sym named_is.placed.height ∙ named_is.height ∙ ap (λ (s : Sides). natural s.1) sides_are ∙ span_is a.y (exact_value d.h i.sizes) w.y)
+
         -- a held cell of the output
         copy_value : (c : Cell) → IsHeld c → o.matrix ≡ c.matrix → HasPlace (out_rect o) c.x c.y → outcome_of ms (number_at i c) ≡ outcome_of ms (cell_at source (c.x - (out_rect o).x0) (c.y - (out_rect o).y0))
         copy_value c h matrix place =
@@ -334,13 +348,11 @@ module _ (config : ConfigValue) (ms : List Outcomes) (p : List ProgTransform) (i
             let same : first.0 ≡ m = one_output t.matrices i.sizes c (leasts_of t.ranges) at.range r.outs no_overlap first.0 m first.1 o first.2 at_m out here in
             let holds : output_holds t.matrices i.sizes c o ≡ true = (let e = some_same first.1 o (sym first.2 ∙ ap (slice_get r.outs) same ∙ at_m) in subst (λ (q : Read). output_holds t.matrices i.sizes c q ≡ true) e first.3) in
             let value = in_output t i.sizes (named no_grid mm) c r.outs 0 m o at_m holds (λ l q at_l h_l. one_output t.matrices i.sizes c (leasts_of t.ranges) at.range r.outs no_overlap l m q o at_l at_m (holds_is t.matrices i.sizes c q h_l) here) in
-            let w = out_within c h m o made.cell.decl at_m decl in
-            let goes : across source ≡ natural a.x.high - natural a.x.low = sym named_is.placed.width ∙ named_is.width ∙ ap (λ (s : Sides). natural s.0) sides_are ∙ span_is a.x (exact_value made.cell.decl.w i.sizes) w.x in
-            let falls : down source ≡ natural a.y.high - natural a.y.low = sym named_is.placed.height ∙ named_is.height ∙ ap (λ (s : Sides). natural s.1) sides_are ∙ span_is a.y (exact_value made.cell.decl.h i.sizes) w.y in
+            let ends = source_sides c h made.cell.decl decl in
             let x = c.x - natural a.x.low in
             let y = c.y - natural a.y.low in
-            let on_x : x < across source = omega (arith, place.left, place.right, goes) in
-            let on_y : y < down source = omega (arith, place.low, place.high, falls) in
+            let on_x : x < across source = omega (arith, place.left, place.right, ends.0) in
+            let on_y : y < down source = omega (arith, place.low, place.high, ends.1) in
             let grid = named no_grid mm (slot.Out m) in
             let cell = named_is.placed.cells x y on_x on_y in
             let test_x = below_test x grid.width (omega (arith, on_x, named_is.placed.width)) in
@@ -351,3 +363,97 @@ module _ (config : ConfigValue) (ms : List Outcomes) (p : List ProgTransform) (i
           where
             some_same : (x y : Read) → Some x ≡ Some y → x ≡ y
             some_same x y h = cc
+
+        abbrev copied : Copied
+        copied = record { layer = job.layer; rule = job.rule; parts = output_parts i job o; corner = ((out_rect o).x0, (out_rect o).y0); source = source }
+
+        -- a part of what is copied holds a cell
+        part_held : (part : FramePart) → Contains (output_parts i job o) part → (c : Cell) × IsHeld c × (o.matrix ≡ c.matrix) × (part.rect.x1 ≤ (out_rect o).x1) × (part.rect.y1 ≤ (out_rect o).y1)
+        part_held part h =
+            let q = map_in (within (out_rect o)) (filter (is_part_of i o) job.parts) part h in
+            let among = filter_in (is_part_of i o) job.parts q.0 q.1 in
+            let on = and_parts ((spot_of i.found.nodes q.0).base == o.matrix) (has_place (cut_by (out_rect o) q.0.rect)) among.1 in
+            let cut = cut_by (out_rect o) q.0.rect in
+            let tests = and_parts (nat_lt cut.x0 cut.x1) (nat_lt cut.y0 cut.y1) on.1 in
+            let places = cut_place (out_rect o) q.0.rect cut.x0 cut.y0 (record { left = omega arith; right = test_below cut.x0 cut.x1 tests.0; low = omega arith; high = test_below cut.y0 cut.y1 tests.1 }) in
+            let node = of_part i.number t i.found i.sizes (inst config p i grain at) config q.0 (home config i.number t i.found i.sizes grain (inst config p i grain at) at.valid j job e q.0 among.0) in
+            let right : cut.x1 ≤ (out_rect o).x1 = omega arith in
+            let high : cut.y1 ≤ (out_rect o).y1 = omega arith in
+            (record { matrix = node.0.matrix; x = cut.x0; y = cut.y0 },
+            record { part = q.0; of = among.0; holds = record { node = node.0; there = node.1; matrix = refl; place = places.1 } },
+            sym (eqb-true (spot_of i.found.nodes q.0).base o.matrix on.0) ∙ base_is q.0 node.0 node.1,
+            subst (λ (z : FramePart). z.rect.x1 ≤ (out_rect o).x1) q.2 right, subst (λ (z : FramePart). z.rect.y1 ≤ (out_rect o).y1) q.2 high)
+
+        copy_made : IsMade config ms known (by_copy i copied)
+        copy_made = record {
+          reads = λ b h c cell.
+              let part = map_in (λ (q : FramePart). spot_at source (from_corner copied.corner q.rect)) (output_parts i job o) b h in
+              let held = part_held part.0 part.1 in
+              let made = held_cell held.0 held.1 in
+              let ends = source_sides held.0 held.1 made.cell.decl (ap (slice_get t.matrices) held.2 ∙ made.cell.there) in
+              let back = spot_back ms source (named no_grid mm (slot.Out m)) named_is.placed (from_corner copied.corner part.0.rect) (omega (arith, ends.0, held.3)) (omega (arith, ends.1, held.4)) c (subst (λ q. SpotCell ms q c) (sym part.2) cell) in
+              inl (named_is.cells c (back.0, back.1, omega (arith, back.2.right, ends.0, held.3), omega (arith, back.2.high, ends.1, held.4), back.3));
+          right = λ s h. (let is_copied = copied_is o s h in copy_value (stop_cell s) is_copied.held is_copied.matrix is_copied.place);
+        }
+
+      -- ---- all copies
+      copy_steps : (known : Cells) (m : ℕ) (o : Read) (at_m : slice_get r.outs m ≡ Some o) (source : Seat) → IsNamed ms sides known (slot.Out m) source (named no_grid mm (slot.Out m)) → (all : List FramePart) → output_parts i job o ≡ all
+          → Sound config ms known (copy_step i job source ((out_rect o).x0, (out_rect o).y0) all)
+      copy_steps known m o at_m source named_is [] e = tt
+      copy_steps known m o at_m source named_is (part ∷ rest) e =
+          (subst (λ l. IsMade config ms known (by_copy i (record { layer = job.layer; rule = job.rule; parts = l; corner = ((out_rect o).x0, (out_rect o).y0); source = source }))) e (copy_made known m o at_m source named_is), tt)
+
+      pub copies_sound : (known : Cells) (names : Names Seat) → ((m : ℕ) → m < length r.outs → IsNamed ms sides known (slot.Out m) (named no_seat names (slot.Out m)) (named no_grid mm (slot.Out m)))
+          → (n : ℕ) (outs : List Read) → ((m : ℕ) (o : Read) → slice_get outs m ≡ Some o → slice_get r.outs (n + m) ≡ Some o) → Sound config ms known (copies_of i job names n outs)
+      copies_sound known names are n [] there = tt
+      copies_sound known names are n (o ∷ outs) there =
+          let number : n + 0 ≡ n = omega arith in
+          let at_n : slice_get r.outs n ≡ Some o = ap (slice_get r.outs) (sym number) ∙ there 0 o refl in
+          let source = named no_seat names (slot.Out n) in
+          let step = copy_step i job source ((out_rect o).x0, (out_rect o).y0) (output_parts i job o) in
+          let rest = copies_of i job names (n + 1) outs in
+          sound_append config ms known step rest (copy_steps known n o at_n source (are n (get_below r.outs n o at_n)) (output_parts i job o) refl)
+          (sound_more config ms known (with_cells known (cells_in step)) rest (λ c k. inl k) (copies_sound known names are (n + 1) outs (λ m q at_m. (let next : n + suc m ≡ (n + 1) + m = omega arith in ap (slice_get r.outs) (sym next) ∙ there (suc m) q at_m))))
+
+      -- their cells
+      step_cells : (source : Seat) (corner : ℕ × ℕ) (all : List FramePart) → cells_in (copy_step i job source corner all) ≡ map (stop_number i) (walk_of [] (map (spot_of i.found.nodes) all))
+      unfolding cells_of walk_of
+      step_cells source corner [] = refl
+      step_cells source corner (part ∷ rest) = append_none (map (stop_number i) (walk_of [] (map (spot_of i.found.nodes) (part ∷ rest))))
+        where
+          append_none : (xs : List ℕ) → xs ++ [] ≡ xs
+          append_none [] = refl
+          append_none (x ∷ xs) = ap (λ l. x ∷ l) (append_none xs)
+
+      copies_cells : (names : Names Seat) (n : ℕ) (outs : List Read) → cells_in (copies_of i job names n outs) ≡ flat_map copy_cells outs
+      copies_cells names n [] = refl
+      copies_cells names n (o ∷ outs) =
+          let step = copy_step i job (named no_seat names (slot.Out n)) ((out_rect o).x0, (out_rect o).y0) (output_parts i job o) in
+          cells_append step (copies_of i job names (n + 1) outs) ∙ (λ z. step_cells (named no_seat names (slot.Out n)) ((out_rect o).x0, (out_rect o).y0) (output_parts i job o) z ++ copies_cells names (n + 1) outs z)
+
+      -- what is copied from an output holds its place
+      holds_of : (o : Read) (s : Stop) → IsCopied o s → Holds t.matrices i.sizes (stop_cell s) o
+      holds_of o s h =
+          let made = held_cell (stop_cell s) h.held in
+          record { matrix = h.matrix; decl = made.cell.decl; there = ap (slice_get t.matrices) h.matrix ∙ made.cell.there; inside = rect_in (shown_area t.matrices i.sizes no_cell o) s.x s.y h.place }
+
+      all_once : Once (flat_map copy_cells r.outs)
+      all_once = once_flat copy_cells r.outs (λ n o at_n. copy_once o) (λ l m o q b at_l at_m in_o in_q.
+          let s = map_in (stop_number i) (walk_of [] (pieces o)) b in_o in
+          let z = map_in (stop_number i) (walk_of [] (pieces q)) b in_q in
+          let ks = copied_is o s.0 s.1 in
+          let kz = copied_is q z.0 z.1 in
+          let cells = once (stop_cell s.0) (stop_cell z.0) (held_cell (stop_cell s.0) ks.held) (held_cell (stop_cell z.0) kz.held) (s.2 ∙ sym z.2) in
+          one_output t.matrices i.sizes (stop_cell z.0) (leasts_of t.ranges) at.range r.outs no_overlap l m o q at_l at_m (subst (λ c. Holds t.matrices i.sizes c o) cells (holds_of o s.0 ks)) (holds_of q z.0 kz))
+
+      pub copies_count : (names : Names Seat) (n : ℕ) → counted n (cells_in (copies_of i job names 0 r.outs)) ≡ counted n (own_cells i job)
+      copies_count names n = ap (counted n) (copies_cells names 0 r.outs) ∙ counted_same n (flat_map copy_cells r.outs) (own_cells i job) all_once own_once
+          (λ h.
+          let o = flat_in copy_cells r.outs n h in
+          let s = map_in (stop_number i) (walk_of [] (pieces o.0)) n o.2 in
+          subst (Contains (own_cells i job)) s.2 (held_own (stop_cell s.0) (copied_is o.0 s.0 s.1).held))
+          (λ h.
+          let c = own_held n h in
+          let out = output_of c.0 c.1 in
+          let holds = holds_is t.matrices i.sizes c.0 out.1 out.3 in
+          in_flat copy_cells r.outs out.1 n (in_at r.outs out.0 out.1 out.2) (subst (Contains (copy_cells out.1)) c.2 (in_copy out.1 c.0 c.1 holds.matrix (in_rect (shown_area t.matrices i.sizes no_cell out.1) c.0.x c.0.y holds.inside))))

@@ -12,13 +12,13 @@ use Rattle.pb_recursion.specs.Ordered.{AreOrdered, IsGiven}
 use Rattle.pb_recursion.specs.Plans.{Names, after_call, after_calls, named}
 use Rattle.pb_recursion.specs.Shapes.{Sides}
 use Rattle.pb_runs.specs.Seats.{Seat, no_seat}
-use Rattle.pb_runs.specs.Steps.{Step, cells_in, cells_of}
+use Rattle.pb_runs.specs.Steps.{Step, cells_in}
 use Rattle.pb_runs.specs.Unrolled.{Met, Played, Player, Unrolled, played}
 use Rattle.pb_runs.proofs.BaseLemmas.{Reaches, Stands, reaches_both, stands_left, stands_right, total, total_append}
 use Rattle.pb_runs.proofs.CountLemmas.{counted, counted_append, counted_row}
 use Rattle.pb_runs.proofs.NameLemmas.{Answer, AreNamed, IsNamed, after_named, named_more}
 use Rattle.pb_runs.proofs.SeatLemmas.{HasCell, IsPlaced}
-use Rattle.pb_runs.proofs.SoundLemmas.{Cells, IsDeep, IsMade, Sound, sound_append, with_cells}
+use Rattle.pb_runs.proofs.SoundLemmas.{Cells, IsDeep, Sound, cells_append, sound_append, with_cells}
 
 module _ (config : ConfigValue) (ms : List Outcomes) (sides : Slot → Sides) (player : Player) (make : PlanCallValue → List Outcomes → List Outcomes) (all : PlanCallValue → List Outcomes → List Outcomes) where
   -- the matrices of all calls
@@ -45,14 +45,6 @@ module _ (config : ConfigValue) (ms : List Outcomes) (sides : Slot → Sides) (p
     pub sound : Sound config ms known p.steps
     pub counts : (c : ℕ) → counted c (cells_in p.steps) ≡ counted c (range_with_len n.cells (total mats))
     pub reaches : Reaches ms n mats p.next
-
-  cells_append : (xs ys : List Step) → cells_in (xs ++ ys) ≡ cells_in xs ++ cells_in ys
-  cells_append [] ys = refl
-  cells_append (s ∷ xs) ys = ap (λ l. cells_of s ++ l) (cells_append xs ys) ∙ sym (assoc (cells_of s) (cells_in xs) (cells_in ys))
-    where
-      assoc : (xs ys zs : List ℕ) → (xs ++ ys) ++ zs ≡ xs ++ (ys ++ zs)
-      assoc [] ys zs = refl
-      assoc (x ∷ xs) ys zs = ap (λ l. x ∷ l) (assoc xs ys zs)
 
   pub all_played : AreCalled → (outputs : ℕ) (calls : List PlanCallValue) (known : Cells) (n : Met) (made : List Slot) (ss : Names Seat) (mm : Names Outcomes) → AreOrdered outputs made calls → AreNamed ms sides known made ss mm → Stands ms n (of_calls calls mm)
       → IsPlayed outputs known n (played player calls ss n) (of_calls calls mm) (after_calls no_grid make calls mm)

@@ -22,6 +22,14 @@ Cells = ℕ → Type 0
 abbrev pub with_cells : Cells → List ℕ → Cells
 with_cells known xs c = known c ⊎ Contains xs c
 
+pub cells_append : (xs ys : List Step) → cells_in (xs ++ ys) ≡ cells_in xs ++ cells_in ys
+cells_append [] ys = refl
+cells_append (s ∷ xs) ys = ap (λ l. cells_of s ++ l) (cells_append xs ys) ∙ sym (assoc (cells_of s) (cells_in xs) (cells_in ys))
+  where
+    assoc : (xs ys zs : List ℕ) → (xs ++ ys) ++ zs ≡ xs ++ (ys ++ zs)
+    assoc [] ys zs = refl
+    assoc (x ∷ xs) ys zs = ap (λ l. x ∷ l) (assoc xs ys zs)
+
 -- a spot of a matrix of the run has a cell
 pub record SpotCell (ms : List Outcomes) (b : Spot) (c : ℕ) : Type 0 where
   pub grid : Outcomes
