@@ -14,3 +14,4 @@ pub mod BoxLemmas
 pub mod JobLemmas
 pub mod OutputLemmas
 pub mod CopyLemmas
+pub mod PlanLemmas
