@@ -15,3 +15,4 @@ pub mod JobLemmas
 pub mod OutputLemmas
 pub mod CopyLemmas
 pub mod PlanLemmas
+pub mod FoldLemmas
