@@ -16,3 +16,5 @@ pub mod OutputLemmas
 pub mod CopyLemmas
 pub mod PlanLemmas
 pub mod FoldLemmas
+pub mod InstanceLemmas
+pub mod RunLemmas

@@ -80,11 +80,11 @@ row_place ms n (s ∷ ss) (g ∷ mats) h c low high =
     (λ (later : n.cells + area s ≤ c). let rest = row_place ms (after_matrix n s) ss mats h.1 c later (omega (arith, high, cells)) in (suc rest.0, rest.1, rest.2, rest.3, rest.4, rest.5))
     (cases_lt c (n.cells + area s))
 
-below_side : (z : ℤ) (n : ℕ) → n < natural z → pos n <ℤ z
+pub below_side : (z : ℤ) (n : ℕ) → n < natural z → pos n <ℤ z
 below_side (pos k) n h = omega (arith, ints, h)
 below_side (negsuc k) n h = absurd (omega (arith, h))
 
-side_below : (z : ℤ) (n : ℕ) → pos n <ℤ z → n < natural z
+pub side_below : (z : ℤ) (n : ℕ) → pos n <ℤ z → n < natural z
 side_below (pos k) n h = omega (arith, ints, h)
 side_below (negsuc k) n h = absurd (omega (arith, ints, h))
 
