@@ -11,16 +11,7 @@ use Rattle.pb_solution.proofs.OutcomeLemmas.{index_at}
 use Rattle.pb_solution.specs.Solutions.{outcomes_of}
 use Rattle.pb_recursion.specs.Depths.{IsWhole}
 use Rattle.pb_runs.specs.Unrolled.{Met}
-
--- how many cells there are in all, and before a matrix
-abbrev pub total : List Outcomes → ℕ
-total [] = 0
-total (g ∷ gs) = length g.cells + total gs
-
-abbrev pub before : List Outcomes → ℕ → ℕ
-before [] k = 0
-before (g ∷ gs) zero = 0
-before (g ∷ gs) (suc k) = length g.cells + before gs k
+use Rattle.pb_runs.specs.Placed.{before, total}
 
 pub before_first : (gs : List Outcomes) → before gs 0 ≡ 0
 before_first [] = refl

@@ -43,6 +43,7 @@ use Rattle.pb_tasks.proofs.MadeLemmas.{chosen, made_by}
 use Rattle.pb_tasks.proofs.SpreadLemmas.{shown_is}
 use Rattle.pb_tasks.proofs.WideLemmas.{shown_same}
 use Rattle.pb_runs.specs.Steps.{Instance}
+use Rattle.pb_runs.specs.Placed.{before}
 
 -- an instance of an accepted program, with a valid configuration and sizes in range
 pub record IsSituated (config : ConfigValue) (p : List ProgTransform) (i : Instance) : Type 0 where

@@ -30,9 +30,10 @@ use Rattle.pb_runs.proofs.FailedLemmas.{HaveSides, failed_deep, filled_sides}
 use Rattle.pb_runs.proofs.FitLemmas.{HaveNatural, fits_enters}
 use Rattle.pb_runs.proofs.NameLemmas.{Answer, AreNamed, IsNamed, named_known, named_placed}
 use Rattle.pb_runs.proofs.PlayedLemmas.{AreCalled, IsCalled}
-use Rattle.pb_runs.proofs.SeatLemmas.{HasCell, IsPlaced}
+use Rattle.pb_runs.proofs.SeatLemmas.{HasCell}
 use Rattle.pb_runs.proofs.SoundLemmas.{Cells, IsDeep, deep_made, with_cells}
 use Rattle.pb_base.proofs.ListLemmas.{in_head, in_tail}
+use Rattle.pb_runs.specs.Placed.{IsPlaced}
 
 abbrev the_none : (A : Type 0) → List A
 the_none A = []

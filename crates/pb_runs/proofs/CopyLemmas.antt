@@ -63,7 +63,7 @@ use Rattle.pb_recursion.specs.Depths.{Call, cut_into, in_outputs_of, plan_names,
 use Rattle.pb_recursion.specs.Plans.{Names, named, no_cell, sides_of_slot, sides_of_view}
 use Rattle.pb_recursion.specs.Shapes.{Sides, sides_of_area, span_length}
 use Rattle.pb_runs.specs.Matrices.{read_matrices}
-use Rattle.pb_runs.specs.Right.{outcome_of, source_number}
+use Rattle.pb_runs.specs.Right.{source_number}
 use Rattle.pb_runs.specs.Seats.{Seat, across, cell_at, down, no_seat, spot_at}
 use Rattle.pb_runs.specs.Steps.{Copied, Instance, Step, by_copy, cells_in, cells_of, from_corner, number_at, stop_number}
 use Rattle.pb_runs.specs.Unrolled.{copies_of, copy_step, is_part_of, output_parts, output_rect}
@@ -72,10 +72,11 @@ use Rattle.pb_runs.proofs.CountLemmas.{counted, counted_same}
 use Rattle.pb_runs.proofs.JobLemmas.{made_own, made_value, own_cells, rule_for}
 use Rattle.pb_runs.proofs.NameLemmas.{IsNamed}
 use Rattle.pb_runs.proofs.OutputLemmas.{Holds, holds_is, in_output, one_output, some_output}
-use Rattle.pb_runs.proofs.SeatLemmas.{HasCell, IsAt, IsPlaced}
-use Rattle.pb_runs.proofs.SoundLemmas.{Cells, IsMade, Sound, SpotCell, cells_append, sound_append, sound_more, with_cells}
+use Rattle.pb_runs.proofs.SeatLemmas.{HasCell}
+use Rattle.pb_runs.proofs.SoundLemmas.{Cells, IsMade, Sound, cells_append, sound_append, sound_more, with_cells}
 use Rattle.pb_runs.proofs.SpotLemmas.{spot_back}
 use Rattle.pb_runs.proofs.ViewLemmas.{IsLocal, span_is}
+use Rattle.pb_runs.specs.Placed.{SpotCell, outcome_of}
 
 -- ---- rectangles that are cut
 cut_place : (a b : Rect) (x y : ℕ) → HasPlace (cut_by a b) x y → HasPlace a x y × HasPlace b x y

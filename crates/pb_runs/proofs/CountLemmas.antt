@@ -118,7 +118,7 @@ row_in c n (suc k) low high = ⊎_elim
     (λ (more : c ≤ n). let same : n ≡ c = omega (arith, low, more) in subst (Contains (range_with_len n (suc k))) same (in_head n (range_with_len (n + 1) k)))
     (cases_lt n c)
 
-row_few : (c n k : ℕ) → counted c (range_with_len n k) ≤ 1
+pub row_few : (c n k : ℕ) → counted c (range_with_len n k) ≤ 1
 row_few c n zero = omega arith
 row_few c n (suc k) = by (n == c) refl (row_few c (n + 1) k)
   where

@@ -14,14 +14,15 @@ use Rattle.pb_base.proofs.ListLemmas.{filter_in, flat_in, in_cases, in_head, in_
 use Rattle.pb_frame.specs.Frames.{has_place}
 use Rattle.pb_recursion.specs.Depths.{IsWhole, filled}
 use Rattle.pb_recursion.specs.Shapes.{Sides, area}
-use Rattle.pb_runs.specs.Right.{IsRight, outcome_of}
+use Rattle.pb_runs.specs.Right.{IsRight}
 use Rattle.pb_runs.specs.Seats.{Seat, across, cell_at, down, seat_cells}
 use Rattle.pb_runs.specs.Steps.{Step, by_trap, cells_in, cells_of}
 use Rattle.pb_runs.specs.Unrolled.{Met, after_call, after_matrices, after_matrix, failed, seat_has_cells, seats_from, trap_step, whole_seat}
-use Rattle.pb_runs.proofs.BaseLemmas.{Reaches, Stands, reaches_both, stands_left, stands_right, total}
+use Rattle.pb_runs.proofs.BaseLemmas.{Reaches, Stands, reaches_both, stands_left, stands_right}
 use Rattle.pb_runs.proofs.CountLemmas.{counted, in_row, row_in, row_split}
-use Rattle.pb_runs.proofs.SeatLemmas.{HasCell, IsPlaced, has_whole, whole_has, whole_placed}
+use Rattle.pb_runs.proofs.SeatLemmas.{HasCell, has_whole, whole_has, whole_placed}
 use Rattle.pb_runs.proofs.SoundLemmas.{Cells, IsDeep, IsMade, Sound}
+use Rattle.pb_runs.specs.Placed.{IsPlaced, outcome_of, total}
 
 -- ---- matrices one after the other
 module _ (ms : List Outcomes) where

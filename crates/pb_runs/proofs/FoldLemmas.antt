@@ -29,7 +29,7 @@ use Rattle.pb_recursion.specs.Plans.{calls_of_rule, names_of_reads}
 use Rattle.pb_runs.specs.Matrices.{Below, call_below, calls_matrices, job_matrices, jobs_matrices, read_matrices, rule_matrices}
 use Rattle.pb_runs.specs.Steps.{Instance, Step, by_job, cells_in, cells_of, number_at}
 use Rattle.pb_runs.specs.Unrolled.{Done, Met, Unroll, job_done, jobs_done, plan_done, rule_done}
-use Rattle.pb_runs.proofs.BaseLemmas.{Reaches, Stands, reaches_both, stands_left, stands_right, total, total_append}
+use Rattle.pb_runs.proofs.BaseLemmas.{Reaches, Stands, reaches_both, stands_left, stands_right, total_append}
 use Rattle.pb_runs.proofs.BoxLemmas.{IsSituated, inst, jobs}
 use Rattle.pb_runs.proofs.CalledLemmas.{AreDeeper, AreNatural}
 use Rattle.pb_runs.proofs.CountLemmas.{counted, counted_append, counted_in, counted_row, in_counted}
@@ -37,6 +37,7 @@ use Rattle.pb_runs.proofs.JobLemmas.{IsKnown, job_made, own_cells}
 use Rattle.pb_runs.proofs.PlanLemmas.{IsDone, plan_job}
 use Rattle.pb_runs.proofs.SoundLemmas.{Cells, Sound, cells_append, sound_append, with_cells}
 use Rattle.pb_runs.proofs.ViewLemmas.{IsLocal}
+use Rattle.pb_runs.specs.Placed.{before, total}
 
 append_none : {A : Type 0} (xs : List A) → xs ++ [] ≡ xs
 append_none [] = refl

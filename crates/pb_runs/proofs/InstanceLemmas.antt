@@ -32,7 +32,7 @@ use Rattle.pb_runs.specs.Matrices.{Below, below_at, call_below, jobs_matrices, m
 use Rattle.pb_runs.specs.Seats.{Seat, cell_at, no_seat, sides_of_seat}
 use Rattle.pb_runs.specs.Steps.{Instance, cells_in, number_at, seat_in, stop_number}
 use Rattle.pb_runs.specs.Unrolled.{Met, Unroll, after_call, after_matrices, instance_of, jobs_done, own_sides, seats_from, unrolled_at}
-use Rattle.pb_runs.proofs.BaseLemmas.{Reaches, Stands, reaches_both, stands_left, stands_right, total, total_append}
+use Rattle.pb_runs.proofs.BaseLemmas.{Reaches, Stands, reaches_both, stands_left, stands_right, total_append}
 use Rattle.pb_runs.proofs.BoxLemmas.{IsSituated, inst, jobs}
 use Rattle.pb_runs.proofs.CalledLemmas.{AreDeeper, AreNatural}
 use Rattle.pb_runs.proofs.CopyLemmas.{own_once as job_once}
@@ -41,9 +41,10 @@ use Rattle.pb_runs.proofs.FailedLemmas.{HaveSides, seats_placed, seats_reach, se
 use Rattle.pb_runs.proofs.FoldLemmas.{jobs_are_done}
 use Rattle.pb_runs.proofs.JobLemmas.{IsKnown, made_own, own_cells}
 use Rattle.pb_runs.proofs.OwnLemmas.{own_in_row, own_once, row_own, side_below}
-use Rattle.pb_runs.proofs.SeatLemmas.{HasCell, IsPlaced}
+use Rattle.pb_runs.proofs.SeatLemmas.{HasCell}
 use Rattle.pb_runs.proofs.SoundLemmas.{Cells, IsDeep}
 use Rattle.pb_runs.proofs.ViewLemmas.{IsLocal, has_matrix, zip_at}
+use Rattle.pb_runs.specs.Placed.{IsPlaced, before, total}
 
 -- ---- lists
 zip_append : {A B : Type 0} (R : A → B → Type 0) (xs us : List A) (ys vs : List B) → AllZip R xs ys → AllZip R us vs → AllZip R (xs ++ us) (ys ++ vs)

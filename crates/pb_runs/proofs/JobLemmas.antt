@@ -33,14 +33,15 @@ use Rattle.pb_solution.proofs.MayLemmas.{map_same}
 use Rattle.pb_solution.proofs.OrderLemmas.{made_stop, stop_made}
 use Rattle.pb_solution.proofs.OutcomeLemmas.{index_at}
 use Rattle.pb_recursion.specs.Depths.{IsWhole}
-use Rattle.pb_runs.specs.Right.{IsMadeByRule, no_plans, outcome_of}
+use Rattle.pb_runs.specs.Right.{IsMadeByRule, no_plans}
 use Rattle.pb_runs.specs.Seats.{Seat, cell_at, no_seat}
 use Rattle.pb_runs.specs.Steps.{Instance, by_job, cells_of, number_at, seat_in, stop_number, through}
 use Rattle.pb_runs.proofs.BoxLemmas.{IsSituated, box_before, box_ends, box_there, inst, jobs}
-use Rattle.pb_runs.proofs.SeatLemmas.{HasCell, IsPlaced}
-use Rattle.pb_runs.proofs.SoundLemmas.{Cells, IsMade, SpotCell}
+use Rattle.pb_runs.proofs.SeatLemmas.{HasCell}
+use Rattle.pb_runs.proofs.SoundLemmas.{Cells, IsMade}
 use Rattle.pb_runs.proofs.SpotLemmas.{spot_back}
 use Rattle.pb_runs.proofs.ViewLemmas.{HasMatrix, IsLocal, has_matrix, number_is}
+use Rattle.pb_runs.specs.Placed.{SpotCell, before, outcome_of}
 
 below_side : (z : ℤ) (n : ℕ) → n < natural z → pos n <ℤ z
 below_side (pos k) n h = omega (arith, ints, h)

@@ -13,8 +13,9 @@ use Rattle.pb_recursion.specs.Ordered.{IsGiven}
 use Rattle.pb_recursion.specs.Plans.{Names, named, names_of_reads, same_slot}
 use Rattle.pb_recursion.specs.Shapes.{Sides}
 use Rattle.pb_runs.specs.Seats.{Seat, no_seat}
-use Rattle.pb_runs.proofs.SeatLemmas.{HasCell, IsPlaced}
+use Rattle.pb_runs.proofs.SeatLemmas.{HasCell}
 use Rattle.pb_runs.proofs.SoundLemmas.{Cells}
+use Rattle.pb_runs.specs.Placed.{IsPlaced, before}
 
 -- ---- slots
 same_is : (a b : Slot) → same_slot a b ≡ true → a ≡ b

@@ -20,11 +20,12 @@ use Rattle.pb_recursion.specs.Shapes.{Sides, area, sides_of_decl}
 use Rattle.pb_runs.specs.Seats.{Seat, base_x, base_y, cell_at, no_seat}
 use Rattle.pb_runs.specs.Steps.{Instance, number_at, seat_in}
 use Rattle.pb_runs.specs.Unrolled.{Met, after_matrix, own_sides, seats_from, whole_seat}
-use Rattle.pb_runs.proofs.BaseLemmas.{before, before_grows, before_next, total}
+use Rattle.pb_runs.proofs.BaseLemmas.{before_grows, before_next}
 use Rattle.pb_runs.proofs.CountLemmas.{row_in}
 use Rattle.pb_runs.proofs.FailedLemmas.{HaveSides, seats_within}
-use Rattle.pb_runs.proofs.SeatLemmas.{HasCell, IsAt, IsPlaced, has_whole}
+use Rattle.pb_runs.proofs.SeatLemmas.{HasCell, has_whole}
 use Rattle.pb_runs.proofs.ViewLemmas.{HasMatrix, IsLocal, has_matrix, matrix_at}
+use Rattle.pb_runs.specs.Placed.{IsAt, before, total}
 
 -- ---- numbers in the matrices of a run
 module _ (ms : List Outcomes) where

@@ -39,7 +39,7 @@ use Rattle.pb_runs.specs.Matrices.{Below, call_below, call_matrices, calls_matri
 use Rattle.pb_runs.specs.Seats.{Seat, across, cell_at, down, is_turning, no_seat, part_seat, spot_at}
 use Rattle.pb_runs.specs.Steps.{Instance, Step, cells_in, number_at, seat_in, through}
 use Rattle.pb_runs.specs.Unrolled.{Done, Met, Played, Unroll, copies_of, plan_done, plan_played, unrolled_by, view_seat}
-use Rattle.pb_runs.proofs.BaseLemmas.{Reaches, Stands, total}
+use Rattle.pb_runs.proofs.BaseLemmas.{Reaches, Stands}
 use Rattle.pb_runs.proofs.BoxLemmas.{IsSituated, jobs, whole_within}
 use Rattle.pb_runs.proofs.CalledLemmas.{AreDeeper, AreNatural, calls_called}
 use Rattle.pb_runs.proofs.CopyLemmas.{copies_count, copies_sound}
@@ -47,10 +47,11 @@ use Rattle.pb_runs.proofs.CountLemmas.{counted, counted_append}
 use Rattle.pb_runs.proofs.JobLemmas.{IsKnown, box_known, own_cells}
 use Rattle.pb_runs.proofs.NameLemmas.{AreNamed, IsNamed, name_of_read}
 use Rattle.pb_runs.proofs.PlayedLemmas.{IsPlayed, all_played, of_calls}
-use Rattle.pb_runs.proofs.SeatLemmas.{HasCell, IsPlaced, part_across, part_cell, part_down, part_x, part_y}
-use Rattle.pb_runs.proofs.SoundLemmas.{Cells, Sound, SpotCell, cells_append, sound_append, with_cells}
+use Rattle.pb_runs.proofs.SeatLemmas.{HasCell, part_across, part_cell, part_down, part_x, part_y}
+use Rattle.pb_runs.proofs.SoundLemmas.{Cells, Sound, cells_append, sound_append, with_cells}
 use Rattle.pb_runs.proofs.SpotLemmas.{spot_cell}
 use Rattle.pb_runs.proofs.ViewLemmas.{IsLocal, cut_is, has_matrix, natural_end, one_cut, view_count, view_placed}
+use Rattle.pb_runs.specs.Placed.{SpotCell, total}
 
 -- a cell of what a view shows lies in its rectangle
 part_place : (v : ReadView) (s : Seat) (r : Rect) (c : ℕ) → HasCell (part_seat v s r) c → (x : ℕ) × (y : ℕ) × HasPlace r x y × (c ≡ cell_at s x y)

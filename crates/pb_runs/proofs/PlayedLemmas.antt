@@ -14,11 +14,12 @@ use Rattle.pb_recursion.specs.Shapes.{Sides}
 use Rattle.pb_runs.specs.Seats.{Seat, no_seat}
 use Rattle.pb_runs.specs.Steps.{Step, cells_in}
 use Rattle.pb_runs.specs.Unrolled.{Met, Played, Player, Unrolled, played}
-use Rattle.pb_runs.proofs.BaseLemmas.{Reaches, Stands, reaches_both, stands_left, stands_right, total, total_append}
+use Rattle.pb_runs.proofs.BaseLemmas.{Reaches, Stands, reaches_both, stands_left, stands_right, total_append}
 use Rattle.pb_runs.proofs.CountLemmas.{counted, counted_append, counted_row}
 use Rattle.pb_runs.proofs.NameLemmas.{Answer, AreNamed, IsNamed, after_named, named_more}
-use Rattle.pb_runs.proofs.SeatLemmas.{HasCell, IsPlaced}
+use Rattle.pb_runs.proofs.SeatLemmas.{HasCell}
 use Rattle.pb_runs.proofs.SoundLemmas.{Cells, IsDeep, Sound, cells_append, sound_append, with_cells}
+use Rattle.pb_runs.specs.Placed.{total}
 
 module _ (config : ConfigValue) (ms : List Outcomes) (sides : Slot → Sides) (player : Player) (make : PlanCallValue → List Outcomes → List Outcomes) (all : PlanCallValue → List Outcomes → List Outcomes) where
   -- the matrices of all calls

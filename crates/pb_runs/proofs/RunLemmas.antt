@@ -1,5 +1,5 @@
 -- Calls at each depth, and whole runs, are unrolled to what they mean.
-use Rattle.std.proofs.Common.{◌≡◌, ◌∙◌, refl, sym, ap, subst, inl, inr, ◌⊎◌, ⊎_elim, ℕ, zero, suc, ◌+◌, ◌<◌, true, List, [], ◌∷◌, ◌++◌, length, map, take, slice_get, Option, Some, None, arith}
+use Rattle.std.proofs.Common.{◌≡◌, ◌∙◌, refl, sym, ap, subst, inl, inr, ◌⊎◌, ⊎_elim, ℕ, zero, suc, ◌+◌, ◌<◌, ◌≤◌, true, List, [], ◌∷◌, ◌++◌, length, map, take, slice_get, Option, Some, None, arith}
 use Rattle.std.specs.List.{All, AllByRecursion, AllZip, Contains, range_with_len}
 use Rattle.std.specs.Option.{option_map_or}
 use Rattle.pb_linear.specs.Sizes.{leasts_of}
@@ -21,12 +21,18 @@ use Rattle.pb_runs.specs.Matrices.{Below, below_at, matrices_at, matrices_by, ma
 use Rattle.pb_runs.specs.Seats.{Seat, sides_of_seat}
 use Rattle.pb_runs.specs.Steps.{Step, boxes_of, cells_in, cells_of}
 use Rattle.pb_runs.specs.Unrolled.{Met, Unroll, Unrolled, after_matrices, deeper_unroll, found_for, nothing_met, own_sides, seats_from, unroll, unroll_one, unrolled_at, unrolled_run}
-use Rattle.pb_runs.proofs.BaseLemmas.{Stands, before, before_first, total}
+use Rattle.pb_runs.proofs.BaseLemmas.{Reaches, Stands, before_first, before_right, total_append}
 use Rattle.pb_runs.proofs.CalledLemmas.{AreDeeper, AreNatural, IsDeeper}
 use Rattle.pb_runs.proofs.FailedLemmas.{HaveSides, seats_placed, seats_reach, seats_within}
 use Rattle.pb_runs.proofs.InstanceLemmas.{instance_deep, own_have, sizes_same}
-use Rattle.pb_runs.proofs.SeatLemmas.{HasCell, IsPlaced}
-use Rattle.pb_runs.proofs.SoundLemmas.{Cells, IsDeep}
+use Rattle.pb_runs.proofs.SeatLemmas.{HasCell}
+use Rattle.pb_runs.proofs.CountLemmas.{counted, counted_in, counted_once, in_counted, in_row, row_few, row_in}
+use Rattle.pb_runs.proofs.SoundLemmas.{Cells, IsDeep, sound_at}
+use Rattle.pb_plan.proofs.OnceLemmas.{Once}
+use Rattle.pb_links.specs.declared.places.Spot.{Spot}
+use Rattle.pb_runs.specs.Laws.{IsEntered, IsThere}
+use Rattle.pb_runs.specs.Placed.{IsPlaced, SpotCell, before, total}
+use Rattle.pb_runs.specs.Right.{IsRight}
 use Rattle.pb_runs.proofs.ViewLemmas.{zip_at}
 
 all_to : {A : Type 0} (P : A → Type 0) (xs : List A) → All P xs → AllByRecursion P xs
@@ -80,3 +86,99 @@ module _ (config : ConfigValue) (ms : List Outcomes) (p : List ProgTransform) (f
     where
       by : (u : Unroll) → unroll p found config grain d ≡ u → IsDeeper config ms p (unroll p found config grain d) (matrices_at p found config grain d) (call_at p config d) → IsDeeper config ms p u (matrices_at p found config grain d) (call_at p config d)
       by u same h = subst (λ v. IsDeeper config ms p v (matrices_at p found config grain d) (call_at p config d)) same h
+
+-- ---- a run
+module _ (p : List ProgTransform) (found : List AnalysisValue) (config : ConfigValue) (grain depth number : ℕ) (ins : List Outcomes) (h : IsEntered p found config number ins) where
+  abbrev ms : List Outcomes
+  ms = run_matrices p found config grain depth number ins
+
+  abbrev pub run : Unrolled
+  run = unrolled_run p found config grain depth number (map sides_of_matrix ins)
+
+  abbrev inputs : List Sides
+  inputs = map sides_of_matrix ins
+
+  abbrev n : Met
+  n = after_matrices nothing_met inputs
+
+  abbrev given : Cells
+  given c = c < total ins
+
+  ins_have : (gs : List Outcomes) → AllByRecursion IsWhole gs → HaveSides ms (map sides_of_matrix gs) gs
+  ins_have [] w = tt
+  ins_have (g ∷ gs) w = ((refl, refl, w.0), ins_have gs w.1)
+
+  have : HaveSides ms inputs ins
+  have = ins_have ins (all_to IsWhole ins h.whole)
+
+  get_first : (xs ys : List Outcomes) (k : ℕ) (g : Outcomes) → slice_get xs k ≡ Some g → slice_get (xs ++ ys) k ≡ Some g
+  get_first [] ys k g e = absurd (let wrong : None ≡ Some g = e in cc)
+  get_first (x ∷ xs) ys zero g e = e
+  get_first (x ∷ xs) ys (suc k) g e = get_first xs ys k g e
+
+  get_second : (xs ys : List Outcomes) (k : ℕ) → slice_get (xs ++ ys) (length xs + k) ≡ slice_get ys k
+  get_second [] ys k = ap (slice_get ys) (omega arith)
+  get_second (z ∷ xs) ys k = let here : suc (length xs) + k ≡ suc (length xs + k) = omega arith in ap (slice_get (z ∷ (xs ++ ys))) here ∙ get_second xs ys k
+
+  abbrev made : List Outcomes
+  made = matrices_at p found config grain depth number ins
+
+  stands_ins : Stands ms nothing_met ins
+  stands_ins = record { at = λ k g e. (let here : 0 + k ≡ k = omega arith in ap (slice_get ms) here ∙ get_first ins made k g e); cells = before_first ms }
+
+  reach : Reaches ms nothing_met ins n
+  reach = seats_reach ms nothing_met inputs ins have
+
+  stands_made : Stands ms n made
+  stands_made = record {
+    at = λ k g e. (let here : n.matrices + k ≡ length ins + k = (let m = reach.matrices in omega (arith, m)) in ap (slice_get ms) here ∙ get_second ins made k ∙ e);
+    cells = (let m : n.matrices ≡ length ins + 0 = (let r = reach.matrices in omega (arith, r)) in ap (before ms) m ∙ before_right ins made 0 ∙ (let c = reach.cells in let none = before_first made in omega (arith, c, none)));
+  }
+
+  placed_ins : AllZip (IsPlaced ms) (seats_from nothing_met inputs) ins
+  placed_ins = seats_placed ms nothing_met inputs ins have stands_ins
+
+  known_ins : (s : Seat) → Contains (seats_from nothing_met inputs) s → (c : ℕ) → HasCell s c → given c
+  known_ins s there c has = let row = in_row c 0 (total ins) (seats_within ms nothing_met inputs ins have s there c has) in omega (arith, row.1)
+
+  deep : IsDeep config ms given n run made (call_at p config depth number ins)
+  deep = (depth_deep config ms p found grain h.well h.sound h.valid h.are_found depth number h.transform h.there given n (seats_from nothing_met inputs) ins placed_ins h.enters known_ins stands_made).0
+
+  pub run_placed : AllZip (IsPlaced ms) run.seats (call_at p config depth number ins)
+  run_placed = deep.placed
+
+  pub run_right : (k : ℕ) (s : Step) → slice_get run.steps k ≡ Some s → IsRight config ms s
+  run_right k s e = (sound_at config ms given run.steps k s deep.sound e).right
+
+  start : n.cells ≡ total ins
+  start = let r = reach.cells in omega (arith, r)
+
+  all_total : total ms ≡ total ins + total made
+  all_total = total_append ins made
+
+  pub run_once : Once (cells_in run.steps)
+  run_once = counted_once (cells_in run.steps) (λ c. few c)
+    where
+      few : (c : ℕ) → counted c (cells_in run.steps) ≤ 1
+      few c = let counts = deep.counts c in let one = row_few c n.cells (total made) in omega (arith, counts, one)
+
+  pub run_only : (c : ℕ) → Contains (cells_in run.steps) c → (total ins ≤ c) × (c < total ms)
+  run_only c there =
+      let counts = deep.counts c in
+      let some = in_counted c (cells_in run.steps) there in
+      let row = in_row c n.cells (total made) (counted_in c (range_with_len n.cells (total made)) (omega (arith, counts, some))) in
+      (omega (arith, row.0, start), omega (arith, row.1, start, all_total))
+
+  pub run_each : (c : ℕ) → total ins ≤ c → c < total ms → Contains (cells_in run.steps) c
+  run_each c low high =
+      let counts = deep.counts c in
+      let some = in_counted c (range_with_len n.cells (total made)) (row_in c n.cells (total made) (omega (arith, low, start)) (omega (arith, high, start, all_total))) in
+      counted_in c (cells_in run.steps) (omega (arith, counts, some))
+
+  pub run_before : (k : ℕ) (s : Step) → slice_get run.steps k ≡ Some s → (b : Spot) → Contains (boxes_of s) b → (c : ℕ) → SpotCell ms b c → IsThere ins run.steps k c
+  run_before k s e b there c cell = ⊎_elim
+      (⊎_elim
+      (λ input. inl input)
+      (λ earlier. inr (earlier.0, earlier.1, omega (arith, earlier.2), earlier.3, earlier.4)))
+      (λ own. inr (k, s, omega arith, e, own))
+      ((sound_at config ms given run.steps k s deep.sound e).reads b there c cell)

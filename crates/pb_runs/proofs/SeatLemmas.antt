@@ -14,10 +14,10 @@ use Rattle.pb_check.proofs.FirstLemmas.{some_at}
 use Rattle.pb_plan.proofs.NumberLemmas.{row_at, row_below, row_once}
 use Rattle.pb_recursion.specs.Depths.{IsWhole}
 use Rattle.pb_recursion.specs.Shapes.{Sides, area}
-use Rattle.pb_runs.specs.Right.{outcome_of}
 use Rattle.pb_runs.specs.Seats.{Seat, across, base_x, base_y, cell_at, down, is_turning, part_seat, rect_at, spot_at}
 use Rattle.pb_runs.specs.Unrolled.{Met, after_matrices, after_matrix, seats_from, whole_seat}
-use Rattle.pb_runs.proofs.BaseLemmas.{Reaches, Stands, before, before_all, before_grows, before_next, outcome_there, stands_left, stands_right, total}
+use Rattle.pb_runs.proofs.BaseLemmas.{Reaches, Stands, before_all, before_grows, before_next, outcome_there, stands_left, stands_right}
+use Rattle.pb_runs.specs.Placed.{IsPlaced, before, outcome_of}
 
 zero_plus : (n : ℕ) → 0 + n ≡ n
 zero_plus n = omega arith
@@ -95,26 +95,8 @@ module _ (v : ReadView) (s : Seat) (r : Rect) where
 
 -- ---- placed matrices
 module _ (ms : List Outcomes) where
-  -- a place of a seat has a cell of a matrix of the run, with this outcome
-  pub record IsAt (s : Seat) (x y : ℕ) (o : Outcome) : Type 0 where
-    pub grid : Outcomes
-    pub there : slice_get ms s.base ≡ Some grid
-    pub first : s.first ≡ before ms s.base
-    pub row : s.row ≡ grid.width
-    pub whole : IsWhole grid
-    pub inside_x : base_x s x y < grid.width
-    pub inside_y : base_y s x y < grid.height
-    pub is : outcome_of ms (cell_at s x y) ≡ o
-
-  -- a matrix stands there, with its outcomes
-  pub record IsPlaced (s : Seat) (m : Outcomes) : Type 0 where
-    pub width : m.width ≡ across s
-    pub height : m.height ≡ down s
-    pub whole : IsWhole m
-    pub cells : (x y : ℕ) → x < across s → y < down s → (o : Outcome) × (slice_get m.cells (y * m.width + x) ≡ Some o) × IsAt s x y o
-
   -- a matrix that has cells of its own
-  pub whole_placed : (n : Met) (s : Sides) (m : Outcomes) (rest : List Outcomes) → Stands ms n (m ∷ rest) → m.width ≡ natural s.0 → m.height ≡ natural s.1 → IsWhole m → IsPlaced (whole_seat n s) m
+  pub whole_placed : (n : Met) (s : Sides) (m : Outcomes) (rest : List Outcomes) → Stands ms n (m ∷ rest) → m.width ≡ natural s.0 → m.height ≡ natural s.1 → IsWhole m → IsPlaced ms (whole_seat n s) m
   unfolding cell_at
   whole_placed n s m rest stands width height whole = record {
     width = omega (arith, width);
@@ -144,7 +126,7 @@ module _ (ms : List Outcomes) where
     pub whole : IsWhole g
     pub cells : (x y : ℕ) → x < across (part_seat v s r) → y < down (part_seat v s r) → slice_get g.cells (y * g.width + x) ≡ slice_get m.cells (part_y v s r x y * m.width + part_x v s r x y)
 
-  pub part_placed : (v : ReadView) (s : Seat) (r : Rect) (m g : Outcomes) → IsPlaced s m → LiesIn v s r → IsPart v s r m g → IsPlaced (part_seat v s r) g
+  pub part_placed : (v : ReadView) (s : Seat) (r : Rect) (m g : Outcomes) → IsPlaced ms s m → LiesIn v s r → IsPart v s r m g → IsPlaced ms (part_seat v s r) g
   part_placed v s r m g placed lies part = record {
     width = part.width;
     height = part.height;

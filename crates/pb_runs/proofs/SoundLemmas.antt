@@ -11,9 +11,10 @@ use Rattle.pb_runs.specs.Right.{IsRight}
 use Rattle.pb_runs.specs.Seats.{Seat}
 use Rattle.pb_runs.specs.Steps.{Step, boxes_of, cells_in, cells_of}
 use Rattle.pb_runs.specs.Unrolled.{Met, Unrolled}
-use Rattle.pb_runs.proofs.BaseLemmas.{Reaches, before, total}
+use Rattle.pb_runs.proofs.BaseLemmas.{Reaches}
 use Rattle.pb_runs.proofs.CountLemmas.{counted, counted_in, in_counted, row_in}
-use Rattle.pb_runs.proofs.SeatLemmas.{HasCell, IsPlaced}
+use Rattle.pb_runs.proofs.SeatLemmas.{HasCell}
+use Rattle.pb_runs.specs.Placed.{IsPlaced, SpotCell, total}
 
 -- some cells, by their numbers
 abbrev pub Cells : Type 1
@@ -29,15 +30,6 @@ cells_append (s ∷ xs) ys = ap (λ l. cells_of s ++ l) (cells_append xs ys) ∙
     assoc : (xs ys zs : List ℕ) → (xs ++ ys) ++ zs ≡ xs ++ (ys ++ zs)
     assoc [] ys zs = refl
     assoc (x ∷ xs) ys zs = ap (λ l. x ∷ l) (assoc xs ys zs)
-
--- a spot of a matrix of the run has a cell
-pub record SpotCell (ms : List Outcomes) (b : Spot) (c : ℕ) : Type 0 where
-  pub grid : Outcomes
-  pub there : slice_get ms b.base ≡ Some grid
-  pub x : ℕ
-  pub y : ℕ
-  pub has : HasPlace b.rect x y
-  pub is : c ≡ before ms b.base + (y * grid.width + x)
 
 module _ (config : ConfigValue) (ms : List Outcomes) where
   -- a step is right, and reads what is known or what it makes

@@ -6,9 +6,7 @@ use Rattle.pb_values.specs.declared.rect.Rect.{Rect}
 use Rattle.pb_model.specs.Calls.{Outcomes}
 use Rattle.pb_check.proofs.FirstLemmas.{some_same}
 use Rattle.pb_runs.specs.Seats.{Seat, across, base_x, base_y, cell_at, down, rect_at, spot_at}
-use Rattle.pb_runs.proofs.BaseLemmas.{before}
-use Rattle.pb_runs.proofs.SeatLemmas.{IsAt, IsPlaced}
-use Rattle.pb_runs.proofs.SoundLemmas.{SpotCell}
+use Rattle.pb_runs.specs.Placed.{IsPlaced, SpotCell}
 
 -- a rectangle in the matrix of the run
 abbrev laid : Bool → ℕ → ℕ → Rect → Rect

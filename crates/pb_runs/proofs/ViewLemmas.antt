@@ -29,11 +29,11 @@ use Rattle.pb_solution.proofs.OutcomeLemmas.{index_at}
 use Rattle.pb_recursion.specs.Depths.{IsWhole, cut_into}
 use Rattle.pb_recursion.specs.Plans.{no_cell, sides_of_view}
 use Rattle.pb_recursion.specs.Shapes.{Sides, area, sides_of_area, span_length}
-use Rattle.pb_runs.specs.Right.{outcome_of}
 use Rattle.pb_runs.specs.Seats.{Seat, across, down, is_turning, no_seat, part_seat}
 use Rattle.pb_runs.specs.Steps.{Instance, number_at, seat_in}
 use Rattle.pb_runs.specs.Unrolled.{view_seat}
-use Rattle.pb_runs.proofs.SeatLemmas.{HasCell, IsAt, IsPart, IsPlaced, LiesIn, part_across, part_down, part_has, part_placed, part_x, part_y}
+use Rattle.pb_runs.proofs.SeatLemmas.{HasCell, IsPart, LiesIn, part_across, part_down, part_has, part_placed, part_x, part_y}
+use Rattle.pb_runs.specs.Placed.{IsAt, IsPlaced, outcome_of}
 
 pub zip_at : {A B : Type 0} (R : A → B → Type 0) (xs : List A) (ys : List B) (k : ℕ) (y : B) → AllZip R xs ys → slice_get ys k ≡ Some y → (x : A) × (slice_get xs k ≡ Some x) × R x y
 zip_at R [] [] k y h e = absurd (let wrong : None ≡ Some y = e in cc)

@@ -2,4 +2,6 @@ pub mod Seats
 pub mod Steps
 pub mod Unrolled
 pub mod Matrices
+pub mod Placed
 pub mod Right
+pub mod Laws

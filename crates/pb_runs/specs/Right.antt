@@ -12,6 +12,7 @@ use Rattle.pb_walk.specs.declared.stop.Stop.{Stop}
 use Rattle.pb_solution.specs.Solutions.{outcomes_of, stop_cell, stops_of}
 use Rattle.pb_runs.specs.Seats.{Seat, cell_at}
 use Rattle.pb_runs.specs.Steps.{Copied, Failed, Instance, Step, boxes_of, by_copy, by_job, by_trap, cells_of, copied_stops, number_at, stop_number}
+use Rattle.pb_runs.specs.Placed.{before, outcome_of}
 
 -- no plan plays a part
 abbrev pub no_plans : Plans
@@ -20,10 +21,6 @@ no_plans rule r c seen = no_outcome
 -- the place in the source of a copy
 abbrev pub source_number : Copied → Stop → ℕ
 source_number c s = cell_at c.source (s.x - c.corner.0) (s.y - c.corner.1)
-
--- the outcome of a cell of a run with these matrices
-abbrev pub outcome_of : List Outcomes → ℕ → Outcome
-outcome_of ms c = outcome_at (outcomes_of ms) c
 
 module _ (config : ConfigValue) (ms : List Outcomes) where
   -- a cell of a job is what its rule makes of the outcomes of what it reads

@@ -172,6 +172,10 @@ module _ (p : List ProgTransform) (deeper : Option Unroll) (i : Instance) where
       let later = jobs_done rest here.next in
       record { steps = here.steps ++ later.steps; next = later.next }
 
+-- before a run
+abbrev pub nothing_met : Met
+nothing_met = record { calls = 0; matrices = 0; cells = 0 }
+
 -- ---- instances
 abbrev pub no_unrolled : Met → Unrolled
 no_unrolled n = record { seats = []; steps = []; next = n }
@@ -215,9 +219,6 @@ module _ (p : List ProgTransform) (found : List AnalysisValue) (config : ConfigV
   deeper_unroll (suc d) = Some (unroll d)
 
   -- ---- a run
-  abbrev pub nothing_met : Met
-  nothing_met = record { calls = 0; matrices = 0; cells = 0 }
-
   -- its inputs stand first, and then its first call
   abbrev pub unrolled_run : ℕ → ℕ → List Sides → Unrolled
   unrolled_run depth number inputs = unroll depth number (seats_from nothing_met inputs) (after_matrices nothing_met inputs)

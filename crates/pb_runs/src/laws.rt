@@ -1,5 +1,43 @@
-ghost use Rattle.std.specs.Prelude.{◌≡◌, ℕ};
-/// A law.
-pub fn a_start()
-    ensures { (n : ℕ) → n ≡ n }
+ghost use Rattle.std.specs.Prelude.{◌≡◌, ◌↔◌, ◌<◌, ◌≤◌, ℕ, List, Some, map, slice_get};
+ghost use Rattle.std.specs.List.{AllZip, Contains};
+ghost use Rattle.pb_links.specs.declared.places.Spot.{Spot};
+ghost use Rattle.pb_program.specs.Configs.{ConfigValue};
+ghost use Rattle.pb_program.specs.Trees.{ProgTransform};
+ghost use Rattle.pb_model.specs.Calls.{Outcomes};
+ghost use Rattle.pb_check.specs.Orders.{AnalysisValue};
+ghost use Rattle.pb_taskgraph.specs.Graphs.{EachOnce};
+ghost use Rattle.pb_recursion.specs.Depths.{call_at, sides_of_matrix};
+ghost use Rattle.pb_runs.specs.Laws.{IsEntered, IsThere};
+ghost use Rattle.pb_runs.specs.Matrices.{run_matrices};
+ghost use Rattle.pb_runs.specs.Placed.{IsPlaced, SpotCell, total};
+ghost use Rattle.pb_runs.specs.Right.{IsRight};
+ghost use Rattle.pb_runs.specs.Steps.{Step, boxes_of, cells_in};
+ghost use Rattle.pb_runs.specs.Unrolled.{unrolled_run};
+
+/// A law: the matrices that a run gives are those of its first call, and stand where the seats of the unrolled run say.
+pub fn a_run_gives_what_its_call_means()
+    ensures { (p : List ProgTransform) (found : List AnalysisValue) (config : ConfigValue) (grain depth number : ℕ) (ins : List Outcomes) → IsEntered p found config number ins
+        → AllZip (IsPlaced (run_matrices p found config grain depth number ins)) (unrolled_run p found config grain depth number (map sides_of_matrix ins)).seats (call_at p config depth number ins) }
+{}
+
+/// A law: each step of a run is right: a cell that rules compute is what its chosen rule makes of the outcomes of what it reads, a
+/// copied cell has the outcome of its source, and each cell of a call that can't be made has its trap.
+pub fn each_step_is_right()
+    ensures { (p : List ProgTransform) (found : List AnalysisValue) (config : ConfigValue) (grain depth number : ℕ) (ins : List Outcomes) → IsEntered p found config number ins
+        → (k : ℕ) (s : Step) → slice_get (unrolled_run p found config grain depth number (map sides_of_matrix ins)).steps k ≡ Some s → IsRight config (run_matrices p found config grain depth number ins) s }
+{}
+
+/// A law: the steps of a run make all its cells but those that are given, each once.
+pub fn each_cell_of_a_run_is_made_once()
+    ensures once { (p : List ProgTransform) (found : List AnalysisValue) (config : ConfigValue) (grain depth number : ℕ) (ins : List Outcomes) → IsEntered p found config number ins
+        → EachOnce (cells_in (unrolled_run p found config grain depth number (map sides_of_matrix ins)).steps) }
+    ensures each { (p : List ProgTransform) (found : List AnalysisValue) (config : ConfigValue) (grain depth number : ℕ) (ins : List Outcomes) → IsEntered p found config number ins
+        → (c : ℕ) → Contains (cells_in (unrolled_run p found config grain depth number (map sides_of_matrix ins)).steps) c ↔ ((total ins ≤ c) × (c < total (run_matrices p found config grain depth number ins))) }
+{}
+
+/// A law: each cell of a box that a step reads is given, or made by a step before it, or by the step itself.
+pub fn what_a_step_reads_is_made_before()
+    ensures { (p : List ProgTransform) (found : List AnalysisValue) (config : ConfigValue) (grain depth number : ℕ) (ins : List Outcomes) → IsEntered p found config number ins
+        → (k : ℕ) (s : Step) → slice_get (unrolled_run p found config grain depth number (map sides_of_matrix ins)).steps k ≡ Some s → (b : Spot) → Contains (boxes_of s) b
+        → (c : ℕ) → SpotCell (run_matrices p found config grain depth number ins) b c → IsThere ins (unrolled_run p found config grain depth number (map sides_of_matrix ins)).steps k c }
 {}

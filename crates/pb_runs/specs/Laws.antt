@@ -1,0 +1,29 @@
+-- A run that can be entered: what its laws ask for, and what they say.
+use Rattle.std.specs.Prelude.{◌≡◌, ◌⊎◌, ℕ, ◌<◌, ◌≤◌, IsTrue, List, map, Some, slice_get}
+use Rattle.std.specs.List.{All, Contains}
+use Rattle.pb_program.specs.Configs.{ConfigValue, IsValid}
+use Rattle.pb_program.specs.Trees.{ProgTransform}
+use Rattle.pb_program.specs.WellFormed.{IsWellFormed}
+use Rattle.pb_model.specs.Calls.{Outcomes}
+use Rattle.pb_check.specs.Orders.{AnalysisValue, AreFound}
+use Rattle.pb_check.specs.Phases.{IsSound}
+use Rattle.pb_recursion.specs.Depths.{IsWhole, sides_of_matrix}
+use Rattle.pb_recursion.specs.Shapes.{can_enter}
+use Rattle.pb_runs.specs.Placed.{total}
+use Rattle.pb_runs.specs.Steps.{Step, cells_of}
+
+-- of an accepted program, with what is found of its transforms, and a valid configuration: a transform by its number, and
+-- matrices that can enter it
+pub record IsEntered (p : List ProgTransform) (found : List AnalysisValue) (config : ConfigValue) (number : ℕ) (ins : List Outcomes) : Type 0 where
+  pub well : IsWellFormed p
+  pub sound : IsSound p
+  pub are_found : AreFound p found
+  pub valid : IsValid p config
+  pub transform : ProgTransform
+  pub there : slice_get p number ≡ Some transform
+  pub whole : All IsWhole ins
+  pub enters : IsTrue (can_enter transform (map sides_of_matrix ins))
+
+-- a cell is given to the run; or a step makes it that stands before the step with this number, or is this one
+abbrev pub IsThere : List Outcomes → List Step → ℕ → ℕ → Type 0
+IsThere ins steps k c = (c < total ins) ⊎ ((u : ℕ) × (s : Step) × (u ≤ k) × (slice_get steps u ≡ Some s) × Contains (cells_of s) c)
