@@ -1,15 +1,12 @@
 -- The matrices of a run, one after the other, and the numbers of their cells.
-use Rattle.std.proofs.Common.{◌≡◌, ◌∙◌, refl, sym, ap, subst, ⊎_elim, ℕ, zero, suc, ◌+◌, ◌-◌, ◌*◌, ◌<◌, ◌≤◌, List, [], ◌∷◌, ◌++◌, length, slice_get, Some, None, arith, length-append}
-use Rattle.std.specs.Prelude.{slice_index_or}
-use Rattle.std.specs.List.{All, flat_map}
-use Rattle.std.proofs.lemmas.Bool.{cases_lt}
+use Rattle.std.proofs.Common.{◌≡◌, ◌∙◌, refl, sym, ap, subst, ℕ, zero, suc, ◌+◌, ◌≤◌, List, [], ◌∷◌, ◌++◌, length, slice_get, Some, None, arith, length-append}
+use Rattle.std.specs.List.{flat_map}
 use Rattle.pb_values.specs.declared.outcome.Outcome.{Outcome}
 use Rattle.pb_model.specs.Calls.{Outcomes, no_outcome}
 use Rattle.pb_taskgraph.specs.Plans.{outcome_at}
-use Rattle.pb_tasks.proofs.FlatLemmas.{at_flat, flat_at, start}
+use Rattle.pb_tasks.proofs.FlatLemmas.{flat_at, start}
 use Rattle.pb_solution.proofs.OutcomeLemmas.{index_at}
 use Rattle.pb_solution.specs.Solutions.{outcomes_of}
-use Rattle.pb_recursion.specs.Depths.{IsWhole}
 use Rattle.pb_runs.specs.Unrolled.{Met}
 use Rattle.pb_runs.specs.Placed.{before, total}
 

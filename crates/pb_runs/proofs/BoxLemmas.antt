@@ -1,15 +1,14 @@
 -- What a job of an instance reads: cells that are given, or that jobs before it make.
-use Rattle.std.proofs.Common.{◌≡◌, ◌∙◌, refl, sym, ap, subst, inl, inr, ◌⊎◌, ⊎_elim, ℕ, zero, suc, ◌+◌, ◌-◌, ◌<◌, ◌≤◌, ℤ, pos, negsuc, ◌≤ℤ◌, ◌<ℤ◌, Bool, true, false, List, [], ◌∷◌, length, map, slice_get, Option, Some, None, arith}
-use Rattle.std.specs.Prelude.{◌==◌, ◌≢◌}
+use Rattle.std.proofs.Common.{◌≡◌, ◌∙◌, refl, sym, ap, subst, inl, inr, ◌⊎◌, ⊎_elim, ℕ, ◌-◌, ◌<◌, ◌≤◌, ℤ, pos, negsuc, ◌≤ℤ◌, Bool, true, false, List, [], length, map, slice_get, Option, Some, None, arith}
+use Rattle.std.specs.Prelude.{◌==◌}
 use Rattle.std.specs.Int.{int_max}
-use Rattle.std.specs.List.{All, AllByRecursion, Contains, flat_map}
+use Rattle.std.specs.List.{Contains}
 use Rattle.std.specs.Option.{option_map_or}
-use Rattle.std.proofs.lemmas.Bool.{cases_lt, eq-eqb, eqb-true}
+use Rattle.std.proofs.lemmas.Bool.{eq-eqb, eqb-true}
 use Rattle.std.proofs.lemmas.Int.{ints}
 use Rattle.pb_linear.specs.Numbers.{exact_value}
 use Rattle.pb_linear.specs.Sizes.{InRange, leasts_of}
 use Rattle.pb_values.specs.Views.{HasPlace}
-use Rattle.pb_values.specs.declared.rect.Rect.{Rect}
 use Rattle.pb_program.specs.Areas.{Area, area_of}
 use Rattle.pb_program.specs.Conditions.{Applies}
 use Rattle.pb_program.specs.Configs.{ConfigValue, IsValid}
@@ -32,10 +31,9 @@ use Rattle.pb_frame.specs.Frames.{HoldsCell, JobValue}
 use Rattle.pb_frame.specs.declared.part.FramePart.{FramePart}
 use Rattle.pb_frame.proofs.PartLemmas.{held_area, held_chosen, held_made, of_part}
 use Rattle.pb_graph.specs.Nodes.{NodeValue}
-use Rattle.pb_links.specs.Links.{predecessors}
 use Rattle.pb_links.specs.declared.places.Spot.{Spot}
 use Rattle.pb_links.proofs.LawLemmas.{before-shares}
-use Rattle.pb_tasks.specs.Boxes.{boxes_by, part_area, part_box, part_boxes, shown_at, spot_of, whole_box, whole_boxes}
+use Rattle.pb_tasks.specs.Boxes.{boxes_by, part_area, part_box, part_boxes, shown_at, spot_of, whole_box}
 use Rattle.pb_tasks.specs.Made.{IsMadeBy, jobs_for}
 use Rattle.pb_tasks.proofs.BeforeLemmas.{at_box, at_part, boxed, first_part, home, lower_or_same, own_layer, parts, places, some_places, stands_before}
 use Rattle.pb_tasks.proofs.JobLemmas.{part_of, placed}
@@ -43,7 +41,6 @@ use Rattle.pb_tasks.proofs.MadeLemmas.{chosen, made_by}
 use Rattle.pb_tasks.proofs.SpreadLemmas.{shown_is}
 use Rattle.pb_tasks.proofs.WideLemmas.{shown_same}
 use Rattle.pb_runs.specs.Steps.{Instance}
-use Rattle.pb_runs.specs.Placed.{before}
 
 -- an instance of an accepted program, with a valid configuration and sizes in range
 pub record IsSituated (config : ConfigValue) (p : List ProgTransform) (i : Instance) : Type 0 where
@@ -168,17 +165,29 @@ module _ (config : ConfigValue) (p : List ProgTransform) (i : Instance) (grain :
           let jobs_same : d.job ≡ job = some_same d.job job (sym d.is ∙ ap (slice_get jobs) is ∙ e) in
           let of = in_at d.job.parts l d.part d.has in
           let boxes = boxed config i.number t i.found i.sizes grain inst at.valid j job e s h in
-          inr (is, ⊎_elim
-          (λ lower. absurd (let own = own_layer config i.number t i.found i.sizes grain inst at.valid j job e d.part (subst (λ (w : JobValue). Contains w.parts d.part) jobs_same of) in let other = own_layer config i.number t i.found i.sizes grain inst at.valid j job e boxes.part boxes.of in omega (arith, lower, own, other)))
-          (λ block. block.0)
-          (lower_or_same config i.number t i.found i.sizes grain inst at.valid j job e s boxes d.part.node d.holds.node d.holds.there (base ∙ sym d.holds.matrix) c.x c.y place
-          (held_area config i.number t i.found i.sizes inst d.part c (home config i.number t i.found i.sizes grain inst at.valid u d.job d.is d.part of) d.holds)))
+          inr (
+            is,
+            ⊎_elim
+                (λ lower. absurd (let own = own_layer config i.number t i.found i.sizes grain inst at.valid j job e d.part (subst (λ (w : JobValue). Contains w.parts d.part) jobs_same of) in let other = own_layer config i.number t i.found i.sizes grain inst at.valid j job e boxes.part boxes.of in omega (arith, lower, own, other)))
+                (λ block. block.0)
+                (lower_or_same config i.number t i.found i.sizes grain inst at.valid j job e s boxes d.part.node d.holds.node d.holds.there (base ∙ sym d.holds.matrix) c.x c.y place
+                (held_area config i.number t i.found i.sizes inst d.part c (home config i.number t i.found i.sizes grain inst at.valid u d.job d.is d.part of) d.holds)),
+          )
       decide u l d false other =
-          inl (stands_before config i.number t i.found i.sizes grain inst at.valid j u ((before-shares (places config i.number t i.found i.sizes grain inst at.valid) j u).1
-          ((λ same. differs u j other same),
-          (c.matrix, (c.x, (c.y,
-          (spot_of i.found.nodes d.part, at_part config i.number t i.found i.sizes grain inst at.valid u d.job d.part d.is (in_at d.job.parts l d.part d.has), ap (λ o. option_map_or (λ (n : NodeValue). n.matrix) o 0) d.holds.there ∙ d.holds.matrix, d.holds.place),
-          (s, at_box config i.number t i.found i.sizes grain inst at.valid j job s e h, base, place)))))))
+          inl (stands_before config i.number t i.found i.sizes grain inst at.valid j u ((before-shares (places config i.number t i.found i.sizes grain inst at.valid) j u).1 (
+            (λ same. differs u j other same),
+            (
+              c.matrix,
+              (
+                c.x,
+                (
+                  c.y,
+                  (spot_of i.found.nodes d.part, at_part config i.number t i.found i.sizes grain inst at.valid u d.job d.part d.is (in_at d.job.parts l d.part d.has), ap (λ o. option_map_or (λ (n : NodeValue). n.matrix) o 0) d.holds.there ∙ d.holds.matrix, d.holds.place),
+                  (s, at_box config i.number t i.found i.sizes grain inst at.valid j job s e h, base, place),
+                ),
+              ),
+            ),
+          )))
         where
           differs : (x y : ℕ) → (x == y) ≡ false → x ≡ y → ⊥
           differs x y e same = let wrong : true ≡ false = sym (eq-eqb x y same) ∙ e in cc

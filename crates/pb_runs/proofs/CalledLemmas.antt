@@ -1,7 +1,7 @@
 -- A call of a plan is unrolled to what it means.
-use Rattle.std.proofs.Common.{◌≡◌, ◌∙◌, refl, sym, ap, subst, inl, inr, ◌⊎◌, ℕ, zero, suc, ◌+◌, ℤ, pos, Bool, true, false, List, [], ◌∷◌, ◌++◌, drop, length, map, take, slice_get, Option, Some, None, arith}
+use Rattle.std.proofs.Common.{◌≡◌, ◌∙◌, refl, sym, ap, subst, inr, ℕ, zero, suc, ◌+◌, Bool, true, false, List, [], ◌∷◌, drop, map, take, slice_get, Option, Some, None, arith}
 use Rattle.std.specs.Prelude.{if◌then◌else◌}
-use Rattle.std.specs.List.{All, AllByRecursion, AllZip, Contains, range_with_len}
+use Rattle.std.specs.List.{AllByRecursion, AllZip, Contains}
 use Rattle.std.specs.Option.{option_map_or}
 use Rattle.std.proofs.lemmas.Bool.{and_parts}
 use Rattle.pb_linear.specs.Sizes.{leasts_of}
@@ -9,7 +9,6 @@ use Rattle.pb_values.specs.declared.outcome.Kind.{Kind}
 use Rattle.pb_values.specs.declared.outcome.Kind.TheVariants.{BadShape, DepthEnded}
 use Rattle.pb_program.specs.declared.plan.Slot.{Slot}
 use Rattle.pb_program.specs.Configs.{ConfigValue}
-use Rattle.pb_program.specs.Forms.{DeclValue}
 use Rattle.pb_program.specs.Plans.{PlanCallValue}
 use Rattle.pb_program.specs.Trees.{ProgRule, ProgTransform}
 use Rattle.pb_model.specs.Calls.{Outcomes}
@@ -24,11 +23,11 @@ use Rattle.pb_recursion.proofs.ShapeLemmas.{same_is}
 use Rattle.pb_runs.specs.Matrices.{AllMade, Below, call_below, call_matrices}
 use Rattle.pb_runs.specs.Seats.{Seat, no_seat}
 use Rattle.pb_runs.specs.Steps.{Instance, cells_in}
-use Rattle.pb_runs.specs.Unrolled.{Met, Player, Unroll, Unrolled, failed, given_back, own_sides, unrolled_by}
+use Rattle.pb_runs.specs.Unrolled.{Met, Player, Unroll, failed, given_back, own_sides, unrolled_by}
 use Rattle.pb_runs.proofs.BaseLemmas.{Stands}
 use Rattle.pb_runs.proofs.FailedLemmas.{HaveSides, failed_deep, filled_sides}
 use Rattle.pb_runs.proofs.FitLemmas.{HaveNatural, fits_enters}
-use Rattle.pb_runs.proofs.NameLemmas.{Answer, AreNamed, IsNamed, named_known, named_placed}
+use Rattle.pb_runs.proofs.NameLemmas.{Answer, AreNamed, named_known, named_placed}
 use Rattle.pb_runs.proofs.PlayedLemmas.{AreCalled, IsCalled}
 use Rattle.pb_runs.proofs.SeatLemmas.{HasCell}
 use Rattle.pb_runs.proofs.SoundLemmas.{Cells, IsDeep, deep_made, with_cells}
@@ -101,9 +100,10 @@ module _ (config : ConfigValue) (ms : List Outcomes) (p : List ProgTransform) wh
     answers known (t ∷ ts) (w ∷ ws) [] (m ∷ mats) same have placed cells = absurd placed
     answers known (t ∷ ts) (w ∷ ws) (s ∷ seats) (m ∷ mats) same have placed cells =
         let parts = and_parts (same_sides w (sides t)) (all_same_sides ws (map sides ts)) same in
-        let here = same_is w (sides t) parts.0 in
-        (record { placed = placed.0; width = have.0.0 ∙ ap natural here.0; height = have.0.1 ∙ ap natural here.1; cells = cells s (in_head s seats) },
-        answers known ts ws seats mats parts.1 have.1 placed.1 (λ q there. cells q (in_tail s q seats there)))
+        let here = same_is w (sides t) parts.0 in (
+          record { placed = placed.0; width = have.0.0 ∙ ap natural here.0; height = have.0.1 ∙ ap natural here.1; cells = cells s (in_head s seats) },
+          answers known ts ws seats mats parts.1 have.1 placed.1 (λ q there. cells q (in_tail s q seats there)),
+        )
 
     -- targets of a call that can't be made
     filled_answers : (known : Cells) (targets : List Slot) (seats : List Seat) (mats : List Outcomes) → HaveSides ms (map sides targets) mats → AllZip (IsPlaced ms) seats mats
@@ -111,9 +111,10 @@ module _ (config : ConfigValue) (ms : List Outcomes) (p : List ProgTransform) wh
     filled_answers known [] seats mats have placed cells = tt
     filled_answers known (t ∷ ts) seats [] have placed cells = absurd have
     filled_answers known (t ∷ ts) [] (m ∷ mats) have placed cells = absurd placed
-    filled_answers known (t ∷ ts) (s ∷ seats) (m ∷ mats) have placed cells =
-        (record { placed = placed.0; width = have.0.0; height = have.0.1; cells = cells s (in_head s seats) },
-        filled_answers known ts seats mats have.1 placed.1 (λ q there. cells q (in_tail s q seats there)))
+    filled_answers known (t ∷ ts) (s ∷ seats) (m ∷ mats) have placed cells = (
+      record { placed = placed.0; width = have.0.0; height = have.0.1; cells = cells s (in_head s seats) },
+      filled_answers known ts seats mats have.1 placed.1 (λ q there. cells q (in_tail s q seats there)),
+    )
 
     -- the arguments have the sides of their names
     naturals : (known : Cells) (made : List Slot) (ss : Names Seat) (mm : Names Outcomes) (slots : List Slot) → AreNamed ms sides known made ss mm → AllByRecursion (IsGiven made) slots → HaveNatural (map sides slots) (map (named no_grid mm) slots)
@@ -156,10 +157,11 @@ module _ (config : ConfigValue) (ms : List Outcomes) (p : List ProgTransform) wh
         let placed : AllZip (IsPlaced ms) (given_back p c un).seats (drop t.middles own) = subst (λ l. AllZip (IsPlaced ms) l (drop t.middles own)) (sym back) (drop_zip (IsPlaced ms) t.middles un.seats own deep.placed) in
         let inside : (s : Seat) → Contains (given_back p c un).seats s → Contains un.seats s = λ s h. in_drop t.middles un.seats s (subst (λ l. Contains l s) back h) in
         let decls : drop t.middles (own_sides t (sizes_given t ins)) ≡ map (sides_of_decl (sizes_given t ins)) (drop (t.inputs + t.middles) t.matrices) = drop_map (sides_of_decl (sizes_given t ins)) t.middles (drop t.inputs t.matrices) ∙ ap (map (sides_of_decl (sizes_given t ins))) (drop_drop t.inputs t.middles t.matrices) in
-        let have : HaveSides ms (map (sides_of_decl (sizes_given t ins)) (drop (t.inputs + t.middles) t.matrices)) (drop t.middles own) = subst (λ l. HaveSides ms l (drop t.middles own)) decls (drop_sides ms t.middles (own_sides t (sizes_given t ins)) own called.1) in
-        (record { placed = placed; within = λ s h c has. deep.within s (inside s h) c has; sound = deep.sound; counts = deep.counts; reaches = deep.reaches },
-        answers (with_cells known (cells_in un.steps)) c.targets (map (sides_of_decl (sizes_given t ins)) (drop (t.inputs + t.middles) t.matrices)) (given_back p c un).seats (drop t.middles own) enters.1 have placed
-        (λ s h cell has. inr (deep_made config ms known n un (b.all c.transform ins) own deep s (inside s h) cell has)))
+        let have : HaveSides ms (map (sides_of_decl (sizes_given t ins)) (drop (t.inputs + t.middles) t.matrices)) (drop t.middles own) = subst (λ l. HaveSides ms l (drop t.middles own)) decls (drop_sides ms t.middles (own_sides t (sizes_given t ins)) own called.1) in (
+          record { placed = placed; within = λ s h c has. deep.within s (inside s h) c has; sound = deep.sound; counts = deep.counts; reaches = deep.reaches },
+          answers (with_cells known (cells_in un.steps)) c.targets (map (sides_of_decl (sizes_given t ins)) (drop (t.inputs + t.middles) t.matrices)) (given_back p c un).seats (drop t.middles own) enters.1 have placed
+              (λ s h cell has. inr (deep_made config ms known n un (b.all c.transform ins) own deep s (inside s h) cell has)),
+        )
 
     module _ (deeper : Option Unroll) (below : Option Below) where
       abbrev player : Player

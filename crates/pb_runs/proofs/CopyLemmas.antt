@@ -1,18 +1,16 @@
 -- The copies after the calls of a plan: each cell of its job, once, from the matrix that was made for its output.
-use Rattle.std.proofs.Common.{◌≡◌, ◌∙◌, refl, sym, ap, subst, inl, inr, ◌⊎◌, ⊎_elim, ℕ, zero, suc, ◌+◌, ◌-◌, ◌*◌, ◌<◌, ◌≤◌, ℤ, pos, Bool, true, false, ◌&&◌, List, [], ◌∷◌, ◌++◌, length, map, max, min, slice_get, Option, Some, None, arith}
-use Rattle.std.specs.Prelude.{◌==◌, nat_lt, IsSomeAnd, filter, if◌then◌else◌, unwrap_or}
-use Rattle.std.specs.List.{AllByRecursion, Contains, enumerate_from, flat_map, list_any}
+use Rattle.std.proofs.Common.{◌≡◌, ◌∙◌, refl, sym, ap, subst, inl, ℕ, zero, suc, ◌+◌, ◌-◌, ◌<◌, ◌≤◌, pos, Bool, true, false, ◌&&◌, List, [], ◌∷◌, ◌++◌, length, map, slice_get, Option, Some, None, arith}
+use Rattle.std.specs.Prelude.{◌==◌, nat_lt, IsSomeAnd, filter, unwrap_or}
+use Rattle.std.specs.List.{Contains, enumerate_from, flat_map, list_any}
 use Rattle.std.specs.Option.{option_map_or}
 use Rattle.std.proofs.lemmas.Bool.{and_parts, eq-eqb, eqb-true}
 use Rattle.std.proofs.lemmas.Bool.Decides.{nat_tests}
-use Rattle.std.proofs.lemmas.Int.{ints}
 use Rattle.pb_linear.specs.Numbers.{exact_value}
 use Rattle.pb_linear.specs.Sizes.{leasts_of}
 use Rattle.pb_values.specs.Views.{HasPlace}
-use Rattle.pb_values.specs.declared.outcome.Outcome.{Outcome}
 use Rattle.pb_values.specs.declared.rect.Rect.{Rect}
 use Rattle.pb_graph.specs.Nodes.{NodeValue}
-use Rattle.pb_program.specs.Areas.{Area, IsIn, area_of}
+use Rattle.pb_program.specs.Areas.{Area, area_of}
 use Rattle.pb_program.specs.Conditions.{Applies}
 use Rattle.pb_program.specs.Configs.{ConfigValue}
 use Rattle.pb_program.specs.Forms.{DeclValue}
@@ -30,12 +28,12 @@ use Rattle.pb_region.specs.Overlaps.{HasNoOverlap}
 use Rattle.pb_region.specs.Rules.{IsAccepted}
 use Rattle.pb_region.specs.Within.{IsWithin}
 use Rattle.pb_region.proofs.SmallLemmas.{at_place}
-use Rattle.pb_base.proofs.ListLemmas.{at_in, filter_in, flat_in, in_at, in_filter, in_flat, in_head, in_map, in_none, in_tail, map_in}
+use Rattle.pb_base.proofs.ListLemmas.{at_in, filter_in, flat_in, in_at, in_filter, in_flat, in_head, in_map, in_tail, map_in}
 use Rattle.pb_model.specs.Calls.{IsSettled, Outcomes, Plans, made_by, no_outcome, outcome_in, rule_of}
 use Rattle.pb_model.specs.Cells.{Cell, cells_of as area_cells, cells_of_view, natural, reads}
 use Rattle.pb_model.specs.Chosen.{chosen_rule}
 use Rattle.pb_model.specs.Equations.{shown_area}
-use Rattle.pb_model.specs.Grids.{Grid, at_place as in_grid, no_grid}
+use Rattle.pb_model.specs.Grids.{at_place as in_grid, no_grid}
 use Rattle.pb_model.specs.Lawful.{WritesBy, output_holds}
 use Rattle.pb_check.specs.Ranked.{IsMadeCell}
 use Rattle.pb_check.specs.Phases.{IsBounded}
@@ -43,9 +41,9 @@ use Rattle.pb_check.proofs.FirstLemmas.{all_at}
 use Rattle.pb_calls.proofs.InsideLemmas.{output_within}
 use Rattle.pb_frame.specs.Frames.{HoldsCell, JobValue, cut_by, has_cell, has_place, part_of as frame_part, within}
 use Rattle.pb_frame.specs.declared.part.FramePart.{FramePart}
-use Rattle.pb_frame.proofs.PartLemmas.{held_made, of_part, one_part}
+use Rattle.pb_frame.proofs.PartLemmas.{of_part, one_part}
 use Rattle.pb_links.specs.declared.places.Spot.{Spot}
-use Rattle.pb_tasks.specs.Boxes.{rect_from, spot_of}
+use Rattle.pb_tasks.specs.Boxes.{spot_of}
 use Rattle.pb_tasks.specs.Made.{IsMadeBy}
 use Rattle.pb_tasks.proofs.BeforeLemmas.{home, parts}
 use Rattle.pb_tasks.proofs.JobLemmas.{at_map, map_at, part_of, placed, rising_parts}
@@ -59,20 +57,18 @@ use Rattle.pb_walk.proofs.WalkLemmas.{in_walk, walk_in, walked_once}
 use Rattle.pb_plan.proofs.OnceLemmas.{Once, once_flat, once_map}
 use Rattle.pb_solution.specs.Solutions.{steps_by, stop_cell, stops_of}
 use Rattle.pb_solution.proofs.OrderLemmas.{one_piece, stop_made}
-use Rattle.pb_recursion.specs.Depths.{Call, cut_into, in_outputs_of, plan_names, plans_over}
+use Rattle.pb_recursion.specs.Depths.{Call, in_outputs_of, plan_names, plans_over}
 use Rattle.pb_recursion.specs.Plans.{Names, named, no_cell, sides_of_slot, sides_of_view}
 use Rattle.pb_recursion.specs.Shapes.{Sides, sides_of_area, span_length}
 use Rattle.pb_runs.specs.Matrices.{read_matrices}
-use Rattle.pb_runs.specs.Right.{source_number}
 use Rattle.pb_runs.specs.Seats.{Seat, across, cell_at, down, no_seat, spot_at}
-use Rattle.pb_runs.specs.Steps.{Copied, Instance, Step, by_copy, cells_in, cells_of, from_corner, number_at, stop_number}
+use Rattle.pb_runs.specs.Steps.{Copied, Instance, by_copy, cells_in, cells_of, from_corner, number_at, stop_number}
 use Rattle.pb_runs.specs.Unrolled.{copies_of, copy_step, is_part_of, output_parts, output_rect}
 use Rattle.pb_runs.proofs.BoxLemmas.{IsSituated, inst, jobs}
 use Rattle.pb_runs.proofs.CountLemmas.{counted, counted_same}
-use Rattle.pb_runs.proofs.JobLemmas.{made_own, made_value, own_cells, rule_for}
+use Rattle.pb_runs.proofs.JobLemmas.{made_own, made_value, own_cells}
 use Rattle.pb_runs.proofs.NameLemmas.{IsNamed}
 use Rattle.pb_runs.proofs.OutputLemmas.{Holds, holds_is, in_output, one_output, some_output}
-use Rattle.pb_runs.proofs.SeatLemmas.{HasCell}
 use Rattle.pb_runs.proofs.SoundLemmas.{Cells, IsMade, Sound, cells_append, sound_append, sound_more, with_cells}
 use Rattle.pb_runs.proofs.SpotLemmas.{spot_back}
 use Rattle.pb_runs.proofs.ViewLemmas.{IsLocal, span_is}
@@ -80,9 +76,10 @@ use Rattle.pb_runs.specs.Placed.{SpotCell, outcome_of}
 
 -- ---- rectangles that are cut
 cut_place : (a b : Rect) (x y : ℕ) → HasPlace (cut_by a b) x y → HasPlace a x y × HasPlace b x y
-cut_place a b x y h =
-    (record { left = omega (arith, h.left); right = omega (arith, h.right); low = omega (arith, h.low); high = omega (arith, h.high) },
-    record { left = omega (arith, h.left); right = omega (arith, h.right); low = omega (arith, h.low); high = omega (arith, h.high) })
+cut_place a b x y h = (
+  record { left = omega (arith, h.left); right = omega (arith, h.right); low = omega (arith, h.low); high = omega (arith, h.high) },
+  record { left = omega (arith, h.left); right = omega (arith, h.right); low = omega (arith, h.low); high = omega (arith, h.high) },
+)
 
 place_cut : (a b : Rect) (x y : ℕ) → HasPlace a x y → HasPlace b x y → HasPlace (cut_by a b) x y
 place_cut a b x y h k = record { left = omega (arith, h.left, k.left); right = omega (arith, h.right, k.right); low = omega (arith, h.low, k.low); high = omega (arith, h.high, k.high) }
@@ -379,11 +376,13 @@ module _ (config : ConfigValue) (ms : List Outcomes) (p : List ProgTransform) (i
             let places = cut_place (out_rect o) q.0.rect cut.x0 cut.y0 (record { left = omega arith; right = test_below cut.x0 cut.x1 tests.0; low = omega arith; high = test_below cut.y0 cut.y1 tests.1 }) in
             let node = of_part i.number t i.found i.sizes (inst config p i grain at) config q.0 (home config i.number t i.found i.sizes grain (inst config p i grain at) at.valid j job e q.0 among.0) in
             let right : cut.x1 ≤ (out_rect o).x1 = omega arith in
-            let high : cut.y1 ≤ (out_rect o).y1 = omega arith in
-            (record { matrix = node.0.matrix; x = cut.x0; y = cut.y0 },
-            record { part = q.0; of = among.0; holds = record { node = node.0; there = node.1; matrix = refl; place = places.1 } },
-            sym (eqb-true (spot_of i.found.nodes q.0).base o.matrix on.0) ∙ base_is q.0 node.0 node.1,
-            subst (λ (z : FramePart). z.rect.x1 ≤ (out_rect o).x1) q.2 right, subst (λ (z : FramePart). z.rect.y1 ≤ (out_rect o).y1) q.2 high)
+            let high : cut.y1 ≤ (out_rect o).y1 = omega arith in (
+              record { matrix = node.0.matrix; x = cut.x0; y = cut.y0 },
+              record { part = q.0; of = among.0; holds = record { node = node.0; there = node.1; matrix = refl; place = places.1 } },
+              sym (eqb-true (spot_of i.found.nodes q.0).base o.matrix on.0) ∙ base_is q.0 node.0 node.1,
+              subst (λ (z : FramePart). z.rect.x1 ≤ (out_rect o).x1) q.2 right,
+              subst (λ (z : FramePart). z.rect.y1 ≤ (out_rect o).y1) q.2 high,
+            )
 
         copy_made : IsMade config ms known (by_copy i copied)
         copy_made = record {

@@ -1,27 +1,23 @@
 -- Calls that can't be made: a trap in each cell of their targets.
-use Rattle.std.proofs.Common.{◌≡◌, ◌∙◌, refl, sym, ap, subst, inl, inr, ◌⊎◌, ⊎_elim, ℕ, zero, suc, ◌+◌, ◌-◌, ◌*◌, ◌<◌, ◌≤◌, Bool, true, false, List, [], ◌∷◌, ◌++◌, length, map, slice_get, Some, None, arith, length-append}
+use Rattle.std.proofs.Common.{◌≡◌, ◌∙◌, refl, sym, ap, subst, inl, inr, ℕ, zero, suc, ◌+◌, ◌-◌, ◌*◌, Bool, true, false, List, [], ◌∷◌, ◌++◌, length, map, slice_get, Some, None, arith}
 use Rattle.std.specs.Prelude.{filter, replicate, nat_lt, ◌&&◌}
-use Rattle.std.specs.List.{All, AllZip, Contains, flat_map, range_with_len}
-use Rattle.std.proofs.lemmas.Bool.{cases_lt}
+use Rattle.std.specs.List.{AllZip, Contains, flat_map, range_with_len}
 use Rattle.std.proofs.lemmas.Bool.Decides.{nat_tests}
 use Rattle.std.proofs.lemmas.List.{length-replicate}
 use Rattle.pb_values.specs.declared.outcome.Outcome.{Outcome}
-use Rattle.pb_values.specs.declared.rect.Rect.{Rect}
 use Rattle.pb_program.specs.Configs.{ConfigValue}
 use Rattle.pb_model.specs.Calls.{Outcomes}
 use Rattle.pb_model.specs.Cells.{natural}
-use Rattle.pb_base.proofs.ListLemmas.{filter_in, flat_in, in_cases, in_head, in_none, in_tail, map_in}
-use Rattle.pb_frame.specs.Frames.{has_place}
+use Rattle.pb_base.proofs.ListLemmas.{filter_in, flat_in, in_cases, in_none, map_in}
 use Rattle.pb_recursion.specs.Depths.{IsWhole, filled}
 use Rattle.pb_recursion.specs.Shapes.{Sides, area}
-use Rattle.pb_runs.specs.Right.{IsRight}
 use Rattle.pb_runs.specs.Seats.{Seat, across, cell_at, down, seat_cells}
-use Rattle.pb_runs.specs.Steps.{Step, by_trap, cells_in, cells_of}
+use Rattle.pb_runs.specs.Steps.{cells_in, cells_of}
 use Rattle.pb_runs.specs.Unrolled.{Met, after_call, after_matrices, after_matrix, failed, seat_has_cells, seats_from, trap_step, whole_seat}
-use Rattle.pb_runs.proofs.BaseLemmas.{Reaches, Stands, reaches_both, stands_left, stands_right}
+use Rattle.pb_runs.proofs.BaseLemmas.{Reaches, Stands, reaches_both, stands_right}
 use Rattle.pb_runs.proofs.CountLemmas.{counted, in_row, row_in, row_split}
-use Rattle.pb_runs.proofs.SeatLemmas.{HasCell, has_whole, whole_has, whole_placed}
-use Rattle.pb_runs.proofs.SoundLemmas.{Cells, IsDeep, IsMade, Sound}
+use Rattle.pb_runs.proofs.SeatLemmas.{HasCell, whole_has, whole_placed}
+use Rattle.pb_runs.proofs.SoundLemmas.{Cells, IsDeep, Sound}
 use Rattle.pb_runs.specs.Placed.{IsPlaced, outcome_of, total}
 
 -- ---- matrices one after the other
@@ -51,9 +47,10 @@ module _ (ms : List Outcomes) where
   seats_placed n [] [] h stands = tt
   seats_placed n [] (m ∷ mats) h stands = absurd h
   seats_placed n (s ∷ ss) [] h stands = absurd h
-  seats_placed n (s ∷ ss) (m ∷ mats) h stands =
-      (whole_placed ms n s m mats stands h.0.0 h.0.1 h.0.2,
-      seats_placed (after_matrix n s) ss mats h.1 (stands_right ms n (after_matrix n s) (m ∷ []) mats stands (one_reaches n s m h.0)))
+  seats_placed n (s ∷ ss) (m ∷ mats) h stands = (
+    whole_placed ms n s m mats stands h.0.0 h.0.1 h.0.2,
+    seats_placed (after_matrix n s) ss mats h.1 (stands_right ms n (after_matrix n s) (m ∷ []) mats stands (one_reaches n s m h.0)),
+  )
 
   pub seats_within : (n : Met) (ss : List Sides) (mats : List Outcomes) → HaveSides ss mats → (s : Seat) → Contains (seats_from n ss) s → (c : ℕ) → HasCell s c → Contains (range_with_len n.cells (total mats)) c
   seats_within n [] mats h s there c has = absurd (in_none s there)

@@ -1,5 +1,5 @@
 -- The jobs of an instance, one after another.
-use Rattle.std.proofs.Common.{◌≡◌, ◌∙◌, refl, sym, ap, subst, inl, inr, ◌⊎◌, ⊎_elim, ℕ, zero, suc, ◌+◌, ◌<◌, ◌≤◌, Bool, true, false, not, List, [], ◌∷◌, ◌++◌, length, map, slice_get, Option, Some, None, arith}
+use Rattle.std.proofs.Common.{◌≡◌, ◌∙◌, refl, sym, ap, subst, inl, inr, ⊎_elim, ℕ, suc, ◌+◌, ◌<◌, ◌≤◌, Bool, true, false, not, List, [], ◌∷◌, ◌++◌, slice_get, Option, Some, None, arith}
 use Rattle.std.specs.Prelude.{if◌then◌else◌}
 use Rattle.std.specs.List.{Contains, flat_map, range_with_len}
 use Rattle.std.specs.Option.{option_map_or}
@@ -16,7 +16,6 @@ use Rattle.pb_model.specs.Chosen.{chosen_rule}
 use Rattle.pb_check.specs.Ranked.{IsMadeCell}
 use Rattle.pb_frame.specs.Frames.{JobValue}
 use Rattle.pb_frame.specs.declared.part.FramePart.{FramePart}
-use Rattle.pb_tasks.specs.Made.{IsMadeBy}
 use Rattle.pb_tasks.proofs.BeforeLemmas.{parts}
 use Rattle.pb_tasks.proofs.JobLemmas.{part_of, placed}
 use Rattle.pb_tasks.proofs.MadeLemmas.{made_rule}
@@ -27,17 +26,17 @@ use Rattle.pb_recursion.specs.Counts.{is_plan_kind}
 use Rattle.pb_recursion.specs.Depths.{plans_over}
 use Rattle.pb_recursion.specs.Plans.{calls_of_rule, names_of_reads}
 use Rattle.pb_runs.specs.Matrices.{Below, call_below, calls_matrices, job_matrices, jobs_matrices, read_matrices, rule_matrices}
-use Rattle.pb_runs.specs.Steps.{Instance, Step, by_job, cells_in, cells_of, number_at}
+use Rattle.pb_runs.specs.Steps.{Instance, by_job, cells_in, cells_of, number_at}
 use Rattle.pb_runs.specs.Unrolled.{Done, Met, Unroll, job_done, jobs_done, plan_done, rule_done}
-use Rattle.pb_runs.proofs.BaseLemmas.{Reaches, Stands, reaches_both, stands_left, stands_right, total_append}
+use Rattle.pb_runs.proofs.BaseLemmas.{Stands, reaches_both, stands_left, stands_right, total_append}
 use Rattle.pb_runs.proofs.BoxLemmas.{IsSituated, inst, jobs}
 use Rattle.pb_runs.proofs.CalledLemmas.{AreDeeper, AreNatural}
 use Rattle.pb_runs.proofs.CountLemmas.{counted, counted_append, counted_in, counted_row, in_counted}
 use Rattle.pb_runs.proofs.JobLemmas.{IsKnown, job_made, own_cells}
 use Rattle.pb_runs.proofs.PlanLemmas.{IsDone, plan_job}
-use Rattle.pb_runs.proofs.SoundLemmas.{Cells, Sound, cells_append, sound_append, with_cells}
+use Rattle.pb_runs.proofs.SoundLemmas.{Cells, cells_append, sound_append, with_cells}
 use Rattle.pb_runs.proofs.ViewLemmas.{IsLocal}
-use Rattle.pb_runs.specs.Placed.{before, total}
+use Rattle.pb_runs.specs.Placed.{total}
 
 append_none : {A : Type 0} (xs : List A) → xs ++ [] ≡ xs
 append_none [] = refl
@@ -133,11 +132,11 @@ module _ (config : ConfigValue) (ms : List Outcomes) (p : List ProgTransform) (i
     before = λ u other less at_u c own. ⊎_elim
         (λ (earlier : u < j). inl (k.before u other earlier at_u c own))
         (λ (last : j ≤ u). (
-            let same : u ≡ j = omega (arith, last, less) in
-            let jobs_same : other ≡ job = some_same other job (sym at_u ∙ ap (slice_get all_jobs) same ∙ e) in
-            let some = in_counted c (own_cells i job) (subst (λ (w : JobValue). Contains (own_cells i w) c) jobs_same own) in
-            let counts = done.counts c in
-            inr (counted_in c (cells_in d.steps) (omega (arith, some, counts)))))
+        let same : u ≡ j = omega (arith, last, less) in
+        let jobs_same : other ≡ job = some_same other job (sym at_u ∙ ap (slice_get all_jobs) same ∙ e) in
+        let some = in_counted c (own_cells i job) (subst (λ (w : JobValue). Contains (own_cells i w) c) jobs_same own) in
+        let counts = done.counts c in
+        inr (counted_in c (cells_in d.steps) (omega (arith, some, counts)))))
         (cases_lt u j);
   }
     where

@@ -1,36 +1,33 @@
 -- A call of a transform is unrolled to what it means, if the calls below it are.
-use Rattle.std.proofs.Common.{◌≡◌, ◌∙◌, refl, sym, ap, subst, inl, inr, ◌⊎◌, ⊎_elim, ℕ, zero, suc, ◌+◌, ◌-◌, ◌*◌, ◌<◌, ◌≤◌, ℤ, pos, ◌<ℤ◌, Bool, true, false, List, [], ◌∷◌, ◌++◌, drop, get_or, length, map, slice_get, Option, Some, None, arith, length-append}
+use Rattle.std.proofs.Common.{◌≡◌, ◌∙◌, refl, sym, ap, subst, ℕ, zero, suc, ◌+◌, ◌*◌, ◌<◌, pos, true, List, [], ◌∷◌, ◌++◌, drop, get_or, length, map, slice_get, Option, Some, None, arith}
 use Rattle.std.specs.List.{All, AllZip, Contains, flat_map, range_with_len}
-use Rattle.std.proofs.lemmas.Bool.{cases_lt}
 use Rattle.std.proofs.lemmas.List.{length-map}
 use Rattle.pb_linear.specs.Numbers.{exact_value}
-use Rattle.pb_linear.specs.Sizes.{leasts_of}
 use Rattle.pb_program.specs.Configs.{ConfigValue, IsValid}
 use Rattle.pb_program.specs.Forms.{DeclValue}
-use Rattle.pb_program.specs.Trees.{ProgRule, ProgTransform}
-use Rattle.pb_program.specs.WellFormed.{IsTransform, IsWellFormed}
+use Rattle.pb_program.specs.Trees.{ProgTransform}
+use Rattle.pb_program.specs.WellFormed.{IsWellFormed}
 use Rattle.pb_base.proofs.ListLemmas.{at_in, flat_in, in_at, in_flat, map_in}
-use Rattle.pb_model.specs.Calls.{IsSettled, Outcomes, Plans, cell_outcome, call_of, made_from, made_matrix, matrix_cells}
+use Rattle.pb_model.specs.Calls.{IsSettled, Outcomes, Plans, cell_outcome, call_of, made_from, matrix_cells}
 use Rattle.pb_model.specs.Cells.{Cell, IsCell, natural}
-use Rattle.pb_calls.specs.Given.{AreGiven, HasSides}
+use Rattle.pb_calls.specs.Given.{AreGiven}
 use Rattle.pb_check.specs.Orders.{AnalysisValue, IsAnalysis}
 use Rattle.pb_check.specs.Phases.{IsSound}
 use Rattle.pb_check.specs.Ranked.{IsMadeCell}
 use Rattle.pb_frame.specs.Frames.{JobValue}
 use Rattle.pb_tasks.specs.Made.{IsMadeBy}
 use Rattle.pb_tasks.proofs.MadeLemmas.{made_by, made_cell, made_once}
-use Rattle.pb_walk.specs.declared.stop.Stop.{Stop}
 use Rattle.pb_plan.proofs.OnceLemmas.{Once, once_flat}
 use Rattle.pb_solution.specs.Solutions.{stop_cell, stops_of}
 use Rattle.pb_solution.proofs.OrderLemmas.{stop_made}
 use Rattle.pb_solution.proofs.OutcomeLemmas.{AreSided, index_at, matrix_is, rows_count, sides_are}
-use Rattle.pb_recursion.specs.Depths.{Call, IsWhole, call_at, deeper_at, plans_at, plans_over, sides_of_matrix, sizes_given}
-use Rattle.pb_recursion.specs.Shapes.{Sides, can_enter, sides_of_decl, sizes_from}
+use Rattle.pb_recursion.specs.Depths.{IsWhole, call_at, deeper_at, plans_at, plans_over, sides_of_matrix, sizes_given}
+use Rattle.pb_recursion.specs.Shapes.{can_enter, sides_of_decl, sizes_from}
 use Rattle.pb_recursion.proofs.DepthLemmas.{call_is, depth_settled, inputs_there}
 use Rattle.pb_recursion.proofs.ShapeLemmas.{entered_given, entered_range}
 use Rattle.pb_runs.specs.Matrices.{Below, below_at, call_below, jobs_matrices, matrices_by}
-use Rattle.pb_runs.specs.Seats.{Seat, cell_at, no_seat, sides_of_seat}
-use Rattle.pb_runs.specs.Steps.{Instance, cells_in, number_at, seat_in, stop_number}
+use Rattle.pb_runs.specs.Seats.{Seat, no_seat, sides_of_seat}
+use Rattle.pb_runs.specs.Steps.{Instance, number_at, seat_in, stop_number}
 use Rattle.pb_runs.specs.Unrolled.{Met, Unroll, after_call, after_matrices, instance_of, jobs_done, own_sides, seats_from, unrolled_at}
 use Rattle.pb_runs.proofs.BaseLemmas.{Reaches, Stands, reaches_both, stands_left, stands_right, total_append}
 use Rattle.pb_runs.proofs.BoxLemmas.{IsSituated, inst, jobs}
@@ -44,7 +41,7 @@ use Rattle.pb_runs.proofs.OwnLemmas.{own_in_row, own_once, row_own, side_below}
 use Rattle.pb_runs.proofs.SeatLemmas.{HasCell}
 use Rattle.pb_runs.proofs.SoundLemmas.{Cells, IsDeep}
 use Rattle.pb_runs.proofs.ViewLemmas.{IsLocal, has_matrix, zip_at}
-use Rattle.pb_runs.specs.Placed.{IsPlaced, before, total}
+use Rattle.pb_runs.specs.Placed.{IsPlaced, total}
 
 -- ---- lists
 zip_append : {A B : Type 0} (R : A → B → Type 0) (xs us : List A) (ys vs : List B) → AllZip R xs ys → AllZip R us vs → AllZip R (xs ++ us) (ys ++ vs)

@@ -1,15 +1,12 @@
 -- A job of an instance reads what is known, and makes its cells as their rules say.
-use Rattle.std.proofs.Common.{◌≡◌, ◌∙◌, refl, sym, ap, subst, inl, inr, ◌⊎◌, ⊎_elim, ℕ, zero, suc, ◌+◌, ◌-◌, ◌<◌, ◌≤◌, ℤ, pos, negsuc, ◌<ℤ◌, Bool, true, false, List, [], ◌∷◌, ◌++◌, drop, length, map, slice_get, Option, Some, None, arith}
-use Rattle.std.specs.Prelude.{◌≢◌}
-use Rattle.std.specs.List.{AllZip, Contains}
+use Rattle.std.proofs.Common.{◌≡◌, ◌∙◌, refl, sym, ap, subst, inl, inr, ◌⊎◌, ⊎_elim, ℕ, zero, suc, ◌+◌, ◌-◌, ◌<◌, ◌≤◌, ℤ, pos, negsuc, ◌<ℤ◌, List, [], ◌∷◌, ◌++◌, drop, length, map, slice_get, Some, None, arith}
+use Rattle.std.specs.List.{Contains}
 use Rattle.std.specs.Option.{option_map_or}
 use Rattle.std.proofs.lemmas.Bool.{cases_lt}
 use Rattle.std.proofs.lemmas.Int.{ints}
 use Rattle.pb_linear.specs.Numbers.{exact_value}
-use Rattle.pb_values.specs.Views.{HasPlace}
 use Rattle.pb_values.specs.declared.outcome.Outcome.{Outcome}
 use Rattle.pb_program.specs.Configs.{ConfigValue}
-use Rattle.pb_program.specs.Forms.{DeclValue}
 use Rattle.pb_program.specs.Trees.{ProgRule, ProgTransform}
 use Rattle.pb_program.specs.declared.rule.RuleKind.{RuleKind}
 use Rattle.pb_program.specs.declared.rule.RuleKind.TheVariants as kind
@@ -31,17 +28,13 @@ use Rattle.pb_walk.specs.declared.stop.Stop.{Stop}
 use Rattle.pb_solution.specs.Solutions.{stop_cell, stops_of}
 use Rattle.pb_solution.proofs.MayLemmas.{map_same}
 use Rattle.pb_solution.proofs.OrderLemmas.{made_stop, stop_made}
-use Rattle.pb_solution.proofs.OutcomeLemmas.{index_at}
-use Rattle.pb_recursion.specs.Depths.{IsWhole}
 use Rattle.pb_runs.specs.Right.{IsMadeByRule, no_plans}
-use Rattle.pb_runs.specs.Seats.{Seat, cell_at, no_seat}
 use Rattle.pb_runs.specs.Steps.{Instance, by_job, cells_of, number_at, seat_in, stop_number, through}
 use Rattle.pb_runs.proofs.BoxLemmas.{IsSituated, box_before, box_ends, box_there, inst, jobs}
-use Rattle.pb_runs.proofs.SeatLemmas.{HasCell}
 use Rattle.pb_runs.proofs.SoundLemmas.{Cells, IsMade}
 use Rattle.pb_runs.proofs.SpotLemmas.{spot_back}
-use Rattle.pb_runs.proofs.ViewLemmas.{HasMatrix, IsLocal, has_matrix, number_is}
-use Rattle.pb_runs.specs.Placed.{SpotCell, before, outcome_of}
+use Rattle.pb_runs.proofs.ViewLemmas.{IsLocal, has_matrix, number_is}
+use Rattle.pb_runs.specs.Placed.{SpotCell, outcome_of}
 
 below_side : (z : ℤ) (n : ℕ) → n < natural z → pos n <ℤ z
 below_side (pos k) n h = omega (arith, ints, h)

@@ -1,9 +1,9 @@
 -- The matrices of a plan by their names: where they stand, and what they hold.
-use Rattle.std.proofs.Common.{◌≡◌, ◌∙◌, refl, sym, ap, subst, inl, inr, ◌⊎◌, ⊎_elim, ℕ, zero, suc, ◌+◌, Bool, true, false, List, [], ◌∷◌, ◌++◌, length, map, slice_get, Some, None, arith}
+use Rattle.std.proofs.Common.{◌≡◌, ◌∙◌, refl, sym, ap, subst, inl, inr, ℕ, zero, suc, ◌+◌, Bool, true, false, List, [], ◌∷◌, ◌++◌, map, arith}
 use Rattle.std.specs.Prelude.{◌==◌, if◌then◌else◌, slice_index_or}
 use Rattle.std.specs.List.{AllByRecursion, AllZip, Contains, enumerate_from, zip}
 use Rattle.std.proofs.lemmas.Bool.{eq-eqb, eqb-true}
-use Rattle.pb_base.proofs.ListLemmas.{in_cases, in_head, in_none, in_tail}
+use Rattle.pb_base.proofs.ListLemmas.{in_cases, in_none}
 use Rattle.pb_program.specs.declared.plan.Slot.{Slot}
 use Rattle.pb_program.specs.declared.plan.Slot.TheVariants as slot
 use Rattle.pb_model.specs.Calls.{Outcomes}
@@ -15,7 +15,7 @@ use Rattle.pb_recursion.specs.Shapes.{Sides}
 use Rattle.pb_runs.specs.Seats.{Seat, no_seat}
 use Rattle.pb_runs.proofs.SeatLemmas.{HasCell}
 use Rattle.pb_runs.proofs.SoundLemmas.{Cells}
-use Rattle.pb_runs.specs.Placed.{IsPlaced, before}
+use Rattle.pb_runs.specs.Placed.{IsPlaced}
 
 -- ---- slots
 same_is : (a b : Slot) → same_slot a b ≡ true → a ≡ b

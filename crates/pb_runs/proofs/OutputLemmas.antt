@@ -1,21 +1,21 @@
 -- The outputs of a rule that makes more than a cell: each cell that it makes lies in one of them.
-use Rattle.std.proofs.Common.{◌≡◌, ◌∙◌, refl, sym, ap, subst, inl, inr, ◌⊎◌, ⊎_elim, ℕ, zero, suc, ◌+◌, ◌-◌, ◌<◌, ◌≤◌, ℤ, pos, ◌≤ℤ◌, ◌<ℤ◌, Bool, true, false, ◌&&◌, ◌||◌, not, List, [], ◌∷◌, slice_get, Option, Some, None, arith}
-use Rattle.std.specs.Prelude.{◌==◌, nat_lt, int_le, int_lt, if◌then◌else◌}
-use Rattle.std.specs.List.{All, list_any}
+use Rattle.std.proofs.Common.{◌≡◌, ◌∙◌, refl, sym, ap, subst, inl, inr, ⊎_elim, ℕ, zero, suc, ◌+◌, ◌-◌, ◌<◌, ◌≤◌, ℤ, pos, ◌≤ℤ◌, ◌<ℤ◌, Bool, true, false, ◌&&◌, ◌||◌, not, List, [], ◌∷◌, slice_get, Option, Some, None, arith}
+use Rattle.std.specs.Prelude.{◌==◌, nat_lt, int_le, int_lt}
+use Rattle.std.specs.List.{list_any}
 use Rattle.std.specs.Option.{option_map_or}
 use Rattle.std.proofs.lemmas.Bool.{and_parts, cases_lt, eq-eqb, eqb-true}
 use Rattle.std.proofs.lemmas.Bool.Decides.{nat_tests}
 use Rattle.std.proofs.lemmas.Int.{ints}
-use Rattle.pb_linear.specs.Sizes.{InRange, leasts_of}
+use Rattle.pb_linear.specs.Sizes.{InRange}
 use Rattle.pb_linear.proofs.SizesLemmas.{le_everywhere-at}
 use Rattle.pb_program.specs.Areas.{Area, IsIn, area_of}
 use Rattle.pb_program.specs.Forms.{CoordinateValue, DeclValue, coordinate_at}
-use Rattle.pb_program.specs.Trees.{ProgRule, ProgTransform}
+use Rattle.pb_program.specs.Trees.{ProgTransform}
 use Rattle.pb_program.specs.declared.plan.Slot.{Slot}
 use Rattle.pb_program.specs.declared.plan.Slot.TheVariants as slot
 use Rattle.pb_program.specs.declared.view.Read.{Read}
-use Rattle.pb_region.specs.Ends.{Ends, Interval, area_at, ends_of}
-use Rattle.pb_region.specs.Overlaps.{HasNoOverlap, are_apart, are_separate, both_overlap, is_before, overlap, overlap_at}
+use Rattle.pb_region.specs.Ends.{Interval, area_at, ends_of}
+use Rattle.pb_region.specs.Overlaps.{HasNoOverlap, are_apart, are_separate, both_overlap, is_before, overlap_at}
 use Rattle.pb_region.proofs.AreaLemmas.{ends_area}
 use Rattle.pb_model.specs.Cells.{Cell, natural}
 use Rattle.pb_model.specs.Equations.{shown_area}

@@ -1,6 +1,6 @@
 -- The cells that an instance makes, and their numbers.
-use Rattle.std.proofs.Common.{◌≡◌, ◌∙◌, refl, sym, ap, subst, inl, inr, ◌⊎◌, ⊎_elim, ℕ, zero, suc, ◌+◌, ◌-◌, ◌*◌, ◌<◌, ◌≤◌, ℤ, pos, negsuc, ◌<ℤ◌, List, [], ◌∷◌, ◌++◌, drop, length, map, slice_get, Some, None, arith}
-use Rattle.std.specs.List.{AllZip, Contains, range_with_len}
+use Rattle.std.proofs.Common.{◌≡◌, ◌∙◌, refl, sym, ap, subst, ⊎_elim, ℕ, zero, suc, ◌+◌, ◌-◌, ◌*◌, ◌<◌, ◌≤◌, ℤ, pos, negsuc, ◌<ℤ◌, List, [], ◌∷◌, ◌++◌, drop, length, map, slice_get, Some, None, arith}
+use Rattle.std.specs.List.{Contains, range_with_len}
 use Rattle.std.proofs.lemmas.Bool.{cases_lt}
 use Rattle.std.proofs.lemmas.Int.{ints}
 use Rattle.pb_linear.specs.Numbers.{exact_value}
@@ -10,21 +10,19 @@ use Rattle.pb_program.specs.Forms.{DeclValue}
 use Rattle.pb_program.specs.Trees.{ProgTransform}
 use Rattle.pb_base.proofs.ListLemmas.{in_at}
 use Rattle.pb_model.specs.Calls.{Outcomes, outcome_in}
-use Rattle.pb_model.specs.Cells.{Cell, IsCell, natural}
+use Rattle.pb_model.specs.Cells.{Cell, natural}
 use Rattle.pb_check.proofs.FirstLemmas.{some_same}
 use Rattle.pb_check.specs.Ranked.{IsMadeCell}
 use Rattle.pb_solution.proofs.OutcomeLemmas.{index_at}
 use Rattle.pb_plan.proofs.NumberLemmas.{row_below, row_once}
-use Rattle.pb_recursion.specs.Depths.{IsWhole}
 use Rattle.pb_recursion.specs.Shapes.{Sides, area, sides_of_decl}
 use Rattle.pb_runs.specs.Seats.{Seat, base_x, base_y, cell_at, no_seat}
 use Rattle.pb_runs.specs.Steps.{Instance, number_at, seat_in}
 use Rattle.pb_runs.specs.Unrolled.{Met, after_matrix, own_sides, seats_from, whole_seat}
 use Rattle.pb_runs.proofs.BaseLemmas.{before_grows, before_next}
-use Rattle.pb_runs.proofs.CountLemmas.{row_in}
 use Rattle.pb_runs.proofs.FailedLemmas.{HaveSides, seats_within}
 use Rattle.pb_runs.proofs.SeatLemmas.{HasCell, has_whole}
-use Rattle.pb_runs.proofs.ViewLemmas.{HasMatrix, IsLocal, has_matrix, matrix_at}
+use Rattle.pb_runs.proofs.ViewLemmas.{IsLocal, has_matrix, matrix_at}
 use Rattle.pb_runs.specs.Placed.{IsAt, before, total}
 
 -- ---- numbers in the matrices of a run
@@ -54,7 +52,7 @@ module _ (ms : List Outcomes) where
       let low_s = row_below at_s.grid.width at_s.grid.height sx sy at_s.inside_x at_s.inside_y in
       let low_r = row_below at_r.grid.width at_r.grid.height rx ry at_r.inside_x at_r.inside_y in
       let number : before ms s.base + (sy * at_s.grid.width + sx) ≡ before ms r.base + (ry * at_r.grid.width + rx) =
-          (λ i. sym at_s.first i + (sy * sym at_s.row i + sx)) ∙ same ∙ (λ i. at_r.first i + (ry * at_r.row i + rx)) in
+      (λ i. sym at_s.first i + (sy * sym at_s.row i + sx)) ∙ same ∙ (λ i. at_r.first i + (ry * at_r.row i + rx)) in
       let one = number_once s.base r.base at_s.grid at_r.grid (sy * at_s.grid.width + sx) (ry * at_r.grid.width + rx) at_s.there at_r.there (omega (arith, low_s, at_s.whole)) (omega (arith, low_r, at_r.whole)) number in
       let grid : at_s.grid ≡ at_r.grid = some_same at_s.grid at_r.grid (sym at_s.there ∙ ap (slice_get ms) one.0 ∙ at_r.there) in
       let width : at_s.grid.width ≡ at_r.grid.width = ap (λ (g : Outcomes). g.width) grid in
@@ -128,10 +126,15 @@ module _ (ms : List Outcomes) (i : Instance) (given : List Seat) (n : Met) (own 
       let there = seat_there n (own_sides t i.sizes) place (sides_of_decl i.sizes d) (at_map (sides_of_decl i.sizes) (drop t.inputs t.matrices) place d declared) in
       let number : length given + place ≡ c.matrix = omega (arith, count, matrix) in
       let at : slice_get i.seats c.matrix ≡ Some (whole_seat there.0 (sides_of_decl i.sizes d)) = ap (λ l. slice_get l c.matrix) seats ∙ ap (slice_get (given ++ seats_from n (own_sides t i.sizes))) (sym number) ∙ get_right given (seats_from n (own_sides t i.sizes)) place ∙ there.1 in
-      let seat : seat_in i c.matrix ≡ whole_seat there.0 (sides_of_decl i.sizes d) = index_at i.seats c.matrix (whole_seat there.0 (sides_of_decl i.sizes d)) no_seat at in
-      (d, there.0, made.cell.there, seat, there.2,
-      (c.x, c.y, omega (arith, side_below (exact_value d.w i.sizes) c.x made.cell.before_x), omega (arith, side_below (exact_value d.h i.sizes) c.y made.cell.before_y), ap (λ s. cell_at s c.x c.y) seat),
-      in_at (seats_from n (own_sides t i.sizes)) place (whole_seat there.0 (sides_of_decl i.sizes d)) there.1)
+      let seat : seat_in i c.matrix ≡ whole_seat there.0 (sides_of_decl i.sizes d) = index_at i.seats c.matrix (whole_seat there.0 (sides_of_decl i.sizes d)) no_seat at in (
+        d,
+        there.0,
+        made.cell.there,
+        seat,
+        there.2,
+        (c.x, c.y, omega (arith, side_below (exact_value d.w i.sizes) c.x made.cell.before_x), omega (arith, side_below (exact_value d.h i.sizes) c.y made.cell.before_y), ap (λ s. cell_at s c.x c.y) seat),
+        in_at (seats_from n (own_sides t i.sizes)) place (whole_seat there.0 (sides_of_decl i.sizes d)) there.1,
+      )
 
   -- its number is in the row
   pub own_in_row : (c : Cell) → IsMadeCell t i.sizes c → Contains (range_with_len n.cells (total own)) (number_at i c)
@@ -150,19 +153,20 @@ module _ (ms : List Outcomes) (i : Instance) (given : List Seat) (n : Met) (own 
       let wide : natural p.1.0 ≡ natural (exact_value d.w i.sizes) = ap (λ (s : Sides). natural s.0) (sym decl.2) in
       let tall : natural p.1.1 ≡ natural (exact_value d.h i.sizes) = ap (λ (s : Sides). natural s.1) (sym decl.2) in
       let number : length given + p.0 ≡ t.inputs + p.0 = omega (arith, count) in
-      let at : slice_get i.seats (t.inputs + p.0) ≡ Some (whole_seat p.2 p.1) = ap (λ l. slice_get l (t.inputs + p.0)) seats ∙ ap (slice_get (given ++ seats_from n (own_sides t i.sizes))) (sym number) ∙ get_right given (seats_from n (own_sides t i.sizes)) p.0 ∙ p.4 in
-      (c,
-      record {
-        cell = record {
-          in_range = range;
-          decl = d;
-          there = dropped_at t.matrices t.inputs p.0 d decl.1;
-          before_x = below_side (exact_value d.w i.sizes) has.0 (omega (arith, on_x, wide));
-          before_y = below_side (exact_value d.h i.sizes) has.1 (omega (arith, on_y, tall));
-        };
-        made = omega arith;
-      },
-      ap (λ s. cell_at s has.0 has.1) (index_at i.seats (t.inputs + p.0) (whole_seat p.2 p.1) no_seat at) ∙ sym has.4)
+      let at : slice_get i.seats (t.inputs + p.0) ≡ Some (whole_seat p.2 p.1) = ap (λ l. slice_get l (t.inputs + p.0)) seats ∙ ap (slice_get (given ++ seats_from n (own_sides t i.sizes))) (sym number) ∙ get_right given (seats_from n (own_sides t i.sizes)) p.0 ∙ p.4 in (
+        c,
+        record {
+          cell = record {
+            in_range = range;
+            decl = d;
+            there = dropped_at t.matrices t.inputs p.0 d decl.1;
+            before_x = below_side (exact_value d.w i.sizes) has.0 (omega (arith, on_x, wide));
+            before_y = below_side (exact_value d.h i.sizes) has.1 (omega (arith, on_y, tall));
+          };
+          made = omega arith;
+        },
+        ap (λ s. cell_at s has.0 has.1) (index_at i.seats (t.inputs + p.0) (whole_seat p.2 p.1) no_seat at) ∙ sym has.4,
+      )
 
   -- two made cells with one number are one
   pub own_once : (lm : List Outcomes) → IsLocal ms i lm → (c d : Cell) → IsMadeCell t i.sizes c → IsMadeCell t i.sizes d → number_at i c ≡ number_at i d → c ≡ d

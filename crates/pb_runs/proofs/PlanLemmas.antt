@@ -1,7 +1,7 @@
 -- A job of a plan: its calls over what it reads, and its copies.
-use Rattle.std.proofs.Common.{◌≡◌, ◌∙◌, refl, sym, ap, subst, inl, inr, ◌⊎◌, ⊎_elim, ℕ, zero, suc, ◌+◌, ◌-◌, ◌<◌, ◌≤◌, ℤ, pos, Bool, true, false, List, [], ◌∷◌, ◌++◌, length, map, slice_get, Option, Some, None, arith}
+use Rattle.std.proofs.Common.{◌≡◌, ◌∙◌, refl, sym, ap, subst, ⊎_elim, ℕ, zero, suc, ◌+◌, ◌-◌, ◌<◌, ◌≤◌, Bool, true, false, List, [], ◌∷◌, ◌++◌, length, map, slice_get, Option, Some, None, arith}
 use Rattle.std.specs.Prelude.{slice_index_or, if◌then◌else◌}
-use Rattle.std.specs.List.{Contains, flat_map, range_with_len}
+use Rattle.std.specs.List.{Contains, range_with_len}
 use Rattle.std.specs.Option.{option_map_or}
 use Rattle.std.proofs.lemmas.Bool.{cases_lt}
 use Rattle.pb_linear.specs.Numbers.{exact_value}
@@ -27,17 +27,15 @@ use Rattle.pb_model.specs.Grids.{no_grid}
 use Rattle.pb_check.specs.Ranked.{IsMadeCell}
 use Rattle.pb_check.proofs.FirstLemmas.{some_at}
 use Rattle.pb_frame.specs.Frames.{JobValue}
-use Rattle.pb_links.specs.declared.places.Spot.{Spot}
 use Rattle.pb_tasks.specs.Boxes.{boxes_by, shown_at, whole_box}
 use Rattle.pb_solution.proofs.OutcomeLemmas.{index_at}
-use Rattle.pb_recursion.specs.Depths.{cut_into, made_by_call, plan_names, plans_over}
-use Rattle.pb_recursion.specs.Ordered.{IsGiven}
+use Rattle.pb_recursion.specs.Depths.{made_by_call, plan_names, plans_over}
 use Rattle.pb_recursion.specs.Plans.{Names, after_call, calls_of_rule, named, names_of_reads, no_cell, no_sides, sides_of_slot, sides_of_view}
 use Rattle.pb_recursion.specs.Shapes.{Sides}
 use Rattle.pb_recursion.proofs.OrderedLemmas.{plan_ordered}
 use Rattle.pb_runs.specs.Matrices.{Below, call_below, call_matrices, calls_matrices, read_matrices}
-use Rattle.pb_runs.specs.Seats.{Seat, across, cell_at, down, is_turning, no_seat, part_seat, spot_at}
-use Rattle.pb_runs.specs.Steps.{Instance, Step, cells_in, number_at, seat_in, through}
+use Rattle.pb_runs.specs.Seats.{Seat, across, cell_at, down, is_turning, no_seat, part_seat}
+use Rattle.pb_runs.specs.Steps.{Instance, cells_in, number_at, seat_in, through}
 use Rattle.pb_runs.specs.Unrolled.{Done, Met, Played, Unroll, copies_of, plan_done, plan_played, unrolled_by, view_seat}
 use Rattle.pb_runs.proofs.BaseLemmas.{Reaches, Stands}
 use Rattle.pb_runs.proofs.BoxLemmas.{IsSituated, jobs, whole_within}

@@ -1,6 +1,6 @@
 -- The calls of a plan, one after another.
-use Rattle.std.proofs.Common.{◌≡◌, ◌∙◌, refl, sym, ap, subst, inl, inr, ◌⊎◌, ⊎_elim, ℕ, zero, suc, ◌+◌, ◌<◌, List, [], ◌∷◌, ◌++◌, length, map, arith}
-use Rattle.std.specs.List.{AllByRecursion, AllZip, Contains, range_with_len, zip}
+use Rattle.std.proofs.Common.{◌≡◌, ◌∙◌, refl, sym, ap, subst, inl, inr, ⊎_elim, ℕ, ◌+◌, ◌<◌, List, [], ◌∷◌, ◌++◌, map, arith}
+use Rattle.std.specs.List.{AllByRecursion, Contains, range_with_len, zip}
 use Rattle.std.proofs.lemmas.List.Elements.{Contains-append_left, Contains-append_right}
 use Rattle.pb_program.specs.declared.plan.Slot.{Slot}
 use Rattle.pb_program.specs.declared.plan.Slot.TheVariants as slot
@@ -13,11 +13,10 @@ use Rattle.pb_recursion.specs.Plans.{Names, after_call, after_calls, named}
 use Rattle.pb_recursion.specs.Shapes.{Sides}
 use Rattle.pb_runs.specs.Seats.{Seat, no_seat}
 use Rattle.pb_runs.specs.Steps.{Step, cells_in}
-use Rattle.pb_runs.specs.Unrolled.{Met, Played, Player, Unrolled, played}
+use Rattle.pb_runs.specs.Unrolled.{Met, Played, Player, played}
 use Rattle.pb_runs.proofs.BaseLemmas.{Reaches, Stands, reaches_both, stands_left, stands_right, total_append}
 use Rattle.pb_runs.proofs.CountLemmas.{counted, counted_append, counted_row}
-use Rattle.pb_runs.proofs.NameLemmas.{Answer, AreNamed, IsNamed, after_named, named_more}
-use Rattle.pb_runs.proofs.SeatLemmas.{HasCell}
+use Rattle.pb_runs.proofs.NameLemmas.{Answer, AreNamed, after_named, named_more}
 use Rattle.pb_runs.proofs.SoundLemmas.{Cells, IsDeep, Sound, cells_append, sound_append, with_cells}
 use Rattle.pb_runs.specs.Placed.{total}
 

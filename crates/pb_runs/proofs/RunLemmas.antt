@@ -1,10 +1,9 @@
 -- Calls at each depth, and whole runs, are unrolled to what they mean.
-use Rattle.std.proofs.Common.{◌≡◌, ◌∙◌, refl, sym, ap, subst, inl, inr, ◌⊎◌, ⊎_elim, ℕ, zero, suc, ◌+◌, ◌<◌, ◌≤◌, true, List, [], ◌∷◌, ◌++◌, length, map, take, slice_get, Option, Some, None, arith}
+use Rattle.std.proofs.Common.{◌≡◌, ◌∙◌, refl, sym, ap, subst, inl, inr, ⊎_elim, ℕ, zero, suc, ◌+◌, ◌<◌, ◌≤◌, List, [], ◌∷◌, ◌++◌, length, map, take, slice_get, Option, Some, None, arith}
 use Rattle.std.specs.List.{All, AllByRecursion, AllZip, Contains, range_with_len}
 use Rattle.std.specs.Option.{option_map_or}
 use Rattle.pb_linear.specs.Sizes.{leasts_of}
 use Rattle.pb_program.specs.Configs.{ConfigValue, IsValid}
-use Rattle.pb_program.specs.Forms.{DeclValue}
 use Rattle.pb_program.specs.Trees.{ProgTransform}
 use Rattle.pb_program.specs.WellFormed.{IsTransform, IsWellFormed}
 use Rattle.pb_region.proofs.SmallLemmas.{at_place}
@@ -15,12 +14,12 @@ use Rattle.pb_check.proofs.FirstLemmas.{all_at}
 use Rattle.pb_entry.specs.Fitting.{IsNatural}
 use Rattle.pb_entry.proofs.SideLemmas.{natural_sides}
 use Rattle.pb_recursion.specs.Depths.{IsWhole, call_at, sides_of_matrix, sizes_given}
-use Rattle.pb_recursion.specs.Shapes.{Sides, are_in_range, can_enter, sizes_from}
+use Rattle.pb_recursion.specs.Shapes.{Sides, sizes_from}
 use Rattle.pb_recursion.proofs.ShapeLemmas.{range_is}
-use Rattle.pb_runs.specs.Matrices.{Below, below_at, matrices_at, matrices_by, matrices_one, run_matrices}
+use Rattle.pb_runs.specs.Matrices.{below_at, matrices_at, matrices_by, matrices_one, run_matrices}
 use Rattle.pb_runs.specs.Seats.{Seat, sides_of_seat}
-use Rattle.pb_runs.specs.Steps.{Step, boxes_of, cells_in, cells_of}
-use Rattle.pb_runs.specs.Unrolled.{Met, Unroll, Unrolled, after_matrices, deeper_unroll, found_for, nothing_met, own_sides, seats_from, unroll, unroll_one, unrolled_at, unrolled_run}
+use Rattle.pb_runs.specs.Steps.{Step, boxes_of, cells_in}
+use Rattle.pb_runs.specs.Unrolled.{Met, Unroll, Unrolled, after_matrices, found_for, nothing_met, seats_from, unroll, unroll_one, unrolled_at, unrolled_run}
 use Rattle.pb_runs.proofs.BaseLemmas.{Reaches, Stands, before_first, before_right, total_append}
 use Rattle.pb_runs.proofs.CalledLemmas.{AreDeeper, AreNatural, IsDeeper}
 use Rattle.pb_runs.proofs.FailedLemmas.{HaveSides, seats_placed, seats_reach, seats_within}
@@ -33,7 +32,6 @@ use Rattle.pb_links.specs.declared.places.Spot.{Spot}
 use Rattle.pb_runs.specs.Laws.{IsEntered, IsThere}
 use Rattle.pb_runs.specs.Placed.{IsPlaced, SpotCell, before, total}
 use Rattle.pb_runs.specs.Right.{IsRight}
-use Rattle.pb_runs.proofs.ViewLemmas.{zip_at}
 
 all_to : {A : Type 0} (P : A → Type 0) (xs : List A) → All P xs → AllByRecursion P xs
 all_to P [] h = tt
@@ -66,14 +64,15 @@ module _ (config : ConfigValue) (ms : List Outcomes) (p : List ProgTransform) (f
       let a = f.0 in
       let below = below_at p found config grain d in
       let unrolled : unroll_one p found config grain deeper number given n ≡ unrolled_at p found config grain deeper number t a (sizes_given t ins) given n =
-          ap (λ o. option_map_or (found_for p found config grain deeper number given n) o (record { seats = []; steps = []; next = n })) there
-          ∙ ap (λ o. option_map_or (λ z. unrolled_at p found config grain deeper number t z (sizes_from t (map sides_of_seat given)) given n) o (record { seats = []; steps = []; next = n })) f.1
-          ∙ ap (λ s. unrolled_at p found config grain deeper number t a s given n) (sizes_same config ms p found grain well sound valid d deeper are_deeper naturals number t a there f.2 known n given ins placed enters cells_known) in
+      ap (λ o. option_map_or (found_for p found config grain deeper number given n) o (record { seats = []; steps = []; next = n })) there
+      ∙ ap (λ o. option_map_or (λ z. unrolled_at p found config grain deeper number t z (sizes_from t (map sides_of_seat given)) given n) o (record { seats = []; steps = []; next = n })) f.1
+      ∙ ap (λ s. unrolled_at p found config grain deeper number t a s given n) (sizes_same config ms p found grain well sound valid d deeper are_deeper naturals number t a there f.2 known n given ins placed enters cells_known) in
       let mats : matrices_one p found config grain d below number ins ≡ matrices_by p found config grain d below number ins t a =
-          ap (λ o. option_map_or (λ q. option_map_or (matrices_by p found config grain d below number ins q) (slice_get found number) []) o []) there ∙ ap (λ o. option_map_or (matrices_by p found config grain d below number ins t) o []) f.1 in
-      let deep = instance_deep config ms p found grain well sound valid d deeper are_deeper naturals number t a there f.2 known n given ins placed enters cells_known (subst (Stands ms n) mats stands) in
-      (subst (λ u. IsDeep config ms known n u (matrices_one p found config grain d below number ins) (call_at p config d number ins)) (sym unrolled) (subst (λ l. IsDeep config ms known n (unrolled_at p found config grain deeper number t a (sizes_given t ins) given n) l (call_at p config d number ins)) (sym mats) deep),
-      own_have config ms p found grain well sound valid d deeper are_deeper naturals number t a there f.2 known n given ins placed enters cells_known)
+      ap (λ o. option_map_or (λ q. option_map_or (matrices_by p found config grain d below number ins q) (slice_get found number) []) o []) there ∙ ap (λ o. option_map_or (matrices_by p found config grain d below number ins t) o []) f.1 in
+      let deep = instance_deep config ms p found grain well sound valid d deeper are_deeper naturals number t a there f.2 known n given ins placed enters cells_known (subst (Stands ms n) mats stands) in (
+        subst (λ u. IsDeep config ms known n u (matrices_one p found config grain d below number ins) (call_at p config d number ins)) (sym unrolled) (subst (λ l. IsDeep config ms known n (unrolled_at p found config grain deeper number t a (sizes_given t ins) given n) l (call_at p config d number ins)) (sym mats) deep),
+        own_have config ms p found grain well sound valid d deeper are_deeper naturals number t a there f.2 known n given ins placed enters cells_known,
+      )
 
   -- at each depth
   pub depth_deep : (d : ℕ) → IsDeeper config ms p (unroll p found config grain d) (matrices_at p found config grain d) (call_at p config d)

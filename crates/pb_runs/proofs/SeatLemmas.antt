@@ -1,22 +1,17 @@
 -- Where matrices stand among the cells of a run.
-use Rattle.std.proofs.Common.{◌≡◌, ◌∙◌, refl, sym, ap, subst, ⊎_elim, ℕ, zero, suc, ◌+◌, ◌-◌, ◌*◌, ◌<◌, ◌≤◌, ℤ, pos, Bool, true, false, List, [], ◌∷◌, ◌++◌, length, slice_get, Some, None, arith}
+use Rattle.std.proofs.Common.{◌≡◌, ◌∙◌, refl, sym, ap, subst, ℕ, ◌+◌, ◌-◌, ◌*◌, ◌<◌, ◌≤◌, Bool, true, false, List, ◌∷◌, slice_get, Some, arith}
 use Rattle.std.specs.Prelude.{if◌then◌else◌, not}
-use Rattle.std.specs.List.{All, AllZip, Contains}
-use Rattle.std.proofs.lemmas.Bool.{cases_lt}
-use Rattle.pb_values.specs.Views.{HasPlace}
-use Rattle.pb_values.specs.declared.outcome.Outcome.{Outcome}
 use Rattle.pb_values.specs.declared.rect.Rect.{Rect}
-use Rattle.pb_links.specs.declared.places.Spot.{Spot}
 use Rattle.pb_program.specs.declared.view.ReadView.{ReadView}
 use Rattle.pb_model.specs.Calls.{Outcomes}
 use Rattle.pb_model.specs.Cells.{natural}
 use Rattle.pb_check.proofs.FirstLemmas.{some_at}
-use Rattle.pb_plan.proofs.NumberLemmas.{row_at, row_below, row_once}
+use Rattle.pb_plan.proofs.NumberLemmas.{row_at, row_below}
 use Rattle.pb_recursion.specs.Depths.{IsWhole}
 use Rattle.pb_recursion.specs.Shapes.{Sides, area}
-use Rattle.pb_runs.specs.Seats.{Seat, across, base_x, base_y, cell_at, down, is_turning, part_seat, rect_at, spot_at}
-use Rattle.pb_runs.specs.Unrolled.{Met, after_matrices, after_matrix, seats_from, whole_seat}
-use Rattle.pb_runs.proofs.BaseLemmas.{Reaches, Stands, before_all, before_grows, before_next, outcome_there, stands_left, stands_right}
+use Rattle.pb_runs.specs.Seats.{Seat, across, base_x, base_y, cell_at, down, is_turning, part_seat}
+use Rattle.pb_runs.specs.Unrolled.{Met, whole_seat}
+use Rattle.pb_runs.proofs.BaseLemmas.{Stands, outcome_there}
 use Rattle.pb_runs.specs.Placed.{IsPlaced, before, outcome_of}
 
 zero_plus : (n : ℕ) → 0 + n ≡ n
@@ -106,19 +101,22 @@ module _ (ms : List Outcomes) where
         let below = row_below m.width m.height x y (omega (arith, on_x, width)) (omega (arith, on_y, height)) in
         let o = some_at m.cells (y * m.width + x) (omega (arith, below, whole)) in
         let there : slice_get ms n.matrices ≡ Some m = (let here : n.matrices + 0 ≡ n.matrices = omega arith in ap (slice_get ms) (sym here) ∙ stands.at 0 m refl) in
-        let number : n.cells + ((0 + y) * natural s.0 + (0 + x)) ≡ before ms n.matrices + (y * m.width + x) = (let plain : (0 + y) * natural s.0 + (0 + x) ≡ y * natural s.0 + x = (λ i. zero_plus y i * natural s.0 + zero_plus x i) in omega (arith, plain, stands.cells, ap (λ w. y * w) width)) in
-        (o.0, o.1, record {
-          grid = m;
-          there = there;
-          first = sym stands.cells;
-          row = sym width;
-          whole = whole;
-          inside_x = omega (arith, on_x, width);
-          inside_y = omega (arith, on_y, height);
-          is = ap (outcome_of ms) number ∙ outcome_there ms n.matrices m (y * m.width + x) o.0 there o.1;
-        });
+        let number : n.cells + ((0 + y) * natural s.0 + (0 + x)) ≡ before ms n.matrices + (y * m.width + x) = (let plain : (0 + y) * natural s.0 + (0 + x) ≡ y * natural s.0 + x = (λ i. zero_plus y i * natural s.0 + zero_plus x i) in omega (arith, plain, stands.cells, ap (λ w. y * w) width)) in (
+          o.0,
+          o.1,
+          record {
+            grid = m;
+            there = there;
+            first = sym stands.cells;
+            row = sym width;
+            whole = whole;
+            inside_x = omega (arith, on_x, width);
+            inside_y = omega (arith, on_y, height);
+            is = ap (outcome_of ms) number ∙ outcome_there ms n.matrices m (y * m.width + x) o.0 there o.1;
+          },
+        );
   }
-  
+
   -- what a view shows of a matrix
   pub record IsPart (v : ReadView) (s : Seat) (r : Rect) (m g : Outcomes) : Type 0 where
     pub width : g.width ≡ across (part_seat v s r)
@@ -134,17 +132,20 @@ module _ (ms : List Outcomes) where
     cells = λ x y on_x on_y.
         let inside = part_inside v s r lies x y on_x on_y in
         let o = placed.cells (part_x v s r x y) (part_y v s r x y) inside.0 inside.1 in
-        let at = o.2 in
-        (o.0, part.cells x y on_x on_y ∙ o.1, record {
-          grid = at.grid;
-          there = at.there;
-          first = at.first;
-          row = at.row;
-          whole = at.whole;
-          inside_x = subst (λ k. k < at.grid.width) (sym (part_base_x v s r x y)) at.inside_x;
-          inside_y = subst (λ k. k < at.grid.height) (sym (part_base_y v s r x y)) at.inside_y;
-          is = ap (outcome_of ms) (part_cell v s r x y) ∙ at.is;
-        });
+        let at = o.2 in (
+          o.0,
+          part.cells x y on_x on_y ∙ o.1,
+          record {
+            grid = at.grid;
+            there = at.there;
+            first = at.first;
+            row = at.row;
+            whole = at.whole;
+            inside_x = subst (λ k. k < at.grid.width) (sym (part_base_x v s r x y)) at.inside_x;
+            inside_y = subst (λ k. k < at.grid.height) (sym (part_base_y v s r x y)) at.inside_y;
+            is = ap (outcome_of ms) (part_cell v s r x y) ∙ at.is;
+          },
+        );
   }
 
 -- ---- the cells of a seat

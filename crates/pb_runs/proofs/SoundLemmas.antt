@@ -1,18 +1,17 @@
 -- Steps that are right, one after another.
-use Rattle.std.proofs.Common.{◌≡◌, ◌∙◌, refl, sym, ap, subst, inl, inr, ◌⊎◌, ⊎_elim, ℕ, zero, suc, ◌+◌, ◌*◌, ◌<◌, List, [], ◌∷◌, ◌++◌, slice_get, Some, None, arith}
+use Rattle.std.proofs.Common.{◌≡◌, ◌∙◌, refl, sym, ap, subst, inl, inr, ◌⊎◌, ⊎_elim, ℕ, zero, suc, ◌<◌, List, [], ◌∷◌, ◌++◌, slice_get, Some, None, arith}
 use Rattle.std.specs.List.{AllZip, Contains, range_with_len}
-use Rattle.std.proofs.lemmas.List.Elements.{Contains-append_cases, Contains-append_left, Contains-append_right}
-use Rattle.pb_values.specs.Views.{HasPlace}
+use Rattle.std.proofs.lemmas.List.Elements.{Contains-append_cases}
 use Rattle.pb_links.specs.declared.places.Spot.{Spot}
 use Rattle.pb_program.specs.Configs.{ConfigValue}
 use Rattle.pb_model.specs.Calls.{Outcomes}
-use Rattle.pb_base.proofs.ListLemmas.{in_at, in_head, in_none, in_tail}
+use Rattle.pb_base.proofs.ListLemmas.{in_none}
 use Rattle.pb_runs.specs.Right.{IsRight}
 use Rattle.pb_runs.specs.Seats.{Seat}
 use Rattle.pb_runs.specs.Steps.{Step, boxes_of, cells_in, cells_of}
 use Rattle.pb_runs.specs.Unrolled.{Met, Unrolled}
 use Rattle.pb_runs.proofs.BaseLemmas.{Reaches}
-use Rattle.pb_runs.proofs.CountLemmas.{counted, counted_in, in_counted, row_in}
+use Rattle.pb_runs.proofs.CountLemmas.{counted, counted_in, in_counted}
 use Rattle.pb_runs.proofs.SeatLemmas.{HasCell}
 use Rattle.pb_runs.specs.Placed.{IsPlaced, SpotCell, total}
 
@@ -51,9 +50,11 @@ module _ (config : ConfigValue) (ms : List Outcomes) where
 
   pub sound_append : (known : Cells) (xs ys : List Step) → Sound known xs → Sound (with_cells known (cells_in xs)) ys → Sound known (xs ++ ys)
   sound_append known [] ys h l = sound_more (with_cells known []) known ys (λ c. ⊎_elim (λ k. k) (λ none. absurd (in_none c none))) l
-  sound_append known (s ∷ xs) ys h l =
-      (h.0, sound_append (with_cells known (cells_of s)) xs ys h.1 (sound_more (with_cells known (cells_in (s ∷ xs))) (with_cells (with_cells known (cells_of s)) (cells_in xs)) ys
-      (λ c. ⊎_elim (λ k. inl (inl k)) (λ own. ⊎_elim (λ here. inl (inr here)) (λ later. inr later) (Contains-append_cases (cells_of s) (cells_in xs) c own))) l))
+  sound_append known (s ∷ xs) ys h l = (
+    h.0,
+    sound_append (with_cells known (cells_of s)) xs ys h.1 (sound_more (with_cells known (cells_in (s ∷ xs))) (with_cells (with_cells known (cells_of s)) (cells_in xs)) ys
+        (λ c. ⊎_elim (λ k. inl (inl k)) (λ own. ⊎_elim (λ here. inl (inr here)) (λ later. inr later) (Contains-append_cases (cells_of s) (cells_in xs) c own))) l),
+  )
 
   -- made by a step with a smaller number
   abbrev pub MadeBefore : List Step → ℕ → Cells

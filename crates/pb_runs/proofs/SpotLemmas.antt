@@ -1,11 +1,11 @@
 -- The cells of a rectangle of a seat, in the matrix of the run.
-use Rattle.std.proofs.Common.{◌≡◌, ◌∙◌, refl, sym, ap, subst, ℕ, ◌+◌, ◌-◌, ◌*◌, ◌<◌, ◌≤◌, Bool, true, false, List, slice_get, Some, arith}
+use Rattle.std.proofs.Common.{◌≡◌, ◌∙◌, sym, ap, ℕ, ◌+◌, ◌-◌, ◌*◌, ◌≤◌, Bool, true, false, List, arith}
 use Rattle.std.specs.Prelude.{if◌then◌else◌}
 use Rattle.pb_values.specs.Views.{HasPlace}
 use Rattle.pb_values.specs.declared.rect.Rect.{Rect}
 use Rattle.pb_model.specs.Calls.{Outcomes}
 use Rattle.pb_check.proofs.FirstLemmas.{some_same}
-use Rattle.pb_runs.specs.Seats.{Seat, across, base_x, base_y, cell_at, down, rect_at, spot_at}
+use Rattle.pb_runs.specs.Seats.{Seat, across, base_x, base_y, cell_at, down, spot_at}
 use Rattle.pb_runs.specs.Placed.{IsPlaced, SpotCell}
 
 -- a rectangle in the matrix of the run

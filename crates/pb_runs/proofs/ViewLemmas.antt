@@ -1,8 +1,7 @@
 -- What views show of the matrices of an instance, and where it stands.
-use Rattle.std.proofs.Common.{◌≡◌, ◌∙◌, refl, sym, ap, subst, ⊎_elim, ℕ, zero, suc, ◌+◌, ◌-◌, ◌*◌, ◌<◌, ◌≤◌, ℤ, pos, negsuc, ◌+ℤ◌, ◌-ℤ◌, ◌≤ℤ◌, ◌<ℤ◌, Bool, true, false, List, [], ◌∷◌, ◌++◌, length, map, take, drop, slice_get, Some, None, arith, length-append}
-use Rattle.std.specs.Prelude.{if◌then◌else◌, nat_lt, slice_index_or, unwrap_or}
+use Rattle.std.proofs.Common.{◌≡◌, ◌∙◌, refl, sym, ap, subst, ℕ, zero, suc, ◌+◌, ◌-◌, ◌*◌, ◌<◌, ◌≤◌, ℤ, pos, negsuc, ◌+ℤ◌, ◌-ℤ◌, ◌≤ℤ◌, ◌<ℤ◌, true, false, List, [], ◌∷◌, ◌++◌, length, map, take, drop, slice_get, Some, None, arith, length-append}
+use Rattle.std.specs.Prelude.{if◌then◌else◌, nat_lt, unwrap_or}
 use Rattle.std.specs.List.{AllZip, flat_map, range_with_len}
-use Rattle.std.specs.Option.{option_map_or}
 use Rattle.std.proofs.lemmas.Bool.Decides.{nat_tests}
 use Rattle.std.proofs.lemmas.Int.{ints}
 use Rattle.std.proofs.lemmas.List.{length-map}
@@ -26,7 +25,7 @@ use Rattle.pb_views.proofs.CellLemmas.{numbers_are}
 use Rattle.pb_tasks.specs.Boxes.{rect_from}
 use Rattle.pb_tasks.proofs.JobLemmas.{at_map}
 use Rattle.pb_solution.proofs.OutcomeLemmas.{index_at}
-use Rattle.pb_recursion.specs.Depths.{IsWhole, cut_into}
+use Rattle.pb_recursion.specs.Depths.{cut_into}
 use Rattle.pb_recursion.specs.Plans.{no_cell, sides_of_view}
 use Rattle.pb_recursion.specs.Shapes.{Sides, area, sides_of_area, span_length}
 use Rattle.pb_runs.specs.Seats.{Seat, across, down, is_turning, no_seat, part_seat}

@@ -1,18 +1,13 @@
 -- What it means that steps are right: each makes its cells as its rules say, from cells that are known before.
-use Rattle.std.specs.Prelude.{◌≡◌, ◌⊎◌, ℕ, ◌+◌, ◌-◌, ◌<◌, List, [], ◌∷◌, ◌++◌, map, length, Option, Some, None, slice_get}
-use Rattle.std.specs.List.{All, Contains}
-use Rattle.pb_values.specs.declared.outcome.Outcome.{Outcome}
-use Rattle.pb_links.specs.declared.places.Spot.{Spot}
+use Rattle.std.specs.Prelude.{◌≡◌, ℕ, ◌-◌, List, map}
+use Rattle.std.specs.List.{Contains}
 use Rattle.pb_program.specs.Configs.{ConfigValue}
 use Rattle.pb_model.specs.Calls.{Outcomes, Plans, cell_equation, cell_reads, no_outcome}
-use Rattle.pb_taskgraph.specs.Plans.{outcome_at}
-use Rattle.pb_frame.specs.Frames.{JobValue}
-use Rattle.pb_values.specs.Views.{HasPlace}
 use Rattle.pb_walk.specs.declared.stop.Stop.{Stop}
-use Rattle.pb_solution.specs.Solutions.{outcomes_of, stop_cell, stops_of}
-use Rattle.pb_runs.specs.Seats.{Seat, cell_at}
-use Rattle.pb_runs.specs.Steps.{Copied, Failed, Instance, Step, boxes_of, by_copy, by_job, by_trap, cells_of, copied_stops, number_at, stop_number}
-use Rattle.pb_runs.specs.Placed.{before, outcome_of}
+use Rattle.pb_solution.specs.Solutions.{stop_cell, stops_of}
+use Rattle.pb_runs.specs.Seats.{cell_at}
+use Rattle.pb_runs.specs.Steps.{Copied, Instance, Step, by_copy, by_job, by_trap, cells_of, copied_stops, number_at, stop_number}
+use Rattle.pb_runs.specs.Placed.{outcome_of}
 
 -- no plan plays a part
 abbrev pub no_plans : Plans
