@@ -1,5 +1,5 @@
 -- The copies after the calls of a plan: each cell of its job, once, from the matrix that was made for its output.
-use Rattle.std.proofs.Common.{◌≡◌, ◌∙◌, refl, sym, ap, subst, inl, ℕ, zero, suc, ◌+◌, ◌-◌, ◌<◌, ◌≤◌, pos, Bool, true, false, ◌&&◌, List, [], ◌∷◌, ◌++◌, length, map, slice_get, Option, Some, None, arith}
+use Rattle.std.proofs.Common.{◌≡◌, ◌∙◌, refl, sym, ap, subst, inl, ℕ, suc, ◌+◌, ◌-◌, ◌<◌, ◌≤◌, pos, Bool, true, false, ◌&&◌, List, [], ◌∷◌, ◌++◌, length, map, slice_get, Option, Some, None, arith}
 use Rattle.std.specs.Prelude.{◌==◌, nat_lt, IsSomeAnd, filter, unwrap_or}
 use Rattle.std.specs.List.{Contains, enumerate_from, flat_map, list_any}
 use Rattle.std.specs.Option.{option_map_or}
@@ -73,6 +73,7 @@ use Rattle.pb_runs.proofs.SoundLemmas.{Cells, IsMade, Sound, cells_append, sound
 use Rattle.pb_runs.proofs.SpotLemmas.{spot_back}
 use Rattle.pb_runs.proofs.ViewLemmas.{IsLocal, span_is}
 use Rattle.pb_runs.specs.Placed.{SpotCell, outcome_of}
+use Rattle.pb_recursion.proofs.ShapeLemmas.{get_below}
 
 -- ---- rectangles that are cut
 cut_place : (a b : Rect) (x y : ℕ) → HasPlace (cut_by a b) x y → HasPlace a x y × HasPlace b x y
@@ -96,11 +97,6 @@ both_true false b h k = h
 
 test_below : (a b : ℕ) → nat_lt a b ≡ true → a < b
 test_below a b h = grind (arith, nat_tests, h)
-
-get_below : {A : Type 0} (xs : List A) (k : ℕ) (x : A) → slice_get xs k ≡ Some x → k < length xs
-get_below [] k x e = absurd (let wrong : None ≡ Some x = e in cc)
-get_below (y ∷ xs) zero x e = omega arith
-get_below (y ∷ xs) (suc k) x e = let rest = get_below xs k x e in omega (arith, rest)
 
 below_test : (a b : ℕ) → a < b → nat_lt a b ≡ true
 below_test a b h = grind (arith, nat_tests, h)

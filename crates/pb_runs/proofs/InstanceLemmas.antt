@@ -20,7 +20,7 @@ use Rattle.pb_tasks.proofs.MadeLemmas.{made_by, made_cell, made_once}
 use Rattle.pb_plan.proofs.OnceLemmas.{Once, once_flat}
 use Rattle.pb_solution.specs.Solutions.{stop_cell, stops_of}
 use Rattle.pb_solution.proofs.OrderLemmas.{stop_made}
-use Rattle.pb_solution.proofs.OutcomeLemmas.{AreSided, index_at, matrix_is, rows_count, sides_are}
+use Rattle.pb_solution.proofs.OutcomeLemmas.{AreSided, get_left, index_at, matrix_is, rows_count, sides_are}
 use Rattle.pb_recursion.specs.Depths.{IsWhole, call_at, deeper_at, plans_at, plans_over, sides_of_matrix, sizes_given}
 use Rattle.pb_recursion.specs.Shapes.{can_enter, sides_of_decl, sizes_from}
 use Rattle.pb_recursion.proofs.DepthLemmas.{call_is, depth_settled, inputs_there}
@@ -42,6 +42,7 @@ use Rattle.pb_runs.proofs.SeatLemmas.{HasCell}
 use Rattle.pb_runs.proofs.SoundLemmas.{Cells, IsDeep}
 use Rattle.pb_runs.proofs.ViewLemmas.{IsLocal, has_matrix, zip_at}
 use Rattle.pb_runs.specs.Placed.{IsPlaced, total}
+use Rattle.pb_check.proofs.FirstLemmas.{some_at}
 
 -- ---- lists
 zip_append : {A B : Type 0} (R : A → B → Type 0) (xs us : List A) (ys vs : List B) → AllZip R xs ys → AllZip R us vs → AllZip R (xs ++ us) (ys ++ vs)
@@ -55,16 +56,6 @@ zip_length R [] [] h = refl
 zip_length R [] (y ∷ ys) h = absurd h
 zip_length R (x ∷ xs) [] h = absurd h
 zip_length R (x ∷ xs) (y ∷ ys) h = ap suc (zip_length R xs ys h.1)
-
-get_left : {A : Type 0} (xs ys : List A) (k : ℕ) → k < length xs → slice_get (xs ++ ys) k ≡ slice_get xs k
-get_left [] ys k h = absurd (omega (arith, h))
-get_left (x ∷ xs) ys zero h = refl
-get_left (x ∷ xs) ys (suc k) h = get_left xs ys k (omega (arith, h))
-
-some_at : {A : Type 0} (xs : List A) (k : ℕ) → k < length xs → (x : A) × (slice_get xs k ≡ Some x)
-some_at [] k h = absurd (omega (arith, h))
-some_at (x ∷ xs) zero h = (x, refl)
-some_at (x ∷ xs) (suc k) h = some_at xs k (omega (arith, h))
 
 module _ (ms : List Outcomes) where
   -- placed matrices have the sides of their seats, and all their cells

@@ -1,9 +1,8 @@
 -- A job of an instance reads what is known, and makes its cells as their rules say.
-use Rattle.std.proofs.Common.{◌≡◌, ◌∙◌, refl, sym, ap, subst, inl, inr, ◌⊎◌, ⊎_elim, ℕ, zero, suc, ◌+◌, ◌-◌, ◌<◌, ◌≤◌, ℤ, pos, negsuc, ◌<ℤ◌, List, [], ◌∷◌, ◌++◌, drop, length, map, slice_get, Some, None, arith}
+use Rattle.std.proofs.Common.{◌≡◌, ◌∙◌, refl, sym, ap, subst, inl, inr, ◌⊎◌, ⊎_elim, ℕ, ◌+◌, ◌-◌, ◌<◌, ◌≤◌, List, [], drop, map, slice_get, Some, None, arith}
 use Rattle.std.specs.List.{Contains}
 use Rattle.std.specs.Option.{option_map_or}
 use Rattle.std.proofs.lemmas.Bool.{cases_lt}
-use Rattle.std.proofs.lemmas.Int.{ints}
 use Rattle.pb_linear.specs.Numbers.{exact_value}
 use Rattle.pb_values.specs.declared.outcome.Outcome.{Outcome}
 use Rattle.pb_program.specs.Configs.{ConfigValue}
@@ -12,7 +11,7 @@ use Rattle.pb_program.specs.declared.rule.RuleKind.{RuleKind}
 use Rattle.pb_program.specs.declared.rule.RuleKind.TheVariants as kind
 use Rattle.pb_base.proofs.ListLemmas.{in_map, map_in}
 use Rattle.pb_model.specs.Calls.{IsSettled, Outcomes, Plans, cell_equation, cell_reads, made_by, made_cells, no_outcome, outcome_in, rule_of}
-use Rattle.pb_model.specs.Cells.{Cell, IsCell, natural, reads}
+use Rattle.pb_model.specs.Cells.{Cell, IsCell, reads}
 use Rattle.pb_model.specs.Chosen.{chosen_rule}
 use Rattle.pb_model.proofs.CallLemmas.{in_made}
 use Rattle.pb_model.proofs.LawfulLemmas.{in_lawful}
@@ -35,29 +34,7 @@ use Rattle.pb_runs.proofs.SoundLemmas.{Cells, IsMade}
 use Rattle.pb_runs.proofs.SpotLemmas.{spot_back}
 use Rattle.pb_runs.proofs.ViewLemmas.{IsLocal, has_matrix, number_is}
 use Rattle.pb_runs.specs.Placed.{SpotCell, outcome_of}
-
-below_side : (z : ℤ) (n : ℕ) → n < natural z → pos n <ℤ z
-below_side (pos k) n h = omega (arith, ints, h)
-below_side (negsuc k) n h = absurd (omega (arith, h))
-
-side_below : (z : ℤ) (n : ℕ) → pos n <ℤ z → n < natural z
-side_below (pos k) n h = omega (arith, ints, h)
-side_below (negsuc k) n h = absurd (omega (arith, ints, h))
-
-get_left : {A : Type 0} (xs ys : List A) (k : ℕ) → k < length xs → slice_get (xs ++ ys) k ≡ slice_get xs k
-get_left [] ys k h = absurd (omega (arith, h))
-get_left (x ∷ xs) ys zero h = refl
-get_left (x ∷ xs) ys (suc k) h = get_left xs ys k (omega (arith, h))
-
-some_at : {A : Type 0} (xs : List A) (k : ℕ) → k < length xs → (x : A) × (slice_get xs k ≡ Some x)
-some_at [] k h = absurd (omega (arith, h))
-some_at (x ∷ xs) zero h = (x, refl)
-some_at (x ∷ xs) (suc k) h = some_at xs k (omega (arith, h))
-
-at_dropped : {A : Type 0} (xs : List A) (n k : ℕ) (x : A) → slice_get xs (n + k) ≡ Some x → slice_get (drop n xs) k ≡ Some x
-at_dropped xs zero k x at = let here : 0 + k ≡ k = omega arith in subst (λ i. slice_get xs i ≡ Some x) here at
-at_dropped [] (suc n) k x at = absurd (let none : None ≡ Some x = at in cc)
-at_dropped (y ∷ xs) (suc n) k x at = let here : suc n + k ≡ suc (n + k) = omega arith in at_dropped xs n k x (subst (λ i. slice_get (y ∷ xs) i ≡ Some x) here at)
+use Rattle.pb_runs.proofs.OwnLemmas.{at_dropped, below_side, side_below}
 
 -- the cells of a job, in its order
 abbrev pub own_cells : Instance → JobValue → List ℕ

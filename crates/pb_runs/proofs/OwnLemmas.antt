@@ -1,5 +1,5 @@
 -- The cells that an instance makes, and their numbers.
-use Rattle.std.proofs.Common.{◌≡◌, ◌∙◌, refl, sym, ap, subst, ⊎_elim, ℕ, zero, suc, ◌+◌, ◌-◌, ◌*◌, ◌<◌, ◌≤◌, ℤ, pos, negsuc, ◌<ℤ◌, List, [], ◌∷◌, ◌++◌, drop, length, map, slice_get, Some, None, arith}
+use Rattle.std.proofs.Common.{◌≡◌, ◌∙◌, refl, sym, ap, subst, ⊎_elim, ℕ, zero, suc, ◌+◌, ◌-◌, ◌*◌, ◌<◌, ◌≤◌, ℤ, pos, negsuc, ◌<ℤ◌, List, [], ◌∷◌, ◌++◌, drop, length, slice_get, Some, None, arith}
 use Rattle.std.specs.List.{Contains, range_with_len}
 use Rattle.std.proofs.lemmas.Bool.{cases_lt}
 use Rattle.std.proofs.lemmas.Int.{ints}
@@ -13,7 +13,7 @@ use Rattle.pb_model.specs.Calls.{Outcomes, outcome_in}
 use Rattle.pb_model.specs.Cells.{Cell, natural}
 use Rattle.pb_check.proofs.FirstLemmas.{some_same}
 use Rattle.pb_check.specs.Ranked.{IsMadeCell}
-use Rattle.pb_solution.proofs.OutcomeLemmas.{index_at}
+use Rattle.pb_solution.proofs.OutcomeLemmas.{get_right, index_at}
 use Rattle.pb_plan.proofs.NumberLemmas.{row_below, row_once}
 use Rattle.pb_recursion.specs.Shapes.{Sides, area, sides_of_decl}
 use Rattle.pb_runs.specs.Seats.{Seat, base_x, base_y, cell_at, no_seat}
@@ -24,6 +24,7 @@ use Rattle.pb_runs.proofs.FailedLemmas.{HaveSides, seats_within}
 use Rattle.pb_runs.proofs.SeatLemmas.{HasCell, has_whole}
 use Rattle.pb_runs.proofs.ViewLemmas.{IsLocal, has_matrix, matrix_at}
 use Rattle.pb_runs.specs.Placed.{IsAt, before, total}
+use Rattle.pb_tasks.proofs.JobLemmas.{at_map, map_at}
 
 -- ---- numbers in the matrices of a run
 module _ (ms : List Outcomes) where
@@ -87,29 +88,15 @@ pub side_below : (z : ℤ) (n : ℕ) → pos n <ℤ z → n < natural z
 side_below (pos k) n h = omega (arith, ints, h)
 side_below (negsuc k) n h = absurd (omega (arith, ints, h))
 
-get_right : {A : Type 0} (xs ys : List A) (k : ℕ) → slice_get (xs ++ ys) (length xs + k) ≡ slice_get ys k
-get_right [] ys k = ap (slice_get ys) (omega arith)
-get_right (z ∷ xs) ys k = let here : suc (length xs) + k ≡ suc (length xs + k) = omega arith in ap (slice_get (z ∷ (xs ++ ys))) here ∙ get_right xs ys k
-
 dropped_at : {A : Type 0} (xs : List A) (n k : ℕ) (x : A) → slice_get (drop n xs) k ≡ Some x → slice_get xs (n + k) ≡ Some x
 dropped_at xs zero k x at = let here : 0 + k ≡ k = omega arith in rw here at
 dropped_at [] (suc n) k x at = absurd (let none : None ≡ Some x = at in cc)
 dropped_at (y ∷ xs) (suc n) k x at = let here : suc n + k ≡ suc (n + k) = omega arith in rw here (dropped_at xs n k x at)
 
-at_dropped : {A : Type 0} (xs : List A) (n k : ℕ) (x : A) → slice_get xs (n + k) ≡ Some x → slice_get (drop n xs) k ≡ Some x
+pub at_dropped : {A : Type 0} (xs : List A) (n k : ℕ) (x : A) → slice_get xs (n + k) ≡ Some x → slice_get (drop n xs) k ≡ Some x
 at_dropped xs zero k x at = let here : 0 + k ≡ k = omega arith in subst (λ i. slice_get xs i ≡ Some x) here at
 at_dropped [] (suc n) k x at = absurd (let none : None ≡ Some x = at in cc)
 at_dropped (y ∷ xs) (suc n) k x at = let here : suc n + k ≡ suc (n + k) = omega arith in at_dropped xs n k x (subst (λ i. slice_get (y ∷ xs) i ≡ Some x) here at)
-
-map_at : {A B : Type 0} (f : A → B) (xs : List A) (k : ℕ) (y : B) → slice_get (map f xs) k ≡ Some y → (x : A) × (slice_get xs k ≡ Some x) × (f x ≡ y)
-map_at f [] k y e = absurd (let wrong : None ≡ Some y = e in cc)
-map_at f (x ∷ xs) zero y e = (x, refl, some_same (f x) y e)
-map_at f (x ∷ xs) (suc k) y e = map_at f xs k y e
-
-at_map : {A B : Type 0} (f : A → B) (xs : List A) (k : ℕ) (x : A) → slice_get xs k ≡ Some x → slice_get (map f xs) k ≡ Some (f x)
-at_map f [] k x e = absurd (let wrong : None ≡ Some x = e in cc)
-at_map f (y ∷ xs) zero x e = ap (λ z. Some (f z)) (some_same y x e)
-at_map f (y ∷ xs) (suc k) x e = at_map f xs k x e
 
 -- ---- an instance, whose own matrices begin here
 module _ (ms : List Outcomes) (i : Instance) (given : List Seat) (n : Met) (own : List Outcomes) (seats : i.seats ≡ given ++ seats_from n (own_sides i.transform i.sizes)) (count : length given ≡ i.transform.inputs) (sides : HaveSides ms (own_sides i.transform i.sizes) own) where
