@@ -49,7 +49,7 @@ counted_none c xs n = ⊎_elim (λ (low : counted c xs < 1). omega (arith, low))
 pub rest_once : {A : Type 0} (x : A) (xs : List A) → Once (x ∷ xs) → Once xs
 rest_once x xs h i j y e f = let same : suc i ≡ suc j = h (suc i) (suc j) y e f in omega (arith, same)
 
-head_once : {A : Type 0} (x : A) (xs : List A) → Once (x ∷ xs) → Contains xs x → ⊥
+pub head_once : {A : Type 0} (x : A) (xs : List A) → Once (x ∷ xs) → Contains xs x → ⊥
 head_once x xs h in_rest = let at = found xs x in_rest in let same : zero ≡ suc at.0 = h zero (suc at.0) x refl at.1 in omega (arith, same)
   where
     found : {A : Type 0} (xs : List A) (x : A) → Contains xs x → (k : ℕ) × (slice_get xs k ≡ Some x)

@@ -18,3 +18,4 @@ pub mod PlanLemmas
 pub mod FoldLemmas
 pub mod InstanceLemmas
 pub mod RunLemmas
+pub mod TallyLemmas
