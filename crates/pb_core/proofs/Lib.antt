@@ -1,0 +1,9 @@
+pub mod WithLemmas
+pub mod CountLemmas
+pub mod KeepLemmas
+pub mod FirstLemmas
+pub mod OnceLemmas
+pub mod OrderLemmas
+pub mod ProgressLemmas
+pub mod FewLemmas
+pub mod SnapshotLemmas

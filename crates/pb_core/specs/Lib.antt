@@ -1,0 +1,4 @@
+pub mod States
+pub mod Events
+pub mod Sound
+pub mod Snapshots

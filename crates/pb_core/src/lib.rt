@@ -1,0 +1,11 @@
+//! In: a work, a number of hands, and events. Out: what the tasks and the cells have come to.
+#![tactic(auto)]
+
+mod event;
+mod laws;
+
+pub use event::{Event, NotEnabled};
+pub use laws::{
+    a_cell_is_written_once_and_right_and_after_what_it_reads, a_state_shows_a_sound_snapshot,
+    an_enabled_event_keeps_a_state_sound, some_hand_can_go_on, there_are_few_events,
+};
