@@ -7,3 +7,10 @@ pub mod OrderLemmas
 pub mod ProgressLemmas
 pub mod FewLemmas
 pub mod SnapshotLemmas
+pub mod StateLemmas
+pub mod StepLemmas
+pub mod WholeLemmas
+pub mod LearnLemmas
+pub mod WriteLemmas
+pub mod LinkLemmas
+pub mod FinishLemmas

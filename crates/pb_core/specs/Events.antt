@@ -1,11 +1,11 @@
 -- Lists of events.
-use Rattle.std.specs.Prelude.{◌≡◌, ℕ, ◌+◌, ◌-◌, ◌*◌, ◌==◌, ◌<◌, zero, suc, Bool, false, List, [], ◌∷◌, length, map, filter_map, slice_index, Option, Some, None, IsSome, if◌then◌else◌}
+use Rattle.std.specs.Prelude.{◌≡◌, ℕ, ◌+◌, ◌-◌, ◌*◌, ◌==◌, ◌<◌, ◌≤◌, zero, suc, Bool, false, List, [], ◌∷◌, length, map, filter_map, slice_index, Option, Some, None, IsSome, if◌then◌else◌}
 use Rattle.std.specs.List.{Contains, range_with_len}
 use Rattle.pb_taskgraph.specs.Graphs.{EachOnce, GraphValue, before_of, link_count}
 use Rattle.pb_taskgraph.specs.Plans.{Plan}
 use Rattle.pb_core.specs.declared.event.Event.{Event}
 use Rattle.pb_core.specs.declared.event.Event.TheVariants.{Finish, Give, Release, Start, Write}
-use Rattle.pb_core.specs.States.{Enabled, State, happens}
+use Rattle.pb_core.specs.States.{Enabled, State, first_state, happens}
 
 -- each event is enabled in its turn
 abbrev pub AllEnabled : Plan → State → List Event → Type 0
@@ -66,3 +66,12 @@ pub record IsFinishedOrder (g : GraphValue) (s : State) (order : List ℕ) : Typ
   pub each : (t : ℕ) → IsSome (s.number t) → Contains order t
   pub once : EachOnce order
   pub after : (i u : ℕ) → i < length order → Contains (before_of g (slice_index order i)) u → (j : ℕ) × (j < i) × (slice_index order j ≡ u)
+
+-- a state that enabled events of some hands, from 1 to 64, lead to
+pub record IsReached (p : Plan) (s : State) : Type 0 where
+  pub hands : ℕ
+  pub some : 1 ≤ hands
+  pub few : hands ≤ 64
+  pub events : List Event
+  pub enabled : AllEnabled p (first_state p hands) events
+  pub is : s ≡ all_happen p (first_state p hands) events

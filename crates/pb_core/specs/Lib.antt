@@ -2,3 +2,4 @@ pub mod States
 pub mod Events
 pub mod Sound
 pub mod Snapshots
+pub mod Cores
