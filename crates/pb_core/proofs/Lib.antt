@@ -14,3 +14,5 @@ pub mod LearnLemmas
 pub mod WriteLemmas
 pub mod LinkLemmas
 pub mod FinishLemmas
+pub mod NewLemmas
+pub mod RunLemmas

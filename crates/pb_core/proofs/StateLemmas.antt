@@ -45,11 +45,11 @@ changes-length Can change t old (Err refused) new changes = ap (λ (l : List Pro
 
 -- events more
 module _ (p : Plan) where
-  enabled-more : (es : List Event) (e : Event) (s : State) → AllEnabled p s es → Enabled p (all_happen p s es) e → AllEnabled p s (es ++ e ∷ [])
+  pub enabled-more : (es : List Event) (e : Event) (s : State) → AllEnabled p s es → Enabled p (all_happen p s es) e → AllEnabled p s (es ++ e ∷ [])
   enabled-more [] e s all enabled = (enabled, tt)
   enabled-more (d ∷ es) e s all enabled = (all.0, enabled-more es e (happens p s d) all.1 enabled)
 
-  happen-more : (es : List Event) (e : Event) (s : State) → all_happen p s (es ++ e ∷ []) ≡ happens p (all_happen p s es) e
+  pub happen-more : (es : List Event) (e : Event) (s : State) → all_happen p s (es ++ e ∷ []) ≡ happens p (all_happen p s es) e
   happen-more [] e s = refl
   happen-more (d ∷ es) e s = happen-more es e (happens p s d)
 

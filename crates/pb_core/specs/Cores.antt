@@ -1,5 +1,5 @@
 -- What the machine holds: an entry for each task, for each link and for each cell.
-use Rattle.std.specs.Prelude.{◌≡◌, ℕ, ◌-◌, ◌%◌, ◌==◌, ◌<◌, Bool, true, false, List, [], ◌∷◌, length, slice_get, slice_index, slice_index_or, slice_set, Option, Some, None, Result, Ok, Err, if◌then◌else◌}
+use Rattle.std.specs.Prelude.{◌≡◌, ℕ, ◌-◌, ◌%◌, ◌==◌, ◌<◌, Bool, true, false, List, [], ◌∷◌, length, nat_lt, replicate, slice_get, slice_index, slice_index_or, slice_set, Option, Some, None, Result, Ok, Err, if◌then◌else◌}
 use Rattle.std.specs.List.{Contains}
 use Rattle.pb_values.specs.declared.outcome.Outcome.{Outcome}
 use Rattle.pb_taskgraph.specs.Graphs.{GraphValue, after_of, before_of, cells_of}
@@ -59,16 +59,30 @@ handed taker at = record at { holder = Some taker; given = true }
 abbrev pub freed : ℕ → Progress → Progress
 freed hand at = record at { count = at.count - 1; holder = holder_at (at.count - 1) hand at.holder }
 
--- a task before any event
+-- a task with these predecessors before any event
+abbrev pub progress_at : List ℕ → ℕ → ℕ → Progress
+progress_at before hands t = record { count = length before; holder = if length before == 0 then Some (t % hands) else None; runner = None; number = None; given = false }
+
 abbrev pub first_progress : GraphValue → ℕ → ℕ → Progress
-first_progress g hands t =
-    record {
-      count = length (before_of g t);
-      holder = if length (before_of g t) == 0 then Some (t % hands) else None;
-      runner = None;
-      number = None;
-      given = false;
-    }
+first_progress g hands t = progress_at (before_of g t) hands t
+
+-- the flags of the links of a task before any event
+abbrev pub first_flags : GraphValue → ℕ → List Bool
+first_flags g t = replicate (length (after_of g t)) false
+
+-- the outcome of a cell is told
+abbrev pub IsTold : Plan → List Outcome → ℕ → Type 0
+IsTold p outcomes c = slice_get outcomes c ≡ Some (outcome_at p.solution c)
+
+-- just the input cells are written
+pub record AreInputs (inputs cells : ℕ) (written : List Bool) : Type 0 where
+  pub room : length written ≡ cells
+  pub each : (c : ℕ) → slice_index_or written c false ≡ nat_lt c inputs
+
+-- the outcomes of the input cells are told
+pub record TellInputs (p : Plan) (outcomes : List Outcome) : Type 0 where
+  pub room : length outcomes ≡ p.graph.cells
+  pub inputs : (c : ℕ) → c < p.graph.inputs → IsTold p outcomes c
 
 -- whether all these cells are written
 abbrev pub TellsWritten : List Bool → List ℕ → Bool → Type 0
@@ -97,10 +111,6 @@ pub record IsCore (p : Plan) (v : CoreValue) : Type 0 where
   pub links : (t : ℕ) → t < length p.graph.tasks → length (slice_index_or v.released t []) ≡ length (after_of p.graph t)
   pub written : length v.written ≡ p.graph.cells
   pub reached : IsReached p (state_of p v)
-
--- the outcome of a cell is told
-abbrev pub IsTold : Plan → List Outcome → ℕ → Type 0
-IsTold p outcomes c = slice_get outcomes c ≡ Some (outcome_at p.solution c)
 
 -- a task can be run: the input cells and those of its predecessors are told
 pub record CanRun (p : Plan) (t : ℕ) (outcomes : List Outcome) : Type 0 where

@@ -3,3 +3,4 @@ pub mod Events
 pub mod Sound
 pub mod Snapshots
 pub mod Cores
+pub mod Runs

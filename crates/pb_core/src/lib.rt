@@ -2,6 +2,8 @@
 #![tactic(auto)]
 
 mod event;
+mod events;
+mod first;
 mod laws;
 mod learned;
 mod links;
@@ -11,7 +13,8 @@ mod progress;
 mod steps;
 mod wholes;
 
-pub use event::{Event, NotEnabled};
+pub use event::{Event, EventsRefusal, NotEnabled};
+pub use events::run_events;
 pub use laws::{
     a_cell_is_written_once_and_right_and_after_what_it_reads, a_state_shows_a_sound_snapshot,
     an_enabled_event_keeps_a_state_sound, some_hand_can_go_on, there_are_few_events,

@@ -1,11 +1,13 @@
-ghost use Rattle.std.specs.Prelude.{◌≡◌, ◌<◌, ◌↔◌, IsTrue, length};
+ghost use Rattle.std.specs.Prelude.{◌≡◌, ◌<◌, ◌≤◌, ◌↔◌, IfOk, IsTrue, length};
 ghost use Rattle.pb_taskgraph.specs.Graphs.{cells_of};
 ghost use Rattle.pb_taskgraph.specs.Plans.{IsPlan, outcome_at};
 ghost use Rattle.pb_core.specs.declared.event.Event.TheVariants.{Finish, Give, Release, Start, Write};
-ghost use Rattle.pb_core.specs.Events.{AllFinished};
+ghost use Rattle.pb_core.specs.States.{first_state};
+ghost use Rattle.pb_core.specs.Events.{AllFinished, IsReached};
 ghost use Rattle.pb_core.specs.Cores.{FindsLink, FindsWriter, Steps, TellsWritten, state_of};
 
 use crate::event::{Event, NotEnabled};
+use crate::first::{first_links, first_outcomes, first_tasks, first_written};
 use crate::learned::learn;
 use crate::links::{Flags, open_place};
 use crate::names::NamesWork;
@@ -14,7 +16,7 @@ use crate::steps::{can_release, can_write, finish_task, give_task, release_task,
 use crate::wholes::{is_written, parts_written};
 use pb_taskgraph::{TaskGraph, Work};
 use pb_values::Outcome;
-use std::alloc::Global;
+use std::alloc::{AllocError, Global};
 use std::marker::{Model, PhantomData};
 use std::mem;
 
@@ -45,6 +47,31 @@ impl<'w, W: Work, N: NamesWork> Model for Core<'w, W, N> {
 }
 
 impl<'w, W: Work, N: NamesWork> Core<'w, W, N> {
+    /// The machine before any event. A task without predecessors is held by the hand of its number modulo the hands. It takes
+    /// all memory that later calls need.
+    pub fn new(alloc: Global, work: &'w W, hands: u32) -> Result<Core<'w, W, N>, AllocError>
+        requires name { W.plan work.now ≡ N.plan }
+        requires some { 1 ≤ hands }
+        requires few { hands ≤ 64 }
+        ensures { IfOk result (λ core. state_of N.plan core ≡ first_state N.plan hands) }
+    {
+        let graph = work.graph();
+        let inputs = graph.inputs();
+        let cells = graph.cells();
+        Ok(Core {
+            alloc,
+            work,
+            scratch: work.scratch(alloc)?,
+            tasks: first_tasks(alloc, graph, hands)?,
+            released: first_links(alloc, graph)?,
+            written: first_written(alloc, inputs, cells)?,
+            finished: 0,
+            run: vec![in alloc; false; graph.tasks().len()]?,
+            outcomes: first_outcomes(alloc, work, inputs, cells)?,
+            of: PhantomData,
+        })
+    }
+
     fn start(&mut self, hand: u32, task: u32) -> Result<(), NotEnabled>
         ensures { Steps N.plan self.old (Start hand task) result self.new }
     {
@@ -191,9 +218,10 @@ impl<'w, W: Work, N: NamesWork> Core<'w, W, N> {
         progress_of(&self.tasks, task).number
     }
 
-    /// Whether all tasks are finished.
+    /// Whether all tasks are finished. Events led to the state of any machine.
     pub fn done(&self) -> bool
-        ensures { IsTrue result ↔ AllFinished N.plan.graph (state_of N.plan self.now) }
+        ensures done { IsTrue result ↔ AllFinished N.plan.graph (state_of N.plan self.now) }
+        ensures reached { IsReached N.plan (state_of N.plan self.now) }
     {
         self.finished == self.graph().tasks().len() as u64
     }
