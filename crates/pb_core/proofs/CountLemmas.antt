@@ -1,10 +1,11 @@
 -- How many numbers of a list pass a test.
 use Rattle.std.proofs.Common.{◌≡◌, ◌∙◌, refl, sym, ap, subst, inl, inr, ℕ, zero, suc, ◌+◌, ◌≤◌, Bool, true, false, List, [], ◌∷◌, length, arith}
+use Rattle.std.specs.Prelude.{filter}
 use Rattle.std.specs.List.{Contains}
 use Rattle.std.proofs.Math.Bool.{cond}
 use Rattle.std.proofs.lemmas.Bool.Decides.{nat_tests}
 use Rattle.std.proofs.lemmas.List.{get_or_default}
-use Rattle.pb_base.proofs.ListLemmas.{in_cases, in_head, in_none, in_tail}
+use Rattle.pb_base.proofs.ListLemmas.{filter_in, in_cases, in_head, in_none, in_tail}
 use Rattle.pb_taskgraph.specs.Graphs.{EachOnce}
 use Rattle.pb_core.specs.States.{counted}
 
@@ -16,6 +17,20 @@ once-rest x xs once i j below inside same = let next : suc i ≡ suc j = once (s
 
 pub once-head : (x : ℕ) (xs : List ℕ) → EachOnce (x ∷ xs) → Contains xs x → ⊥
 once-head x xs once (k, below, is) = let wrong : zero ≡ suc k = once zero (suc k) (omega arith) (omega arith) (sym (get_or_default xs k 0 x below ∙ is)) in omega arith
+
+pub one-more : (x : ℕ) (xs : List ℕ) → EachOnce xs → (Contains xs x → ⊥) → EachOnce (x ∷ xs)
+one-more x xs once never zero zero a b same = refl
+one-more x xs once never zero (suc j) a b same = absurd (never (j, omega arith, get_or_default xs j x 0 (omega arith) ∙ sym same))
+one-more x xs once never (suc i) zero a b same = absurd (never (i, omega arith, get_or_default xs i x 0 (omega arith) ∙ same))
+one-more x xs once never (suc i) (suc j) a b same = let rest : i ≡ j = once i j (omega arith) (omega arith) same in omega arith
+
+pub once-filter : (test : ℕ → Bool) (xs : List ℕ) → EachOnce xs → EachOnce (filter test xs)
+once-filter test [] once = once
+once-filter test (x ∷ xs) once = go (test x) (once-filter test xs (once-rest x xs once))
+  where
+    go : (b : Bool) → EachOnce (filter test xs) → EachOnce (cond b (x ∷ filter test xs) (filter test xs))
+    go false rest = rest
+    go true rest = one-more x (filter test xs) rest (λ h. once-head x xs once (filter_in test xs x h).0)
 
 module _ (old new : ℕ → Bool) where
   pub count-same : (xs : List ℕ) → ((x : ℕ) → Contains xs x → old x ≡ new x) → counted old xs ≡ counted new xs

@@ -1,5 +1,5 @@
 -- Finishes, and the end.
-use Rattle.std.proofs.Common.{◌≡◌, ◌∙◌, refl, sym, ap, subst, ⊎_elim, ℕ, zero, suc, ◌+◌, ◌<◌, ◌≤◌, ◌^◌, eqb, Bool, true, false, List, ◌∷◌, length, map, get_or, slice_set, Option, Some, None, IsSome, Result, Ok, Err, zero-add, arith}
+use Rattle.std.proofs.Common.{◌≡◌, ◌∙◌, refl, sym, ap, subst, ⊎_elim, ℕ, ◌+◌, ◌<◌, ◌≤◌, ◌^◌, eqb, Bool, true, false, List, ◌∷◌, length, map, get_or, slice_set, Option, Some, None, IsSome, Result, Ok, Err, zero-add, arith}
 use Rattle.std.specs.Prelude.{is_ok, unwrap_or}
 use Rattle.std.specs.List.{Contains, range_with_len}
 use Rattle.std.proofs.Math.Bool.{cond}
@@ -22,6 +22,7 @@ use Rattle.pb_core.specs.States.{State, happens}
 use Rattle.pb_core.specs.Events.{AllFinished, IsFinishedOrder, by_number}
 use Rattle.pb_core.specs.Sound.{IsSound}
 use Rattle.pb_core.specs.Cores.{CanFinish, Changes, CoreValue, IsMachine, Steps, TellsWritten, ended, state_of, untouched}
+use Rattle.pb_core.proofs.CountLemmas.{one-more}
 use Rattle.pb_core.proofs.OrderLemmas.{finished-order}
 use Rattle.pb_core.proofs.StateLemmas.{changes-length, field-kept, field-set, is-inside, state-path}
 use Rattle.pb_core.proofs.StepLemmas.{machine-after}
@@ -33,12 +34,6 @@ few : (xs : List ℕ) (n : ℕ) → EachOnce xs → ((x : ℕ) → Contains xs x
 few xs n once below = length-le_from_distinct_below xs n
     (IsDistinct-from_apart eqb xs (λ i j d before inside. grind (arith, nat_tests, once i j (omega arith) inside, get_or_default xs i 0 d (omega arith), get_or_default xs j 0 d inside)))
     (λ q h. below q (Contains-from_any eqb-true q xs h))
-
-one-more : (x : ℕ) (xs : List ℕ) → EachOnce xs → (Contains xs x → ⊥) → EachOnce (x ∷ xs)
-one-more x xs once never zero zero a b same = refl
-one-more x xs once never zero (suc j) a b same = absurd (never (j, omega arith, get_or_default xs j x 0 (omega arith) ∙ sym same))
-one-more x xs once never (suc i) zero a b same = absurd (never (i, omega arith, get_or_default xs i x 0 (omega arith) ∙ same))
-one-more x xs once never (suc i) (suc j) a b same = let rest : i ≡ j = once i j (omega arith) (omega arith) same in omega arith
 
 module _ (p : Plan) (s : State) (is : IsSound p s) where
   pub is-order : IsFinishedOrder p.graph s (by_number p.graph s.number s.finished)

@@ -16,3 +16,7 @@ pub mod LinkLemmas
 pub mod FinishLemmas
 pub mod NewLemmas
 pub mod RunLemmas
+pub mod BlockLemmas
+pub mod ListedLemmas
+pub mod InterleavingLemmas
+pub mod ShownLemmas

@@ -28,10 +28,10 @@ in-any (x ∷ xs) c h = elim (in_cases x c xs h) [
   | inr later ↦ or_right (eqb x c) (list_any (λ y. eqb y c) xs) (in-any xs c later)
 ]
 
-and-all : (a b c : Bool) → a ≡ true → b ≡ true → c ≡ true → a && b && c ≡ true
+pub and-all : (a b c : Bool) → a ≡ true → b ≡ true → c ≡ true → a && b && c ≡ true
 and-all a b c x y z = rw (x, y, z) refl
 
-and-three : (a b c : Bool) → a && b && c ≡ true → (a ≡ true) × (b ≡ true) × (c ≡ true)
+pub and-three : (a b c : Bool) → a && b && c ≡ true → (a ≡ true) × (b ≡ true) × (c ≡ true)
 and-three a b c e = let outer = and_parts (a && b) c e in let inner = and_parts a b outer.0 in (inner.0, inner.1, outer.1)
 
 -- unfinished predecessors and owed releases are the releases that are missing

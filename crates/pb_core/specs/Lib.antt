@@ -4,3 +4,4 @@ pub mod Sound
 pub mod Snapshots
 pub mod Cores
 pub mod Runs
+pub mod Listed

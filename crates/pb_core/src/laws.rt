@@ -1,14 +1,18 @@
-ghost use Rattle.std.specs.Prelude.{◌≡◌, ◌==◌, ◌++◌, ◌<◌, ◌≤◌, ◌∷◌, ℕ, List, None, Some, length};
+ghost use Rattle.std.specs.Prelude.{◌≡◌, ◌==◌, ◌++◌, ◌<◌, ◌≤◌, ◌∷◌, ℕ, List, None, Result, Some, length};
 ghost use Rattle.std.specs.List.{Contains};
 ghost use Rattle.pb_values.specs.declared.outcome.Outcome.{Outcome};
 ghost use Rattle.pb_taskgraph.specs.Graphs.{before_of, cells_of};
 ghost use Rattle.pb_taskgraph.specs.Plans.{IsPlan, Plan, outcome_at};
 ghost use Rattle.pb_core.specs.declared.event.Event.{Event};
 ghost use Rattle.pb_core.specs.declared.event.Event.TheVariants.{Write};
+ghost use Rattle.pb_core.specs.declared.event.EventsRefusal.{EventsRefusal};
 ghost use Rattle.pb_core.specs.States.{Enabled, State, counted, first_state, happens};
 ghost use Rattle.pb_core.specs.Events.{AllEnabled, AllFinished, IsFinishedOrder, IsWork, all_happen, by_number, most_events, writes};
-ghost use Rattle.pb_core.specs.Snapshots.{IsSoundSnapshot, snapshot_of};
+ghost use Rattle.pb_core.specs.Listed.{IsInterleaving, WritesInOrder, listed_events};
+ghost use Rattle.pb_core.specs.Snapshots.{IsSoundSnapshot, Shows, Snapshot, snapshot_of};
 ghost use Rattle.pb_core.specs.Sound.{IsSound};
+ghost use Rattle.pb_core.specs.Cores.{CoreValue};
+ghost use Rattle.pb_core.specs.Runs.{Runs, ShowsIt};
 
 /// A law: the state before any event is sound, and each enabled event keeps a state sound.
 pub fn an_enabled_event_keeps_a_state_sound()
@@ -47,4 +51,14 @@ pub fn some_hand_can_go_on()
 /// A law: there are at most three events for each task, one for each cell past the inputs and one for each link.
 pub fn there_are_few_events()
     ensures { (p : Plan) (hands : ℕ) (events : List Event) → IsPlan p → AllEnabled p (first_state p hands) events → length events ≤ most_events p.graph }
+{}
+
+/// A law: the events that are listed for a sound snapshot are enabled, each in its turn, where there is one hand; they lead to
+/// a state that shows the snapshot; and they are an interleaving where the written cells of each task are the first of its own
+/// order. So a run over them isn't refused, unless there is no memory, and its state shows the snapshot.
+pub fn the_listed_events_show_a_sound_snapshot()
+    ensures enabled { (p : Plan) (q : Snapshot) → IsPlan p → IsSoundSnapshot p q → AllEnabled p (first_state p 1) (listed_events p q) }
+    ensures shows { (p : Plan) (q : Snapshot) → IsPlan p → IsSoundSnapshot p q → Shows p (all_happen p (first_state p 1) (listed_events p q)) q }
+    ensures interleaving { (p : Plan) (q : Snapshot) → IsPlan p → IsSoundSnapshot p q → WritesInOrder p q → IsInterleaving p 1 (listed_events p q) }
+    ensures run { (p : Plan) (q : Snapshot) (run : Result CoreValue EventsRefusal) → IsPlan p → IsSoundSnapshot p q → Runs p 1 (listed_events p q) run → ShowsIt p q run }
 {}
