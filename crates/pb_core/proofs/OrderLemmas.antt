@@ -6,8 +6,9 @@ use Rattle.std.proofs.lemmas.Bool.{cases_eq, eq-eqb, eqb-true}
 use Rattle.std.proofs.lemmas.List.{get_or_default}
 use Rattle.std.proofs.lemmas.List.FromFn.{get_or-map-range_with_len, length-map-range_with_len}
 use Rattle.pb_taskgraph.specs.Plans.{Plan}
+use Rattle.pb_taskgraph.specs.Orders.{IsLawful}
 use Rattle.pb_core.specs.States.{State}
-use Rattle.pb_core.specs.Events.{IsFinishedOrder, by_number, has_number, task_numbered}
+use Rattle.pb_core.specs.Events.{AllFinished, IsFinishedOrder, by_number, has_number, task_numbered}
 use Rattle.pb_core.specs.Sound.{IsSound}
 use Rattle.pb_core.proofs.WithLemmas.{of-some, some-of}
 
@@ -60,3 +61,16 @@ module _ (p : Plan) (s : State) (sound : IsSound p s) where
           let below = sound.numbers.below t n is in
           let inside : n < length (by_number p.graph s.number s.finished) = omega (arith, size) in
           (n, inside, get_or_default (by_number p.graph s.number s.finished) n t 0 inside ∙ sound.numbers.once (get_or (by_number p.graph s.number s.finished) n 0) t n (at-number n below) is)
+
+-- where all tasks are finished, that is a lawful order of them
+pub lawful-order : (p : Plan) (s : State) → IsSound p s → AllFinished p.graph s → IsLawful p.graph (by_number p.graph s.number s.finished)
+lawful-order p s sound all =
+    let is = finished-order p s sound in
+    record {
+      only = λ t h. (is.only t h).0;
+      each = λ t below. is.each t (all t below);
+      once = is.once;
+      after = λ i j below inside h.
+          let there = is.after i (get_or (by_number p.graph s.number s.finished) j 0) below h in
+          let same : there.0 ≡ j = is.once there.0 j (omega (arith, there.1)) inside there.2 in omega (arith, same, there.1);
+    }

@@ -2,6 +2,7 @@ ghost use Rattle.std.specs.Prelude.{◌≡◌, ◌==◌, ◌++◌, ◌<◌, ◌�
 ghost use Rattle.std.specs.List.{Contains};
 ghost use Rattle.pb_values.specs.declared.outcome.Outcome.{Outcome};
 ghost use Rattle.pb_taskgraph.specs.Graphs.{before_of, cells_of};
+ghost use Rattle.pb_taskgraph.specs.Orders.{IsLawful};
 ghost use Rattle.pb_taskgraph.specs.Plans.{IsPlan, Plan, outcome_at};
 ghost use Rattle.pb_core.specs.declared.event.Event.{Event};
 ghost use Rattle.pb_core.specs.declared.event.Event.TheVariants.{Write};
@@ -34,12 +35,14 @@ pub fn a_cell_is_written_once_and_right_and_after_what_it_reads()
 {}
 
 /// A law: after enabled events the snapshot is sound, and the finished tasks by number stand each once and after their
-/// predecessors.
+/// predecessors: a lawful order where all are finished.
 pub fn a_state_shows_a_sound_snapshot()
     ensures snapshot { (p : Plan) (hands : ℕ) (events : List Event) → IsPlan p → AllEnabled p (first_state p hands) events
         → IsSoundSnapshot p (snapshot_of p.graph (all_happen p (first_state p hands) events)) }
     ensures order { (p : Plan) (hands : ℕ) (events : List Event) (s : State) → IsPlan p → AllEnabled p (first_state p hands) events → s ≡ all_happen p (first_state p hands) events
         → IsFinishedOrder p.graph s (by_number p.graph s.number s.finished) }
+    ensures lawful { (p : Plan) (hands : ℕ) (events : List Event) (s : State) → IsPlan p → AllEnabled p (first_state p hands) events → s ≡ all_happen p (first_state p hands) events
+        → AllFinished p.graph s → IsLawful p.graph (by_number p.graph s.number s.finished) }
 {}
 
 /// A law: while a task is unfinished, some event that isn't a Give is enabled.
