@@ -4,6 +4,8 @@
 #[cfg(test)]
 mod links;
 #[cfg(test)]
+mod machine;
+#[cfg(test)]
 mod serial;
 pub mod sums;
 #[cfg(test)]

@@ -1,0 +1,9 @@
+use Rattle.std.proofs.Common.{◌≡◌, ◌<◌, ℕ, Some, length, slice_get}
+use Rattle.pb_taskgraph.specs.Plans.{outcome_at}
+use Rattle.pb_core.proofs.first.first_outcomes.Given as goal
+
+abbrev pub invariant-loop-cell : goal.invariant-loop-cell
+invariant-loop-cell g l = record {
+  room : length l.outcomes.items ≡ l.cells;
+  inputs : (c : ℕ) → c < l.cell → slice_get l.outcomes.items c ≡ Some (outcome_at (g.W.Work.plan l.work).solution c);
+}
