@@ -9,7 +9,9 @@ mod graph;
 mod laws;
 mod limits;
 mod names;
+mod outcomes;
 mod owners;
+mod packed;
 mod port;
 mod serial;
 mod task;
@@ -21,6 +23,7 @@ pub use laws::{
     tasks_by_number_are_in_lawful_order,
 };
 pub use limits::{MOST_CELLS, MOST_LINKS, MOST_TASKS};
+pub use outcomes::Outcomes;
 pub use port::CellPort;
 pub use serial::{Finished, run_serial};
 pub use task::{Part, Task, TaskKind};
