@@ -6,7 +6,7 @@ use Rattle.std.specs.Option.{option_map}
 use Rattle.std.proofs.Math.Bool.{cond}
 use Rattle.std.proofs.lemmas.Bool.{cases_eq}
 use Rattle.std.proofs.lemmas.Bool.Decides.{nat_tests}
-use Rattle.std.proofs.lemmas.List.{get_or-drop, get_or-map, length-drop, length-map, map-append, take_more}
+use Rattle.std.proofs.lemmas.List.{get_or-drop, get_or-map, length-drop, length-map, length-take, map-append, take_more}
 use Rattle.std.proofs.lemmas.List.Quantifiers.{position-Some}
 use Rattle.std.proofs.lemmas.List.Sums.{fails_before_first, position_or_len_is}
 use Rattle.std.proofs.lemmas.Option.{get_or_from_slice_get, slice_get_within}
@@ -132,3 +132,11 @@ one_more os first k o ns ms z at more is before =
     let there : z ≡ number_in (get_or (drop first os) k no_outcome) = is ∙ ap number_in (sym (at_rest os first k o at)) in
     more ∙ (λ i. before i ++ there i ∷ []) ∙ sym (map-append number_in (take k (drop first os)) (get_or (drop first os) k no_outcome ∷ []))
     ∙ ap (map number_in) (sym (take_more (drop first os) k no_outcome below))
+
+-- ---- a part that is there as a whole
+pub all_there : (os : List Outcome) (first n : ℕ) → length (take n (drop first os)) ≡ n → (n ≡ 0 → ⊥) → first + n ≤ length os
+all_there os first n whole some = omega (arith, length-take n (drop first os), length-drop first os, whole, some)
+
+pub all_values : (ns : List ℤ) → ns ≡ map number_in (map (λ z. Value z) ns)
+all_values [] = refl
+all_values (z ∷ ns) = ap (λ l. z ∷ l) (all_values ns)

@@ -1,9 +1,8 @@
 -- Outcomes that are held as words.
-use Rattle.std.proofs.Common.{◌≡◌, ◌∙◌, refl, sym, ap, ℕ, zero, suc, ◌+◌, ◌*◌, ◌/◌, ◌%◌, ◌<◌, ◌≤◌, ◌^◌, ℤ, pos, Bool, List, [], ◌∷◌, length, get_or, slice_set, Some, slice_get, arith}
-use Rattle.std.specs.Prelude.{unsigned_abs}
+use Rattle.std.proofs.Common.{◌≡◌, ◌∙◌, refl, sym, ap, ℕ, zero, suc, ◌+◌, ◌*◌, ◌/◌, ◌%◌, ◌<◌, ◌^◌, ℤ, Bool, true, false, ◌||◌, List, [], ◌∷◌, length, map, take, drop, get_or, slice_set, Some, slice_get, arith}
+use Rattle.std.specs.List.{list_any}
 use Rattle.std.proofs.lemmas.Nat.{div-mul-add, mod-mul-add}
-use Rattle.pb_values.specs.declared.outcome.Kind.{Kind}
-use Rattle.pb_values.specs.declared.outcome.Outcome.{Outcome}
+use Rattle.pb_values.specs.declared.outcome.Outcome.TheVariants.{Value}
 use Rattle.pb_values.specs.declared.outcome.Trap.{Trap}
 use Rattle.pb_taskgraph.specs.Packed.{kind_at, outcome_in, outcomes_in, trap_by, trap_in}
 
@@ -50,3 +49,33 @@ set_in [] (c ∷ bs) i w b e = absurd (omega arith)
 set_in (v ∷ ws) [] i w b e = absurd (omega arith)
 set_in (v ∷ ws) (c ∷ bs) zero w b e = refl
 set_in (v ∷ ws) (c ∷ bs) (suc i) w b e = ap (λ l. outcome_in v c ∷ l) (set_in ws bs i w b (omega arith))
+
+-- ---- a part of them, with no trap in it
+pub part_in : (ws : List ℤ) (bs : List Bool) (n k : ℕ) → length bs ≡ length ws → take n (drop k (outcomes_in ws bs)) ≡ outcomes_in (take n (drop k ws)) (take n (drop k bs))
+unfolding outcomes_in
+part_in [] [] zero zero e = refl
+part_in [] [] (suc n) zero e = refl
+part_in [] [] zero (suc k) e = refl
+part_in [] [] (suc n) (suc k) e = refl
+part_in [] (b ∷ bs) n k e = absurd (omega arith)
+part_in (w ∷ ws) [] n k e = absurd (omega arith)
+part_in (w ∷ ws) (b ∷ bs) zero zero e = refl
+part_in (w ∷ ws) (b ∷ bs) (suc n) zero e = ap (λ l. outcome_in w b ∷ l) (part_in ws bs n zero (omega arith))
+part_in (w ∷ ws) (b ∷ bs) zero (suc k) e = part_in ws bs zero k (omega arith)
+part_in (w ∷ ws) (b ∷ bs) (suc n) (suc k) e = part_in ws bs (suc n) k (omega arith)
+
+pub values_in : (f : Bool → Bool) → f true ≡ true → (ws : List ℤ) (bs : List Bool) → length bs ≡ length ws → list_any f bs ≡ false → outcomes_in ws bs ≡ map (λ z. Value z) ws
+unfolding outcomes_in outcome_in
+values_in f is [] [] e none = refl
+values_in f is [] (b ∷ bs) e none = absurd (omega arith)
+values_in f is (w ∷ ws) [] e none = absurd (omega arith)
+values_in f is (w ∷ ws) (true ∷ bs) e none = absurd (trapped (f true) (list_any f bs) is none)
+  where
+    trapped : (a b : Bool) → a ≡ true → (a || b) ≡ false → ⊥
+    trapped true b h no_trap = let wrong : true ≡ false = no_trap in cc
+    trapped false b h no_trap = cc
+values_in f is (w ∷ ws) (false ∷ bs) e none = ap (λ l. Value w ∷ l) (values_in f is ws bs (omega arith) (later (f false) (list_any f bs) none))
+  where
+    later : (a b : Bool) → (a || b) ≡ false → b ≡ false
+    later true b h = absurd (let wrong : true ≡ false = h in cc)
+    later false b h = h

@@ -23,7 +23,8 @@ impl Model for Outcomes {
 }
 
 impl Outcomes {
-    ghost use Rattle.std.specs.Prelude.{◌≡◌, ◌<◌, IfOk, Some, length, slice_get, slice_set};
+    ghost use Rattle.std.specs.Prelude.{◌≡◌, ◌<◌, ◌≤◌, ◌-◌, IfOk, IfSome, Some, drop, length, map, slice_get, slice_set, take};
+    ghost use Rattle.pb_values.specs.declared.outcome.Outcome.TheVariants.{Value};
     ghost use Rattle.pb_taskgraph.specs.Plans.{IsSmall};
 
     /// So many outcomes, of which each is 0.
@@ -56,6 +57,18 @@ impl Outcomes {
         } else {
             Outcome::Value(word)
         }
+    }
+
+    /// The numbers of the cells from `first` to before `end`, unless one of them is trapped.
+    pub fn numbers(&self, first: usize, end: usize) -> Option<&[i64]>
+        requires order { first ≤ end }
+        requires below { end ≤ length self.now }
+        ensures { IfSome result (λ numbers. take (end - first) (drop first self.now) ≡ map (λ z. Value z) numbers.now) }
+    {
+        if self.trapped[first..end].contains(&true) {
+            return None;
+        }
+        Some(&self.words[first..end])
     }
 
     /// Puts the outcome of a cell in the place of the one that is there.

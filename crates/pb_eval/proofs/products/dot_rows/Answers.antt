@@ -1,4 +1,4 @@
-use Rattle.std.proofs.Common.{◌≡◌, ◌<◌, ◌≤◌, ◌∙◌, sym, refl, rules, arith, to_z, of_z, w64, length}
+use Rattle.std.proofs.Common.{◌≡◌, ◌<◌, ◌∙◌, sym, refl, rules, arith, to_z, of_z, w64, length}
 use Rattle.pb_eval.specs.Places.{grid_shown}
 use Rattle.pb_eval.specs.declared.shown.Shown.TheVariants.{Told}
 use Rattle.pb_eval.proofs.CellLemmas.{in_row, length_row}

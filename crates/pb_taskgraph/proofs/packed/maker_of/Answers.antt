@@ -1,4 +1,3 @@
-use Rattle.std.proofs.Common.{◌≡◌}
 use Rattle.pb_taskgraph.proofs.PackedLemmas.{maker}
 use Rattle.pb_taskgraph.proofs.packed.maker_of.Goals as goal
 

@@ -1,4 +1,4 @@
-use Rattle.std.proofs.Common.{◌≡◌, ◌∙◌, sym, ap, length, arith}
+use Rattle.std.proofs.Common.{ap, length, arith}
 use Rattle.pb_taskgraph.proofs.PackedLemmas.{length_in}
 use Rattle.pb_taskgraph.proofs.outcomes.Outcomes.count.Goals as goal
 

@@ -1,6 +1,5 @@
 use Rattle.std.proofs.Common.{◌≡◌, ◌∙◌, ◌<◌, sym, ap, length, slice_get, Some, to_z, of_z, w64, rules, arith}
 use Rattle.std.specs.Prelude.{unsigned_abs}
-use Rattle.pb_values.specs.declared.outcome.Outcome.{Outcome}
 use Rattle.pb_values.specs.declared.outcome.Outcome.TheVariants.{Value, Trapped}
 use Rattle.pb_taskgraph.specs.Packed.{outcome_in, trap_in}
 use Rattle.pb_taskgraph.proofs.PackedLemmas.{get_in, length_in}
@@ -17,7 +16,7 @@ unfolding outcome_in
 returns-then-index c =
     let word = c.index-word.result.now in
     let below : c.args.cell < length c.self.inside.words.items =
-        omega (arith, c.requires, length_in c.self.inside.words.items c.self.inside.trapped.items c.self.invariant, ap length c.self.view_is) in
+    omega (arith, c.requires, length_in c.self.inside.words.items c.self.inside.trapped.items c.self.invariant, ap length c.self.view_is) in
     let same : to_z w64 (of_z w64 word) ≡ word = search rules in
     ap (λ l. slice_get l c.args.cell) (sym c.self.view_is)
     ∙ get_in c.self.inside.words.items c.self.inside.trapped.items c.args.cell word c.index.result.now c.self.invariant below c.index-word.ensures c.index.ensures
@@ -29,7 +28,7 @@ unfolding outcome_in
 returns-else-index c =
     let word = c.index-word.result.now in
     let below : c.args.cell < length c.self.inside.words.items =
-        omega (arith, c.requires, length_in c.self.inside.words.items c.self.inside.trapped.items c.self.invariant, ap length c.self.view_is) in
+    omega (arith, c.requires, length_in c.self.inside.words.items c.self.inside.trapped.items c.self.invariant, ap length c.self.view_is) in
     let same : to_z w64 (of_z w64 word) ≡ word = search rules in
     ap (λ l. slice_get l c.args.cell) (sym c.self.view_is)
     ∙ get_in c.self.inside.words.items c.self.inside.trapped.items c.args.cell word c.index.result.now c.self.invariant below c.index-word.ensures c.index.ensures

@@ -1,6 +1,5 @@
 use Rattle.std.proofs.Common.{◌≡◌, ◌∙◌, sym, ap, length, slice_set, to_z, of_z, w64, true, false, rules, arith}
-use Rattle.std.specs.Prelude.{unsigned_abs}
-use Rattle.pb_values.specs.declared.outcome.Outcome.TheVariants.{Value, Trapped}
+use Rattle.pb_values.specs.declared.outcome.Outcome.TheVariants.{Trapped}
 use Rattle.pb_taskgraph.specs.Packed.{outcome_in, outcomes_in}
 use Rattle.pb_taskgraph.proofs.PackedLemmas.{length_in, set_in}
 use Rattle.pb_taskgraph.proofs.outcomes.Outcomes.set.Goals as goal

@@ -1,4 +1,4 @@
-use Rattle.std.proofs.Common.{◌≡◌, ◌∙◌, ◌+◌, ap, arith}
+use Rattle.std.proofs.Common.{◌∙◌, ◌+◌, ap, arith}
 use Rattle.pb_taskgraph.specs.Serial.{serial_turn}
 use Rattle.pb_taskgraph.proofs.SerialLemmas.{serial-next, serial-small, serial-write}
 use Rattle.pb_taskgraph.proofs.serial.SerialPortCellPort.write.Goals as goal
