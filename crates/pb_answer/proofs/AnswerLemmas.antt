@@ -1,10 +1,10 @@
 -- What a run's outcomes and views say of its answer.
-use Rattle.std.proofs.Common.{◌≡◌, ◌∙◌, refl, sym, ap, subst, ℕ, zero, suc, ◌+◌, ◌^◌, ◌<◌, ◌≤◌, ◌-◌, ℤ, List, [], ◌∷◌, ◌++◌, length, get_or, None, map, take, drop, slice_get, Some, arith, flat_map}
+use Rattle.std.proofs.Common.{◌≡◌, ◌∙◌, refl, sym, ap, subst, ℕ, zero, suc, ◌+◌, ◌^◌, ◌<◌, ◌≤◌, ℤ, List, [], ◌∷◌, ◌++◌, length, get_or, None, map, take, drop, slice_get, Some, arith, flat_map}
 use Rattle.std.specs.List.{All, position}
 use Rattle.std.specs.Option.{option_map}
 use Rattle.std.specs.Prelude.{unwrap_or}
 use Rattle.std.proofs.lemmas.Grind.{flat_map-append}
-use Rattle.std.proofs.lemmas.List.{drop_at, length-drop, length-take-le, map-append, take_rest}
+use Rattle.std.proofs.lemmas.List.{drop_at, length-drop, length-take-le, map-append}
 use Rattle.std.proofs.lemmas.List.Elements.{All-cons, All-drop, All-head, All-tail}
 use Rattle.pb_values.specs.declared.outcome.Outcome.{Outcome}
 use Rattle.pb_values.specs.declared.outcome.Outcome.TheVariants.{Value, Trapped}
@@ -117,10 +117,10 @@ module _ (v : RunValue) (is : IsRunning v) where
   -- ---- its first trapped cell, among those of the cells that rules make
   module _ (outcomes : List Outcome) (solved : outcomes ≡ (run_plan v).solution) (inputs : ℕ) (given : inputs ≡ (run_plan v).graph.inputs) where
     abbrev part : List Outcome
-    part = take (length outcomes - inputs) (drop inputs outcomes)
+    part = drop inputs outcomes
 
     part_is : part ≡ map (outcome_in (matrices_of v)) (made_cells t sizes)
-    part_is = take_rest outcomes inputs ∙ (λ i. drop (given i) (solved i)) ∙ made_last
+    part_is = (λ i. drop (given i) (solved i)) ∙ made_last
 
     pub none_trapped : position is_trapped part ≡ None → None ≡ trapped_in v
     none_trapped none = sym (not_found (matrices_of v) part (made_cells t sizes) part_is none)

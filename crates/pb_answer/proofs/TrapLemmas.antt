@@ -1,19 +1,21 @@
 -- The first trapped of some cells, by its place among them.
-use Rattle.std.proofs.Common.{◌≡◌, ◌∙◌, refl, sym, ap, ℕ, zero, suc, ◌<◌, ◌≤◌, ℤ, true, false, List, [], ◌∷◌, length, map, get_or, slice_get, Option, Some, None, arith}
+use Rattle.std.proofs.Common.{◌≡◌, ◌∙◌, refl, sym, ap, ⊎_elim, ℕ, zero, suc, ◌+◌, ◌-◌, ◌<◌, ◌≤◌, ℤ, true, false, List, [], ◌∷◌, ◌++◌, length, map, take, drop, get_or, slice_get, Option, Some, None, arith}
 use Rattle.std.specs.Prelude.{nat_lt}
 use Rattle.std.specs.List.{position, position_or_len}
 use Rattle.std.specs.Option.{option_map}
 use Rattle.std.proofs.Math.Bool.{cond}
+use Rattle.std.proofs.lemmas.Bool.{cases_eq}
 use Rattle.std.proofs.lemmas.Bool.Decides.{nat_tests}
-use Rattle.std.proofs.lemmas.List.{get_or-map, length-map}
+use Rattle.std.proofs.lemmas.List.{get_or-drop, get_or-map, length-drop, length-map, length-take, map-append, take_more}
 use Rattle.std.proofs.lemmas.List.Quantifiers.{position-Some}
-use Rattle.std.proofs.lemmas.List.Sums.{fails_before_first}
+use Rattle.std.proofs.lemmas.List.Sums.{fails_before_first, position_or_len_is}
 use Rattle.std.proofs.lemmas.Option.{get_or_from_slice_get, slice_get_within}
 use Rattle.pb_values.specs.declared.outcome.Outcome.{Outcome}
 use Rattle.pb_values.specs.declared.outcome.Outcome.TheVariants.{Value, Trapped}
 use Rattle.pb_values.specs.declared.outcome.Trap.{Trap}
 use Rattle.pb_model.specs.Calls.{Outcomes, TrappedCell, first_trapped, no_outcome, or_trapped, outcome_in}
 use Rattle.pb_model.specs.Cells.{Cell}
+use Rattle.pb_model.specs.Equations.{number_in}
 use Rattle.pb_answer.specs.Shown.{is_trapped}
 use Rattle.pb_answer.proofs.PlaceLemmas.{as_place}
 
@@ -87,3 +89,54 @@ module _ (ms : List Outcomes) where
               let value : outcome_in ms c ≡ Trapped t = ap (outcome_in ms) (sym (get_or_from_slice_get cs k c c e)) ∙ sym (at_cell k c below) ∙ at in
               first_at cs k c t (λ j d before. ap is_trapped (sym (at_cell j d (omega (arith, before, below)))) ∙ (position-Some is_trapped os k no_outcome there).2 j before) e value
               ∙ ap (λ (q : ℕ × ℕ × ℕ). Some (record { cell = record { matrix = q.0; x = q.1; y = q.2 }; trap = t })) same
+
+-- ---- looking for the first trap from a place on
+position_at : (os : List Outcome) (i : ℕ) → position_or_len is_trapped os ≡ i → i < length os → position is_trapped os ≡ Some i
+position_at os i e below = rw e (grind (arith, nat_tests))
+
+position_past : (os : List Outcome) → position_or_len is_trapped os ≡ length os → position is_trapped os ≡ None
+position_past os e = rw e (grind (arith, nat_tests))
+
+module _ (os : List Outcome) (from cell : ℕ) (before : (j : ℕ) → from + j < cell → is_trapped (get_or os (from + j) no_outcome) ≡ false) where
+  pub passed : (o : Outcome) → slice_get os cell ≡ Some o → is_trapped o ≡ false → (j : ℕ) → from + j < cell + 1 → is_trapped (get_or os (from + j) no_outcome) ≡ false
+  passed o at clean j below = ⊎_elim
+      (λ (here : from + j ≡ cell). ap (λ k. is_trapped (get_or os k no_outcome)) here ∙ ap is_trapped (get_or_from_slice_get os cell o no_outcome at) ∙ clean)
+      (λ (other : from + j ≡ cell → ⊥). before j (omega arith))
+      (cases_eq (from + j) cell)
+
+  pub found_here : (o : Outcome) → from ≤ cell → slice_get os cell ≡ Some o → is_trapped o ≡ true → Some (cell - from) ≡ position is_trapped (drop from os)
+  found_here o start at trap =
+      let inside : cell < length os = slice_get_within os cell o at in
+      let size : length (drop from os) ≡ length os - from = length-drop from os in
+      let here : from + (cell - from) ≡ cell = omega arith in
+      sym (position_at (drop from os) (cell - from) (position_or_len_is is_trapped (drop from os) (cell - from) no_outcome (omega arith)
+      (λ k below. ap is_trapped (get_or-drop from os k no_outcome) ∙ before k (omega arith))
+      (λ below. ap is_trapped (get_or-drop from os (cell - from) no_outcome ∙ ap (λ k. get_or os k no_outcome) here ∙ get_or_from_slice_get os cell o no_outcome at) ∙ trap)) (omega arith))
+
+  pub none_left : length os ≤ cell → None ≡ position is_trapped (drop from os)
+  none_left ended =
+      let size : length (drop from os) ≡ length os - from = length-drop from os in
+      sym (position_past (drop from os) (position_or_len_is is_trapped (drop from os) (length (drop from os)) no_outcome (omega arith)
+      (λ k below. ap is_trapped (get_or-drop from os k no_outcome) ∙ before k (omega arith)) (λ below. absurd (omega arith))))
+
+-- the outcome at a place after another
+pub at_rest : (os : List Outcome) (n k : ℕ) (o : Outcome) → slice_get os (n + k) ≡ Some o → get_or (drop n os) k no_outcome ≡ o
+at_rest os n k o at = get_or-drop n os k no_outcome ∙ get_or_from_slice_get os (n + k) o no_outcome at
+
+-- one number more
+pub one_more : (os : List Outcome) (first k : ℕ) (o : Outcome) (ns ms : List ℤ) (z : ℤ) → slice_get os (first + k) ≡ Some o → ms ≡ ns ++ z ∷ [] → z ≡ number_in o → ns ≡ map number_in (take k (drop first os))
+    → ms ≡ map number_in (take (k + 1) (drop first os))
+one_more os first k o ns ms z at more is before =
+    let inside : first + k < length os = slice_get_within os (first + k) o at in
+    let below : k < length (drop first os) = omega (arith, length-drop first os) in
+    let there : z ≡ number_in (get_or (drop first os) k no_outcome) = is ∙ ap number_in (sym (at_rest os first k o at)) in
+    more ∙ (λ i. before i ++ there i ∷ []) ∙ sym (map-append number_in (take k (drop first os)) (get_or (drop first os) k no_outcome ∷ []))
+    ∙ ap (map number_in) (sym (take_more (drop first os) k no_outcome below))
+
+-- ---- a part that is there as a whole
+pub all_there : (os : List Outcome) (first n : ℕ) → length (take n (drop first os)) ≡ n → (n ≡ 0 → ⊥) → first + n ≤ length os
+all_there os first n whole some = omega (arith, length-take n (drop first os), length-drop first os, whole, some)
+
+pub all_values : (ns : List ℤ) → ns ≡ map number_in (map (λ z. Value z) ns)
+all_values [] = refl
+all_values (z ∷ ns) = ap (λ l. z ∷ l) (all_values ns)

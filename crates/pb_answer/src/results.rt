@@ -3,8 +3,8 @@ ghost use Rattle.pb_answer.specs.Answers.{matrices_text, results_in};
 ghost use Rattle.pb_unroll.specs.Running.{run_plan};
 
 use crate::texts::texts_in;
+use pb_taskgraph::Outcomes;
 use pb_unroll::Run;
-use pb_values::Outcome;
 use std::alloc::{AllocError, Global};
 
 /// The texts of the matrices that a run with these outcomes gives, those after `to`, in declared order. A trap among them
@@ -12,7 +12,7 @@ use std::alloc::{AllocError, Global};
 pub fn results_text(
     alloc: Global,
     run: &Run<'_>,
-    outcomes: &[Outcome],
+    outcomes: &Outcomes,
 ) -> Result<Vec<u8>, AllocError>
     requires { outcomes.now ≡ (run_plan run.now).solution }
     ensures { IfOk result (λ text. text.items ≡ matrices_text (results_in run.now)) }

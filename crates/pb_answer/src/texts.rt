@@ -1,9 +1,10 @@
-ghost use Rattle.std.specs.Prelude.{◌≡◌, IfOk, flat_map, map};
+ghost use Rattle.std.specs.Prelude.{◌≡◌, IfOk, IfSome, flat_map, map};
 ghost use Rattle.std.specs.List.{All};
 ghost use Rattle.pb_answer.specs.Shown.{IsWritable, cells_in, text_in};
 ghost use Rattle.pb_model.specs.Equations.{number_in};
 
 use pb_matrix::write_matrix;
+use pb_taskgraph::Outcomes;
 use pb_values::{Outcome, View};
 use std::alloc::{AllocError, Global};
 
@@ -17,32 +18,43 @@ fn number_in(outcome: &Outcome) -> i64
     }
 }
 
-/// The outcomes of the cells of a matrix, row by row. Where it has none, nothing is known of where they begin.
-fn cells_in<'a>(view: &View, outcomes: &'a [Outcome]) -> &'a [Outcome]
+/// The numbers of the cells of a matrix, row by row; 0 for a trap.
+fn numbers_in(alloc: Global, view: &View, outcomes: &Outcomes) -> Result<Vec<i64>, AllocError>
     requires { IsWritable outcomes.now view.now }
-    ensures { result.now ≡ cells_in outcomes.now view.now }
+    ensures { IfOk result (λ numbers. numbers.items ≡ map number_in (cells_in outcomes.now view.now)) }
 {
-    let cells = (view.shape.w * view.shape.h) as usize;
-    if cells == 0 {
-        return &outcomes[..0];
+    let cells = view.shape.w * view.shape.h;
+    let mut numbers = Vec::with_capacity(alloc, cells as usize)?;
+    for k in 0..cells {
+        numbers.push(number_in(&outcomes.get(view.first + k)))?;
     }
-    let first = view.first as usize;
-    &outcomes[first..first + cells]
+    Ok(numbers)
 }
 
-/// The numbers of some outcomes; 0 for a trap.
-fn numbers_in(alloc: Global, outcomes: &[Outcome]) -> Result<Vec<i64>, AllocError>
-    ensures { IfOk result (λ numbers. numbers.items ≡ map number_in outcomes.now) }
+/// The numbers of the cells of a matrix as they are held, unless it has no cell or a trapped one.
+fn numbers_there<'a>(view: &View, outcomes: &'a Outcomes) -> Option<&'a [i64]>
+    requires { IsWritable outcomes.now view.now }
+    ensures { IfSome result (λ numbers. numbers.now ≡ map number_in (cells_in outcomes.now view.now)) }
 {
-    outcomes.iter().map(number_in).collect(alloc)
+    let cells = view.shape.w * view.shape.h;
+    if cells == 0 {
+        return None;
+    }
+    match outcomes.numbers(view.first as usize, (view.first + cells) as usize) {
+        Some(numbers) => Some(numbers),
+        None => None,
+    }
 }
 
 /// The text of a matrix.
-fn text_in(alloc: Global, view: &View, outcomes: &[Outcome]) -> Result<Vec<u8>, AllocError>
+fn text_in(alloc: Global, view: &View, outcomes: &Outcomes) -> Result<Vec<u8>, AllocError>
     requires { IsWritable outcomes.now view.now }
     ensures { IfOk result (λ text. text.items ≡ text_in outcomes.now view.now) }
 {
-    let numbers = numbers_in(alloc, cells_in(view, outcomes))?;
+    if let Some(numbers) = numbers_there(view, outcomes) {
+        return write_matrix(alloc, &view.shape, numbers);
+    }
+    let numbers = numbers_in(alloc, view, outcomes)?;
     write_matrix(alloc, &view.shape, &numbers)
 }
 
@@ -50,14 +62,19 @@ fn text_in(alloc: Global, view: &View, outcomes: &[Outcome]) -> Result<Vec<u8>, 
 pub(crate) fn texts_in(
     alloc: Global,
     views: &[View],
-    outcomes: &[Outcome],
+    outcomes: &Outcomes,
 ) -> Result<Vec<u8>, AllocError>
     requires { All (IsWritable outcomes.now) views.now }
     ensures { IfOk result (λ text. text.items ≡ flat_map (text_in outcomes.now) views.now) }
 {
     let mut text = Vec::new(alloc);
     for view in views {
-        text.extend_from_slice(&text_in(alloc, view, outcomes)?)?;
+        let next = text_in(alloc, view, outcomes)?;
+        if text.is_empty() {
+            text = next;
+        } else {
+            text.extend_from_slice(&next)?;
+        }
     }
     Ok(text)
 }

@@ -1,10 +1,10 @@
-ghost use Rattle.std.specs.Prelude.{◌≡◌, position};
+ghost use Rattle.std.specs.Prelude.{◌≡◌, drop, position};
 ghost use Rattle.pb_answer.specs.Answers.{trapped_in};
 ghost use Rattle.pb_answer.specs.Shown.{is_trapped};
 ghost use Rattle.pb_unroll.specs.Running.{run_plan};
 
 use crate::places::place_of;
-use pb_taskgraph::Work;
+use pb_taskgraph::{Outcomes, Work};
 use pb_unroll::Run;
 use pb_values::{Outcome, Trap};
 use std::marker::Model;
@@ -33,24 +33,29 @@ fn is_trapped(outcome: &Outcome) -> bool
     matches!(outcome, Outcome::Trapped(_))
 }
 
-/// The number of the first outcome that is a trap.
-fn first_trap(outcomes: &[Outcome]) -> Option<usize>
-    ensures { result ≡ position is_trapped outcomes.now }
+/// The number of the first outcome that is a trap among those from `from` on, of which the first has number 0.
+fn first_trap(outcomes: &Outcomes, from: u64) -> Option<u64>
+    ensures { result ≡ position is_trapped (drop from outcomes.now) }
 {
-    outcomes.iter().position(is_trapped)
+    for cell in from..outcomes.count() {
+        if is_trapped(&outcomes.get(cell)) {
+            return Some(cell - from);
+        }
+    }
+    None
 }
 
 /// The first trapped cell of a run with these outcomes: of the matrices after `through`, then of those after `to`, in
 /// declared order, each row by row.
-pub fn first_trapped(run: &Run<'_>, outcomes: &[Outcome]) -> Option<TrappedCell>
+pub fn first_trapped(run: &Run<'_>, outcomes: &Outcomes) -> Option<TrappedCell>
     requires { outcomes.now ≡ (run_plan run.now).solution }
     ensures { result ≡ trapped_in run.now }
 {
     let views = run.watched();
-    let made = &outcomes[run.graph().inputs() as usize..];
-    let cell = first_trap(made)?;
-    let (matrix, x, y) = place_of(views, run.transform().inputs, cell as u64)?;
-    match made[cell] {
+    let inputs = run.graph().inputs();
+    let cell = first_trap(outcomes, inputs)?;
+    let (matrix, x, y) = place_of(views, run.transform().inputs, cell)?;
+    match outcomes.get(inputs + cell) {
         Outcome::Trapped(trap) => Some(TrappedCell { matrix, x, y, trap }),
         Outcome::Value(_) => None,
     }

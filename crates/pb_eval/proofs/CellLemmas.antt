@@ -12,6 +12,9 @@ use Rattle.pb_values.specs.declared.outcome.Kind.TheVariants.{OutOfView}
 use Rattle.pb_model.specs.Bodies.{cell_in}
 use Rattle.pb_model.specs.Grids.{Grid}
 use Rattle.pb_eval.specs.Places.{grid_shown, height_of, IsShown, number_at, row_of, rows_of, width_of}
+use Rattle.pb_values.specs.Views.{cell_of}
+use Rattle.pb_values.specs.declared.view.View.{View}
+use Rattle.pb_eval.specs.Shown.{number_told}
 use Rattle.pb_eval.specs.declared.shown.Shown.{Shown}
 use Rattle.pb_eval.specs.declared.shown.Shown.TheVariants.{Told, Kept, Nothing}
 
@@ -131,6 +134,17 @@ module _ (turn : Turn) (numbers : List ℤ) (s : Shown) where
   pub height_is : (g : Grid ℤ) (n : ℕ) → n ≡ height_of s → IsShown turn numbers s → grid_shown turn numbers s ≡ g → to_z w64 n ≡ pos g.height
   unfolding grid_shown
   height_is g n is shown e = ap (to_z w64) is ∙ to_z_pos w64 (height_of s) (tall_shown s shown) ∙ ap (λ (h : Grid ℤ). pos h.height) e
+
+-- ---- of a row that is told
+module _ (turn : Turn) (numbers : List ℤ) (v : View) (flat : v.shape.h ≡ 1) where
+  pub in_row : (i cell : ℕ) (n : ℤ) → i < v.shape.w → cell ≡ cell_of v i 0 → n ≡ number_told turn cell → n ≡ slice_index_or (grid_shown turn numbers (Told v)).cells i (pos 0)
+  in_row i cell n below at is =
+      let size : v.shape.h * v.shape.w ≡ v.shape.w = ap (λ h. h * v.shape.w) flat ∙ omega arith in
+      let inside : i < v.shape.h * v.shape.w = omega (arith, size, below) in
+      is ∙ ap (number_told turn) at ∙ nth_flat turn numbers (Told v) i v.shape.h refl flat inside
+
+  pub length_row : length (grid_shown turn numbers (Told v)).cells ≡ v.shape.w
+  length_row = length-cells turn numbers (Told v) ∙ ap (λ h. h * v.shape.w) flat ∙ omega arith
 
 pub cell_left : (g : Grid ℤ) (i j : ℤ) → i <ℤ pos 0 → Err OutOfView ≡ cell_in g i j
 cell_left g (pos n) j h = absurd (omega (arith, ints, h))

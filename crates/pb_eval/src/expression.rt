@@ -1,4 +1,4 @@
-ghost use Rattle.std.specs.Prelude.{◌≡◌};
+ghost use Rattle.std.specs.Prelude.{◌≡◌, IfSome, Ok};
 ghost use Rattle.pb_model.specs.Bodies.{Bindings, Store, view_of};
 ghost use Rattle.pb_program.specs.declared.meaning.Function.TheVariants.{Dot, Sum};
 ghost use Rattle.pb_eval.specs.Stored.{bound, store_of};
@@ -13,6 +13,20 @@ use pb_syntax::Operator;
 use pb_values::{CellReader, Kind, abs};
 
 impl<'a, N: NamesTurn> Scene<'a, N> {
+    /// The value of a name, or of a number of 64 bits, which needs no recursion; none for another expression.
+    #[inline(always)]
+    #[tactic(auto, unfolding(crate::specs::Working::value_in, pb_model::specs::Bodies::value))]
+    fn leaf<C: CellReader>(&self, e: &Expr, scratch: &Scratch, port: &mut Port<C, N>) -> Option<i64>
+        ensures value { IfSome result (λ n. value_in (bound self.now scratch.now) (store_of scratch.now) e.now ≡ Ok n) }
+        ensures same_reference { port.new.reader.ghost_name ≡ port.old.reader.ghost_name }
+    {
+        match e {
+            Expr::Number { value, .. } => number(*value).ok(),
+            Expr::Name(name) => Some(self.named(name.what, scratch, port)),
+            _ => None,
+        }
+    }
+
     /// The value of an expression; a truth is 1 or 0.
     #[cycle(expression)]
     #[tactic(auto, using(crate::proofs::ExprLemmas::call_in, crate::proofs::ExprLemmas::cell_held, crate::proofs::ExprLemmas::chain_in, crate::proofs::ExprLemmas::compare_in), unfolding(crate::specs::Working::value_in, pb_model::specs::Bodies::value))]
@@ -39,6 +53,9 @@ impl<'a, N: NamesTurn> Scene<'a, N> {
                 negated(*sign, self.value(operand, scratch, port)?)
             }
             Expr::Chain { first, rest, .. } => {
+                if let Some(total) = self.leaf(first, scratch, port) {
+                    return self.values(rest, total, scratch, port);
+                }
                 let total = self.value(first, scratch, port)?;
                 self.values(rest, total, scratch, port)
             }
@@ -68,10 +85,13 @@ impl<'a, N: NamesTurn> Scene<'a, N> {
         ensures value { result ≡ operand_in (bound self.now scratch.now) (store_of scratch.now) left operator e.now }
         ensures same_reference { port.new.reader.ghost_name ≡ port.old.reader.ghost_name }
     {
-        match decided(operator, left) {
-            Some(value) => Ok(value),
-            None => operate(operator, left, self.value(e, scratch, port)?),
+        if let Some(value) = decided(operator, left) {
+            return Ok(value);
         }
+        if let Some(right) = self.leaf(e, scratch, port) {
+            return operate(operator, left, right);
+        }
+        operate(operator, left, self.value(e, scratch, port)?)
     }
 
     /// Operands, from left to right, after a value.

@@ -73,6 +73,11 @@ fn zero(numbers: &mut Vec<i64>, count: usize)
     ensures size { length numbers.new.items ≡ length numbers.old.items }
     ensures zeros { (i : ℕ) → i < count → slice_index_or numbers.new.items i (pos 0) ≡ pos 0 }
 {
+    // Most rules make one cell.
+    if count == 1 {
+        numbers[0] = 0;
+        return;
+    }
     for k in 0..count {
         numbers[k] = 0;
     }

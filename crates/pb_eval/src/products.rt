@@ -1,14 +1,15 @@
-ghost use Rattle.std.specs.Prelude.{◌≡◌, ◌*◌, ◌<◌, pos, slice_index_or};
+ghost use Rattle.std.specs.Prelude.{◌≡◌, ◌*◌, ◌<◌, IfSome, pos, slice_index_or};
 ghost use Rattle.pb_model.specs.Bodies.{dot_product, view_of};
 ghost use Rattle.pb_eval.specs.Places.{grid_shown, height_of, IsShown, width_of};
 ghost use Rattle.pb_eval.specs.Stored.{bound, store_of};
+ghost use Rattle.pb_eval.specs.declared.shown.Shown.TheVariants.{Told};
 
 use crate::port::{NamesTurn, Port};
 use crate::scene::Scene;
 use crate::scratch::Scratch;
 use crate::shown::Shown;
 use pb_program::Meaning;
-use pb_values::{CellReader, Kind, add, mul};
+use pb_values::{CellReader, Kind, View, add, mul};
 
 impl Shown {
     /// How many cells there are.
@@ -39,6 +40,17 @@ impl Shown {
         self.number(scratch, port, i % self.width(), i / self.width())
     }
 
+    /// The view, where it is told and has one row.
+    #[inline]
+    fn row(&self) -> Option<View>
+        ensures { IfSome result (λ v. (self.now ≡ Told v) × (v.shape.h ≡ 1)) }
+    {
+        match self {
+            Shown::Told(view) if view.shape.h == 1 => Some(*view),
+            _ => None,
+        }
+    }
+
     /// The sum of the products of cells, of two views of one number of cells.
     #[tactic(auto, using(crate::proofs::ProductLemmas::dot_other, crate::proofs::ProductLemmas::dot_ok, crate::proofs::ProductLemmas::dot_err, crate::proofs::ProductLemmas::dot_end, crate::proofs::ProductLemmas::dot_start))]
     fn dot<C: CellReader, N: NamesTurn>(
@@ -52,6 +64,11 @@ impl Shown {
         ensures dot { result ≡ dot_product (grid_shown N.turn scratch.now.numbers.items self.now).cells (grid_shown N.turn scratch.now.numbers.items other.now).cells }
         ensures same_reference { port.new.reader.ghost_name ≡ port.old.reader.ghost_name }
     {
+        if let Some(left) = self.row() {
+            if let Some(right) = other.row() {
+                return dot_rows(&left, &right, scratch, port);
+            }
+        }
         let cells = self.cells::<N>(scratch);
         if cells != other.cells::<N>(scratch) {
             return Err(Kind::BadShape);
@@ -69,6 +86,38 @@ impl Shown {
 }
 
 ghost use Rattle.pb_eval.specs.Places.{plus_product};
+ghost use Rattle.pb_eval.specs.Shown.{IsTold};
+
+/// The sum of the products of the cells of two rows: a loop over both, by their steps.
+#[tactic(auto, using(crate::proofs::ProductLemmas::dot_other, crate::proofs::ProductLemmas::dot_ok, crate::proofs::ProductLemmas::dot_err, crate::proofs::ProductLemmas::dot_end, crate::proofs::ProductLemmas::dot_start))]
+fn dot_rows<C: CellReader, N: NamesTurn>(
+    left: &View,
+    right: &View,
+    scratch: &Scratch,
+    port: &mut Port<C, N>,
+) -> Result<i64, Kind>
+    requires left { IsTold N.turn left.now }
+    requires right { IsTold N.turn right.now }
+    requires one_left { left.now.shape.h ≡ 1 }
+    requires one_right { right.now.shape.h ≡ 1 }
+    ensures dot { result ≡ dot_product (grid_shown N.turn scratch.now.numbers.items (Told left.now)).cells (grid_shown N.turn scratch.now.numbers.items (Told right.now)).cells }
+    ensures same_reference { port.new.reader.ghost_name ≡ port.old.reader.ghost_name }
+{
+    let cells = left.shape.w;
+    if cells != right.shape.w {
+        return Err(Kind::BadShape);
+    }
+    let mut total = 0;
+    for i in 0..cells {
+        let first = port.number(left.place(i, 0));
+        let second = port.number(right.place(i, 0));
+        match with_product(total, first, second) {
+            Ok(next) => total = next,
+            Err(kind) => return Err(kind),
+        }
+    }
+    Ok(total)
+}
 
 /// A sum, and a product added to it.
 #[inline]

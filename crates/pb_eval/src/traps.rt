@@ -24,12 +24,32 @@ fn row_trap<C: CellReader, N: NamesTurn>(view: &View, y: u64, port: &mut Port<C,
     None
 }
 
+/// The trap in a view of one cell.
+#[inline(always)]
+fn cell_trap<C: CellReader, N: NamesTurn>(view: &View, port: &mut Port<C, N>) -> Option<Trap>
+    requires told { IsTold N.turn view.now }
+    requires wide { view.now.shape.w ≡ 1 }
+    requires tall { view.now.shape.h ≡ 1 }
+    ensures trap { result ≡ first_trap (rows_seen N.turn view.now 0) }
+    ensures same_reference { port.new.reader.ghost_name ≡ port.old.reader.ghost_name }
+{
+    match port.outcome(view.place(0, 0)) {
+        Outcome::Value(_) => None,
+        Outcome::Trapped(trap) => Some(trap),
+    }
+}
+
 /// The first trap in a view.
 fn view_trap<C: CellReader, N: NamesTurn>(view: &View, port: &mut Port<C, N>) -> Option<Trap>
     requires { IsTold N.turn view.now }
     ensures trap { result ≡ first_trap (rows_seen N.turn view.now 0) }
     ensures same_reference { port.new.reader.ghost_name ≡ port.old.reader.ghost_name }
 {
+    if view.shape.w == 1 {
+        if view.shape.h == 1 {
+            return cell_trap(view, port);
+        }
+    }
     // A view without columns may have any number of rows.
     for y in 0..view.shape.h {
         match row_trap(view, y, port) {

@@ -8,8 +8,9 @@ use std::test::Fail;
 // The outcomes and the order of the tasks; a trap as its kind.
 fn said(alloc: Global, finished: &Finished) -> Result<String, AllocError> {
     let mut text = String::new(alloc);
-    for outcome in &finished.outcomes {
-        match outcome {
+    let outcomes = &finished.outcomes;
+    for cell in 0..outcomes.count() {
+        match outcomes.get(cell) {
             Outcome::Value(value) => text.push_str(format!(in alloc; "{value} ")?.as_str())?,
             Outcome::Trapped(trap) => {
                 text.push_str(if trap.kind == Kind::Overflow {

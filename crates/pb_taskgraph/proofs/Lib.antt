@@ -6,3 +6,4 @@ pub mod PlanLemmas
 pub mod SerialLemmas
 pub mod OrderLemmas
 pub mod KnownLemmas
+pub mod PackedLemmas

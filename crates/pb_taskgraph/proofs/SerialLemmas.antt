@@ -12,10 +12,10 @@ use Rattle.pb_values.specs.declared.outcome.Outcome.{Outcome}
 use Rattle.pb_values.specs.declared.outcome.Outcome.TheVariants.{Value}
 use Rattle.pb_values.specs.Cells.{Turn}
 use Rattle.pb_taskgraph.specs.Graphs.{cells_of}
-use Rattle.pb_taskgraph.specs.Plans.{IsPlan, Plan, outcome_at}
+use Rattle.pb_taskgraph.specs.Plans.{IsPlan, IsSmall, Plan, outcome_at}
 use Rattle.pb_taskgraph.specs.Turns.{Begins, after_all, after_write, entries_of, with_outcome, with_outcomes}
 use Rattle.pb_taskgraph.specs.Serial.{IsPort, IsWritten, SerialValue, serial_turn}
-use Rattle.pb_taskgraph.proofs.PlanLemmas.{next-below}
+use Rattle.pb_taskgraph.proofs.PlanLemmas.{next-below, next-small}
 use Rattle.pb_taskgraph.proofs.TurnLemmas.{as_turn, with-in, with-kept}
 
 get-set : (outcomes : List Outcome) (cell : ℕ) (v : Outcome) → cell < length outcomes → (c : ℕ) → slice_get (slice_set outcomes cell v) c ≡ with_outcome (slice_get outcomes) cell v c
@@ -40,6 +40,10 @@ module _ (p : Plan) (port self : SerialValue) (same : port ≡ self) where
     serial-next =
         let below = next-below p is.plan port.task is.task port.written c v (ap (λ s. slice_get (serial_turn p s).left 0) same ∙ first) in
         (omega (arith, is.size, below.0), below.1)
+
+    pub serial-small : IsSmall v
+    unfolding serial_turn
+    serial-small = next-small p is.plan port.task is.task port.written c v (ap (λ s. slice_get (serial_turn p s).left 0) same ∙ first)
 
     pub serial-write : serial_turn p (record { task = port.task; written = port.written + 1; outcomes = slice_set port.outcomes c v }) ≡ after_write (serial_turn p self) c v
     unfolding serial_turn

@@ -2,6 +2,7 @@ pub mod Graphs
 pub mod Known
 pub mod Orders
 pub mod Owners
+pub mod Packed
 pub mod Plans
 pub mod Runs
 pub mod Serial

@@ -10,7 +10,9 @@ mod graph;
 mod laws;
 mod limits;
 mod names;
+mod outcomes;
 mod owners;
+mod packed;
 mod port;
 mod serial;
 mod task;
@@ -24,6 +26,7 @@ pub use laws::{
 };
 pub use limits::{MOST_CELLS, MOST_LINKS, MOST_TASKS};
 pub use names::NamesWork;
+pub use outcomes::Outcomes;
 pub use port::CellPort;
 pub use serial::{Finished, run_serial};
 pub use task::{Part, Task, TaskKind};

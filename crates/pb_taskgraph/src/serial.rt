@@ -4,6 +4,7 @@ ghost use Rattle.pb_taskgraph.specs.Plans.{IsPlan};
 ghost use Rattle.pb_taskgraph.specs.Serial.{IsWritten, serial_turn};
 
 use crate::names::NamesWork;
+use crate::outcomes::Outcomes;
 use crate::port::CellPort;
 use crate::work::Work;
 use pb_values::{CellReader, Outcome};
@@ -13,7 +14,7 @@ use std::marker::{Brand, Model, PhantomData};
 /// The outcomes of all cells, and the numbers of the tasks in the order in which they were run.
 #[derive(Debug, Drop)]
 pub struct Finished {
-    pub outcomes: Vec<Outcome>,
+    pub outcomes: Outcomes,
     pub order: Vec<u32>,
 }
 
@@ -22,7 +23,7 @@ impl Model for Finished {
 
     ghost Value = { FinishedValue };
 
-    ghost view = { λ f. record { outcomes = f.outcomes.items; order = f.order.items } };
+    ghost view = { λ f. record { outcomes = f.outcomes; order = f.order.items } };
 }
 
 /// The port of a task that is run alone. It holds the outcomes of all cells.
@@ -30,7 +31,7 @@ impl Model for Finished {
 struct SerialPort<N: NamesWork> {
     task: u32,
     written: usize,
-    outcomes: Vec<Outcome>,
+    outcomes: Outcomes,
     of: PhantomData<N>,
 }
 
@@ -39,15 +40,15 @@ impl<N: NamesWork> Model for SerialPort<N> {
 
     ghost Value = { SerialValue };
 
-    ghost view = { λ p. record { task = p.task; written = p.written; outcomes = p.outcomes.items } };
+    ghost view = { λ p. record { task = p.task; written = p.written; outcomes = p.outcomes } };
 
-    ghost invariant = { λ p. IsPort N.plan p.task p.outcomes.items };
+    ghost invariant = { λ p. IsPort N.plan p.task p.outcomes };
 }
 
 impl<N: NamesWork> SerialPort<N> {
-    fn into_outcomes(self) -> Vec<Outcome>
-        ensures outcomes { result.items ≡ self.outcomes }
-        ensures size { length result.items ≡ N.plan.graph.cells }
+    fn into_outcomes(self) -> Outcomes
+        ensures outcomes { result ≡ self.outcomes }
+        ensures size { length result ≡ N.plan.graph.cells }
     {
         self.outcomes
     }
@@ -57,13 +58,13 @@ impl<N: NamesWork> CellReader for SerialPort<N> {
     ghost turn = { serial_turn N.plan };
 
     fn read(&mut self, cell: u64) -> Outcome {
-        self.outcomes[cell as usize]
+        self.outcomes.get(cell)
     }
 }
 
 impl<N: NamesWork> CellPort for SerialPort<N> {
     fn write(&mut self, cell: u64, v: Outcome) {
-        self.outcomes[cell as usize] = v;
+        self.outcomes.set(cell, v);
         self.written += 1;
     }
 }
@@ -73,15 +74,15 @@ fn run_task<N: NamesWork, W: Work>(
     work: &W,
     scratch: &mut W::Scratch,
     task: u32,
-    outcomes: Vec<Outcome>,
-) -> Vec<Outcome>
+    outcomes: Outcomes,
+) -> Outcomes
     requires name { W.plan work.now ≡ N.plan }
     requires plan { IsPlan N.plan }
     requires task { task < length N.plan.graph.tasks }
     requires fits { W.fits work.now scratch.old }
-    requires written { IsWritten N.plan task outcomes.items }
+    requires written { IsWritten N.plan task outcomes }
     ensures fits { W.fits work.now scratch.new }
-    ensures written { IsWritten N.plan (task + 1) result.items }
+    ensures written { IsWritten N.plan (task + 1) result }
 {
     let mut port = SerialPort::<N> {
         task,
@@ -99,15 +100,15 @@ fn given_outcomes<W: Work>(
     work: &W,
     inputs: u64,
     cells: u64,
-) -> Result<Vec<Outcome>, AllocError>
+) -> Result<Outcomes, AllocError>
     requires plan { IsPlan (W.plan work.now) }
     requires inputs { inputs ≡ (W.plan work.now).graph.inputs }
     requires cells { cells ≡ (W.plan work.now).graph.cells }
-    ensures { IfOk result (λ outcomes. IsWritten (W.plan work.now) 0 outcomes.items) }
+    ensures { IfOk result (λ outcomes. IsWritten (W.plan work.now) 0 outcomes) }
 {
-    let mut outcomes = vec![in alloc; Outcome::Value(0); cells as usize]?;
+    let mut outcomes = Outcomes::zeros(alloc, cells)?;
     for cell in 0..inputs {
-        outcomes[cell as usize] = work.input(cell);
+        outcomes.set(cell, work.input(cell));
     }
     Ok(outcomes)
 }

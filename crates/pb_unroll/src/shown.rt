@@ -5,7 +5,7 @@ ghost use Rattle.pb_unroll.specs.Shown.{AreShown, AreWithin};
 
 use pb_program::Read;
 use pb_syntax::MOST_VIEWS;
-use pb_values::View;
+use pb_values::{Shape, View};
 use pb_views::Window;
 use std::alloc::{AllocError, Global};
 
@@ -14,6 +14,23 @@ use std::alloc::{AllocError, Global};
 pub struct Shown {
     pub(crate) views: Vec<View>,
     pub(crate) ghost room: { MOST_VIEWS ≤ vec_capacity views },
+}
+
+/// The same view, copied field by field: a copy as a whole takes the bytes between the fields along, which is slow.
+#[inline(always)]
+fn by_fields(view: View) -> View
+    ensures { result ≡ view }
+{
+    View {
+        first: view.first,
+        step_x: view.step_x,
+        step_y: view.step_y,
+        shape: Shape {
+            dims: view.shape.dims,
+            w: view.shape.w,
+            h: view.shape.h,
+        },
+    }
 }
 
 impl Shown {
@@ -49,7 +66,7 @@ impl Shown {
         self.views.clear();
         for k in 0..reads.len() {
             let matrix = &matrices[reads[k].matrix as usize];
-            self.put(windows[k].show(matrix, x, y));
+            self.put(by_fields(windows[k].show(matrix, x, y)));
         }
     }
 }

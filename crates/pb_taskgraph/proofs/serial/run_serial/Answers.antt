@@ -14,4 +14,4 @@ loop-task-preserved g c = record {
 pub returns-clause-outcomes : goal.returns-clause-outcomes
 returns-clause-outcomes g c =
     let tasks = ap length (c.tasks-task-end.ensures.tasks ∙ ap (λ (h : GraphValue). h.tasks) c.graph-graph.ensures.graph) in
-    all-written (g.W.Work.plan c.args.work.now) c.graph-graph.ensures.plan c.loop-task.task (omega (arith, tasks, c.loop-task-test.false)) c.loop-task.outcomes.items c.loop-task.invariant.written
+    all-written (g.W.Work.plan c.args.work.now) c.graph-graph.ensures.plan c.loop-task.task (omega (arith, tasks, c.loop-task-test.false)) c.loop-task.outcomes c.loop-task.invariant.written

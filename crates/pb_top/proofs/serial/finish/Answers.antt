@@ -17,9 +17,9 @@ returns c = (
   c.in_ok-text.text.items,
   c.in_ok-tail.tail.items,
   is_done c.args.run.now c.args.traced c.in_ok-text.text.items c.in_ok-tail.tail.items (sym c.first_trapped.ensures ∙ c.in_default.is) c.in_ok-text.ensures c.in_ok-tail.ensures,
-  c.in_ok-extend_from_slice.ensures.items ∙ ap (λ xs. c.in_ok-text.text.items ++ xs) c.deref-4.ensures.value,
+  c.in_ok-extend_from_slice.ensures.items ∙ ap (λ xs. c.in_ok-text.text.items ++ xs) c.deref-2.ensures.value,
 )
 
 pub tail_of-requires : goal.tail_of-requires
 tail_of-requires c =
-    c.deref-3.ensures.value ∙ ap (λ (f : FinishedValue). f.order) c.finished.view_is ∙ c.in_ok-finished.ensures.order ∙ ap (λ (g : GraphValue). range_with_len 0 (length g.tasks)) (run_graph c.args.run.now)
+    c.deref.ensures.value ∙ ap (λ (f : FinishedValue). f.order) c.finished.view_is ∙ c.in_ok-finished.ensures.order ∙ ap (λ (g : GraphValue). range_with_len 0 (length g.tasks)) (run_graph c.args.run.now)

@@ -5,12 +5,19 @@ use Rattle.pb_eval.proofs.ArgumentLemmas.{operand_open, pair_both, pair_first, p
 use Rattle.pb_eval.proofs.ExprLemmas.{operated_same, values_end, values_err, values_ok, values_same}
 use Rattle.pb_eval.proofs.scene.Scene.+expression.Goals as goal
 
-pub operand-returns-in_ok-value-in-None-clause-value : goal.operand-returns-in_ok-value-in-None-clause-value
-operand-returns-in_ok-value-in-None-clause-value g t c =
+pub operand-returns-in-Some-leaf-clause-value : goal.operand-returns-in-Some-leaf-clause-value
+operand-returns-in-Some-leaf-clause-value g t c =
     let left : to_z w64 (of_z w64 c.args.left) ≡ c.args.left = search rules in
-    let right : to_z w64 (of_z w64 c.in_ok-value-in-None.field-0) ≡ c.in_ok-value-in-None.field-0 = search rules in
-    let none : decided c.args.operator c.args.left ≡ None = ap (decided c.args.operator) (sym left) ∙ sym c.in-None.ensures in
-    operated_same _ _ _ _ _ _ _ _ _ left right c.operate.ensures (sym c.value.ensures.value ∙ c.in_ok-value-in-None.was) (operand_open _ _ c.args.operator c.args.left c.args.e.now none)
+    let right : to_z w64 (of_z w64 c.in-Some-leaf.right) ≡ c.in-Some-leaf.right = search rules in
+    let none : decided c.args.operator c.args.left ≡ None = ap (decided c.args.operator) (sym left) ∙ sym c.decided.ensures ∙ c.in_default.is in
+    operated_same _ _ _ _ _ _ _ _ _ left right c.operate.ensures c.in-Some-leaf.ensures.value (operand_open _ _ c.args.operator c.args.left c.args.e.now none)
+
+pub operand-returns-clause-value : goal.operand-returns-clause-value
+operand-returns-clause-value g t c =
+    let left : to_z w64 (of_z w64 c.args.left) ≡ c.args.left = search rules in
+    let right : to_z w64 (of_z w64 c.in_ok-value.field-0) ≡ c.in_ok-value.field-0 = search rules in
+    let none : decided c.args.operator c.args.left ≡ None = ap (decided c.args.operator) (sym left) ∙ sym c.decided.ensures ∙ c.in_default.is in
+    operated_same _ _ _ _ _ _ _ _ _ left right c.operate-2.ensures (sym c.value.ensures.value ∙ c.in_ok-value.was) (operand_open _ _ c.args.operator c.args.left c.args.e.now none)
 
 pub pair-returns-in_err-i-in-len2-clause-value : goal.pair-returns-in_err-i-in-len2-clause-value
 pair-returns-in_err-i-in-len2-clause-value g t c =

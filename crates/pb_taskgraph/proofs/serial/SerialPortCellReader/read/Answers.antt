@@ -1,9 +1,11 @@
-use Rattle.std.proofs.Common.{arith}
-use Rattle.pb_taskgraph.proofs.SerialLemmas.{serial-inside, serial-read}
+use Rattle.std.proofs.Common.{◌∙◌, sym, ap, slice_get}
+use Rattle.pb_taskgraph.specs.Serial.{serial_turn}
+use Rattle.pb_taskgraph.proofs.SerialLemmas.{serial-inside}
 use Rattle.pb_taskgraph.proofs.serial.SerialPortCellReader.read.Goals as goal
 
-pub index-requires : goal.index-requires
-index-requires g c = omega (arith, c.self.inside.outcomes.ok.0, serial-inside g.N.NamesWork.plan _ c.args.self.now c.self.view_is c.args.cell c.requires)
+pub get-requires : goal.get-requires
+get-requires g c = serial-inside g.N.NamesWork.plan _ c.args.self.now c.self.view_is c.args.cell c.requires
 
 pub returns-clause-outcome : goal.returns-clause-outcome
-returns-clause-outcome g c = serial-read g.N.NamesWork.plan _ c.args.self.now c.self.view_is c.args.cell c.index.result.now c.requires c.index.ensures
+unfolding serial_turn
+returns-clause-outcome g c = ap (λ s. slice_get s.outcomes c.args.cell) (sym c.self.view_is) ∙ c.get.ensures

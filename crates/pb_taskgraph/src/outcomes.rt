@@ -1,0 +1,92 @@
+use crate::packed::{trap_in, word_of};
+use pb_values::Outcome;
+use std::alloc::{AllocError, Global};
+use std::marker::Model;
+
+/// The outcomes of cells, by number. A cell takes nine bytes: its number or its trap as one word, and which of both it is.
+#[derive(Debug, Drop)]
+pub struct Outcomes {
+    words: Vec<i64>,
+    trapped: Vec<bool>,
+}
+
+impl Model for Outcomes {
+    ghost use Rattle.std.specs.Prelude.{◌≡◌, List, length};
+    ghost use Rattle.pb_values.specs.declared.outcome.Outcome.{Outcome};
+    ghost use Rattle.pb_taskgraph.specs.Packed.{outcomes_in};
+
+    ghost Value = { List Outcome };
+
+    ghost view = { λ o. outcomes_in o.words.items o.trapped.items };
+
+    ghost invariant = { λ o. length o.trapped.items ≡ length o.words.items };
+}
+
+impl Outcomes {
+    ghost use Rattle.std.specs.Prelude.{◌≡◌, ◌<◌, ◌≤◌, ◌-◌, IfOk, IfSome, Some, drop, length, map, slice_get, slice_set, take};
+    ghost use Rattle.pb_values.specs.declared.outcome.Outcome.TheVariants.{Value};
+    ghost use Rattle.pb_taskgraph.specs.Plans.{IsSmall};
+
+    /// So many outcomes, of which each is 0.
+    #[tactic(auto, using(crate::proofs::PackedLemmas::length_in))]
+    pub(crate) fn zeros(alloc: Global, cells: u64) -> Result<Outcomes, AllocError>
+        ensures { IfOk result (λ o. length o ≡ cells) }
+    {
+        Ok(Outcomes {
+            words: vec![in alloc; 0i64; cells as usize]?,
+            trapped: vec![in alloc; false; cells as usize]?,
+        })
+    }
+
+    /// How many there are.
+    pub fn count(&self) -> u64
+        ensures { result ≡ length self.now }
+    {
+        self.words.len() as u64
+    }
+
+    /// The outcome of a cell.
+    #[inline(always)]
+    pub fn get(&self, cell: u64) -> Outcome
+        requires { cell < length self.now }
+        ensures { slice_get self.now cell ≡ Some result }
+    {
+        let word = self.words[cell as usize];
+        if self.trapped[cell as usize] {
+            Outcome::Trapped(trap_in(word.unsigned_abs()))
+        } else {
+            Outcome::Value(word)
+        }
+    }
+
+    /// The numbers of the cells from `first` to before `end`, unless one of them is trapped.
+    pub fn numbers(&self, first: usize, end: usize) -> Option<&[i64]>
+        requires order { first ≤ end }
+        requires below { end ≤ length self.now }
+        ensures { IfSome result (λ numbers. take (end - first) (drop first self.now) ≡ map (λ z. Value z) numbers.now) }
+    {
+        if self.trapped[first..end].contains(&true) {
+            return None;
+        }
+        Some(&self.words[first..end])
+    }
+
+    /// Puts the outcome of a cell in the place of the one that is there.
+    #[inline(always)]
+    pub(crate) fn set(&mut self, cell: u64, outcome: Outcome)
+        requires below { cell < length self.old }
+        requires small { IsSmall outcome }
+        ensures { self.new ≡ slice_set self.old cell outcome }
+    {
+        match outcome {
+            Outcome::Value(number) => {
+                self.words[cell as usize] = number;
+                self.trapped[cell as usize] = false;
+            }
+            Outcome::Trapped(trap) => {
+                self.words[cell as usize] = word_of(&trap);
+                self.trapped[cell as usize] = true;
+            }
+        }
+    }
+}
