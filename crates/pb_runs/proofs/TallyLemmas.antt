@@ -54,16 +54,14 @@ without_in x z us vs h = ⊎_elim
 once_without : {A : Type 0} (x : A) (us vs : List A) → Once (us ++ x ∷ vs) → Once (us ++ vs) × (Contains (us ++ vs) x → ⊥)
 once_without x [] vs once = (rest_once x vs once, head_once x vs once)
 once_without {A} x (u ∷ us) vs once =
-    let rest = once_without x us vs (rest_once u (us ++ x ∷ vs) once) in
-    (cons_once u (us ++ vs) rest.0 (λ h. head_once u (us ++ x ∷ vs) once (in_without x u us vs h)),
-    λ h. elim (in_cases u x (us ++ vs) h) [
-      | inl same ↦ head_once u (us ++ x ∷ vs) once (subst (Contains (us ++ x ∷ vs)) (sym same) (Contains-append_right us (x ∷ vs) x (in_head x vs)))
-      | inr later ↦ rest.1 later
-    ])
+    let rest = once_without x us vs (rest_once u (us ++ x ∷ vs) once) in (
+      cons_once u (us ++ vs) rest.0 (λ h. head_once u (us ++ x ∷ vs) once (in_without x u us vs h)),
+      λ h. elim (in_cases u x (us ++ vs) h) [
+        | inl same ↦ head_once u (us ++ x ∷ vs) once (subst (Contains (us ++ x ∷ vs)) (sym same) (Contains-append_right us (x ∷ vs) x (in_head x vs)))
+        | inr later ↦ rest.1 later
+      ],
+    )
   where
-
-
-
     cons_once : {A : Type 0} (y : A) (xs : List A) → Once xs → (Contains xs y → ⊥) → Once (y ∷ xs)
     cons_once y xs h never zero zero x e f = refl
     cons_once y xs h never zero (suc j) x e f = absurd (never (let some : Some y ≡ Some x = e in let same : y ≡ x = cc in subst (Contains xs) (sym same) (in_at xs j x f)))
@@ -77,11 +75,11 @@ all_same f (x ∷ xs) ys once_x once_y to from =
     let s = split x ys (to x (in_head x xs)) in
     let once = once_without x s.0 s.1 (subst Once s.2 once_y) in
     let rest = all_same f xs (s.0 ++ s.1) (rest_once x xs once_x) once.0
-        (λ z h. ⊎_elim (λ same. absurd (head_once x xs once_x (subst (Contains xs) (sym same) h))) (λ there. there) (without_in x z s.0 s.1 (subst (λ l. Contains l z) s.2 (to z (in_tail x z xs h)))))
-        (λ z h. elim (in_cases x z xs (from z (subst (λ l. Contains l z) (sym s.2) (in_without x z s.0 s.1 h)))) [
-          | inl same ↦ absurd (once.1 (subst (Contains (s.0 ++ s.1)) (sym same) h))
-          | inr later ↦ later
-        ]) in
+    (λ z h. ⊎_elim (λ same. absurd (head_once x xs once_x (subst (Contains xs) (sym same) h))) (λ there. there) (without_in x z s.0 s.1 (subst (λ l. Contains l z) s.2 (to z (in_tail x z xs h)))))
+    (λ z h. elim (in_cases x z xs (from z (subst (λ l. Contains l z) (sym s.2) (in_without x z s.0 s.1 h)))) [
+      | inl same ↦ absurd (once.1 (subst (Contains (s.0 ++ s.1)) (sym same) h))
+      | inr later ↦ later
+    ]) in
     ap (both (f x)) rest ∙ sym (moved f x s.0 s.1) ∙ ap (λ l. all_of (map f l)) (sym s.2)
 
 -- ---- matrices
