@@ -7,6 +7,9 @@ use Rattle.pb_taskgraph.specs.Plans.{outcome_at}
 use Rattle.pb_tasks.proofs.FlatLemmas.{flat_at, start}
 use Rattle.pb_solution.proofs.OutcomeLemmas.{index_at}
 use Rattle.pb_solution.specs.Solutions.{outcomes_of}
+use Rattle.pb_model.specs.Cells.{natural}
+use Rattle.pb_recursion.specs.Depths.{IsWhole}
+use Rattle.pb_recursion.specs.Shapes.{Sides}
 use Rattle.pb_runs.specs.Unrolled.{Met}
 use Rattle.pb_runs.specs.Placed.{before, total}
 
@@ -52,6 +55,16 @@ pub before_all : (gs : List Outcomes) (k : ℕ) → before gs k ≤ total gs
 before_all [] k = omega arith
 before_all (g ∷ gs) zero = omega arith
 before_all (g ∷ gs) (suc k) = let rest = before_all gs k in omega (arith, rest)
+
+-- ---- sides
+-- a matrix has these sides, and all its cells
+abbrev pub HasSides : Sides → Outcomes → Type 0
+HasSides s m = (m.width ≡ natural s.0) × (m.height ≡ natural s.1) × IsWhole m
+
+abbrev pub HaveSides : List Sides → List Outcomes → Type 0
+HaveSides [] [] = Unit {0}
+HaveSides (s ∷ ss) (m ∷ mats) = HasSides s m × HaveSides ss mats
+HaveSides _ _ = ⊥
 
 -- ---- outcomes
 pub outcome_there : (gs : List Outcomes) (k : ℕ) (g : Outcomes) (j : ℕ) (o : Outcome) → slice_get gs k ≡ Some g → slice_get g.cells j ≡ Some o → outcome_at (outcomes_of gs) (before gs k + j) ≡ o

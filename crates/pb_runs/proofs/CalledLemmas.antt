@@ -24,8 +24,8 @@ use Rattle.pb_runs.specs.Matrices.{AllMade, Below, call_below, call_matrices}
 use Rattle.pb_runs.specs.Seats.{Seat, no_seat}
 use Rattle.pb_runs.specs.Steps.{Instance, cells_in}
 use Rattle.pb_runs.specs.Unrolled.{Met, Player, Unroll, failed, given_back, own_sides, unrolled_by}
-use Rattle.pb_runs.proofs.BaseLemmas.{Stands}
-use Rattle.pb_runs.proofs.FailedLemmas.{HaveSides, failed_deep, filled_sides}
+use Rattle.pb_runs.proofs.BaseLemmas.{HaveSides, Stands}
+use Rattle.pb_runs.proofs.FailedLemmas.{failed_deep, filled_sides}
 use Rattle.pb_runs.proofs.FitLemmas.{HaveNatural, fits_enters}
 use Rattle.pb_runs.proofs.NameLemmas.{Answer, AreNamed, named_known, named_placed}
 use Rattle.pb_runs.proofs.PlayedLemmas.{AreCalled, IsCalled}
@@ -50,7 +50,7 @@ in_drop zero xs x h = h
 in_drop (suc n) [] x h = h
 in_drop (suc n) (y ∷ xs) x h = in_tail y x xs (in_drop n xs x h)
 
-drop_sides : (ms : List Outcomes) (n : ℕ) (ss : List Sides) (mats : List Outcomes) → HaveSides ms ss mats → HaveSides ms (drop n ss) (drop n mats)
+drop_sides : (ms : List Outcomes) (n : ℕ) (ss : List Sides) (mats : List Outcomes) → HaveSides ss mats → HaveSides (drop n ss) (drop n mats)
 drop_sides ms zero ss mats h = h
 drop_sides ms (suc n) [] [] h = tt
 drop_sides ms (suc n) [] (m ∷ mats) h = absurd h
@@ -77,7 +77,7 @@ module _ (config : ConfigValue) (ms : List Outcomes) (p : List ProgTransform) wh
   abbrev pub IsDeeper : Unroll → AllMade → Call → Type 1
   IsDeeper u all call = (number : ℕ) (t : ProgTransform) → slice_get p number ≡ Some t → (known : Cells) (n : Met) (given : List Seat) (ins : List Outcomes) → AllZip (IsPlaced ms) given ins → can_enter t (map sides_of_matrix ins) ≡ true
       → ((s : Seat) → Contains given s → (c : ℕ) → HasCell s c → known c) → Stands ms n (all number ins)
-      → IsDeep config ms known n (u number given n) (all number ins) (call number ins) × HaveSides ms (own_sides t (sizes_given t ins)) (call number ins)
+      → IsDeep config ms known n (u number given n) (all number ins) (call number ins) × HaveSides (own_sides t (sizes_given t ins)) (call number ins)
 
   pub record AreDeeper (deeper : Option Unroll) (below : Option Below) : Type 1 where
     pub none : deeper ≡ None → below ≡ None
@@ -92,7 +92,7 @@ module _ (config : ConfigValue) (ms : List Outcomes) (p : List ProgTransform) wh
     sides = sides_of_slot i.transform.matrices i.sizes r
 
     -- targets with the sides of what is made for them
-    answers : (known : Cells) (targets : List Slot) (wanted : List Sides) (seats : List Seat) (mats : List Outcomes) → all_same_sides wanted (map sides targets) ≡ true → HaveSides ms wanted mats → AllZip (IsPlaced ms) seats mats
+    answers : (known : Cells) (targets : List Slot) (wanted : List Sides) (seats : List Seat) (mats : List Outcomes) → all_same_sides wanted (map sides targets) ≡ true → HaveSides wanted mats → AllZip (IsPlaced ms) seats mats
         → ((s : Seat) → Contains seats s → (c : ℕ) → HasCell s c → known c) → Answer ms sides known targets seats mats
     answers known [] wanted seats mats same have placed cells = tt
     answers known (t ∷ ts) [] seats mats same have placed cells = absurd (let wrong : false ≡ true = same in cc)
@@ -106,7 +106,7 @@ module _ (config : ConfigValue) (ms : List Outcomes) (p : List ProgTransform) wh
         )
 
     -- targets of a call that can't be made
-    filled_answers : (known : Cells) (targets : List Slot) (seats : List Seat) (mats : List Outcomes) → HaveSides ms (map sides targets) mats → AllZip (IsPlaced ms) seats mats
+    filled_answers : (known : Cells) (targets : List Slot) (seats : List Seat) (mats : List Outcomes) → HaveSides (map sides targets) mats → AllZip (IsPlaced ms) seats mats
         → ((s : Seat) → Contains seats s → (c : ℕ) → HasCell s c → known c) → Answer ms sides known targets seats mats
     filled_answers known [] seats mats have placed cells = tt
     filled_answers known (t ∷ ts) seats [] have placed cells = absurd have
@@ -157,7 +157,7 @@ module _ (config : ConfigValue) (ms : List Outcomes) (p : List ProgTransform) wh
         let placed : AllZip (IsPlaced ms) (given_back p c un).seats (drop t.middles own) = subst (λ l. AllZip (IsPlaced ms) l (drop t.middles own)) (sym back) (drop_zip (IsPlaced ms) t.middles un.seats own deep.placed) in
         let inside : (s : Seat) → Contains (given_back p c un).seats s → Contains un.seats s = λ s h. in_drop t.middles un.seats s (subst (λ l. Contains l s) back h) in
         let decls : drop t.middles (own_sides t (sizes_given t ins)) ≡ map (sides_of_decl (sizes_given t ins)) (drop (t.inputs + t.middles) t.matrices) = drop_map (sides_of_decl (sizes_given t ins)) t.middles (drop t.inputs t.matrices) ∙ ap (map (sides_of_decl (sizes_given t ins))) (drop_drop t.inputs t.middles t.matrices) in
-        let have : HaveSides ms (map (sides_of_decl (sizes_given t ins)) (drop (t.inputs + t.middles) t.matrices)) (drop t.middles own) = subst (λ l. HaveSides ms l (drop t.middles own)) decls (drop_sides ms t.middles (own_sides t (sizes_given t ins)) own called.1) in (
+        let have : HaveSides (map (sides_of_decl (sizes_given t ins)) (drop (t.inputs + t.middles) t.matrices)) (drop t.middles own) = subst (λ l. HaveSides l (drop t.middles own)) decls (drop_sides ms t.middles (own_sides t (sizes_given t ins)) own called.1) in (
           record { placed = placed; within = λ s h c has. deep.within s (inside s h) c has; sound = deep.sound; counts = deep.counts; reaches = deep.reaches },
           answers (with_cells known (cells_in un.steps)) c.targets (map (sides_of_decl (sizes_given t ins)) (drop (t.inputs + t.middles) t.matrices)) (given_back p c un).seats (drop t.middles own) enters.1 have placed
               (λ s h cell has. inr (deep_made config ms known n un (b.all c.transform ins) own deep s (inside s h) cell has)),

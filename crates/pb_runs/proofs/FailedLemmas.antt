@@ -14,7 +14,7 @@ use Rattle.pb_recursion.specs.Shapes.{Sides, area}
 use Rattle.pb_runs.specs.Seats.{Seat, across, cell_at, down, seat_cells}
 use Rattle.pb_runs.specs.Steps.{cells_in, cells_of}
 use Rattle.pb_runs.specs.Unrolled.{Met, after_call, after_matrices, after_matrix, failed, seat_has_cells, seats_from, trap_step, whole_seat}
-use Rattle.pb_runs.proofs.BaseLemmas.{Reaches, Stands, reaches_both, stands_right}
+use Rattle.pb_runs.proofs.BaseLemmas.{HasSides, HaveSides, Reaches, Stands, reaches_both, stands_right}
 use Rattle.pb_runs.proofs.CountLemmas.{counted, in_row, row_in, row_split}
 use Rattle.pb_runs.proofs.SeatLemmas.{HasCell, whole_has, whole_placed}
 use Rattle.pb_runs.proofs.SoundLemmas.{Cells, IsDeep, Sound}
@@ -22,15 +22,6 @@ use Rattle.pb_runs.specs.Placed.{IsPlaced, outcome_of, total}
 
 -- ---- matrices one after the other
 module _ (ms : List Outcomes) where
-  -- they have these sides, and all their cells
-  abbrev pub HasSides : Sides → Outcomes → Type 0
-  HasSides s m = (m.width ≡ natural s.0) × (m.height ≡ natural s.1) × IsWhole m
-
-  abbrev pub HaveSides : List Sides → List Outcomes → Type 0
-  HaveSides [] [] = Unit {0}
-  HaveSides (s ∷ ss) (m ∷ mats) = HasSides s m × HaveSides ss mats
-  HaveSides _ _ = ⊥
-
   area_is : (s : Sides) (m : Outcomes) → HasSides s m → length m.cells ≡ area s
   area_is s m h = h.2 ∙ (λ i. h.0 i * h.1 i)
 
@@ -116,7 +107,7 @@ full_cells n (s ∷ ss) = by (seat_has_cells (whole_seat n s)) refl (full_cells 
     by false e rest = rw e (rest ∙ ap (λ l. l ++ flat_map seat_cells (seats_from (after_matrix n s) ss)) (sym (none e)))
 
 -- all together they are the cells of the matrices
-pub all_cells : (ms : List Outcomes) (n : Met) (ss : List Sides) (mats : List Outcomes) → HaveSides ms ss mats → flat_map seat_cells (seats_from n ss) ≡ range_with_len n.cells (total mats)
+pub all_cells : (ms : List Outcomes) (n : Met) (ss : List Sides) (mats : List Outcomes) → HaveSides ss mats → flat_map seat_cells (seats_from n ss) ≡ range_with_len n.cells (total mats)
 all_cells ms n [] [] h = refl
 all_cells ms n [] (m ∷ mats) h = absurd h
 all_cells ms n (s ∷ ss) [] h = absurd h
@@ -125,7 +116,7 @@ all_cells ms n (s ∷ ss) (m ∷ mats) h =
     (λ i. whole_cells n s i ++ all_cells ms (after_matrix n s) ss mats h.1 i) ∙ sym (row_split n.cells (area s) (total mats)) ∙ ap (λ a. range_with_len n.cells (a + total mats)) cells
 
 -- ---- a call that can't be made
-pub filled_sides : (ms : List Outcomes) (o : Outcome) (ss : List Sides) → HaveSides ms ss (map (filled o) ss)
+pub filled_sides : (ms : List Outcomes) (o : Outcome) (ss : List Sides) → HaveSides ss (map (filled o) ss)
 filled_sides ms o [] = tt
 filled_sides ms o (s ∷ ss) = ((refl, refl, length-replicate (area s) o), filled_sides ms o ss)
 

@@ -29,12 +29,12 @@ use Rattle.pb_runs.specs.Matrices.{Below, below_at, call_below, jobs_matrices, m
 use Rattle.pb_runs.specs.Seats.{Seat, no_seat, sides_of_seat}
 use Rattle.pb_runs.specs.Steps.{Instance, number_at, seat_in, stop_number}
 use Rattle.pb_runs.specs.Unrolled.{Met, Unroll, after_call, after_matrices, instance_of, jobs_done, own_sides, seats_from, unrolled_at}
-use Rattle.pb_runs.proofs.BaseLemmas.{Reaches, Stands, reaches_both, stands_left, stands_right, total_append}
+use Rattle.pb_runs.proofs.BaseLemmas.{HaveSides, Reaches, Stands, reaches_both, stands_left, stands_right, total_append}
 use Rattle.pb_runs.proofs.BoxLemmas.{IsSituated, inst, jobs}
 use Rattle.pb_runs.proofs.CalledLemmas.{AreDeeper, AreNatural}
 use Rattle.pb_runs.proofs.CopyLemmas.{own_once as job_once}
 use Rattle.pb_runs.proofs.CountLemmas.{counted, counted_row, counted_same, in_row, row_in, row_once}
-use Rattle.pb_runs.proofs.FailedLemmas.{HaveSides, seats_placed, seats_reach, seats_within}
+use Rattle.pb_runs.proofs.FailedLemmas.{seats_placed, seats_reach, seats_within}
 use Rattle.pb_runs.proofs.FoldLemmas.{jobs_are_done}
 use Rattle.pb_runs.proofs.JobLemmas.{IsKnown, made_own, own_cells}
 use Rattle.pb_runs.proofs.OwnLemmas.{own_in_row, own_once, row_own, side_below}
@@ -77,7 +77,7 @@ module _ (ms : List Outcomes) where
       get_is (y ∷ xs) (suc k) d x e = get_is xs k d x e
 
   -- what a call makes has the sides of its declarations
-  made_sides : (config : ConfigValue) (plans : Plans) (number : ℕ) (t : ProgTransform) (sizes : List ℕ) (ins : List Outcomes) (m : ℕ) (ds : List DeclValue) → HaveSides ms (map (sides_of_decl sizes) ds) (made_from config plans number t sizes ins m ds)
+  made_sides : (config : ConfigValue) (plans : Plans) (number : ℕ) (t : ProgTransform) (sizes : List ℕ) (ins : List Outcomes) (m : ℕ) (ds : List DeclValue) → HaveSides (map (sides_of_decl sizes) ds) (made_from config plans number t sizes ins m ds)
   made_sides config plans number t sizes ins m [] = tt
   made_sides config plans number t sizes ins m (d ∷ ds) = ((refl, refl, whole), made_sides config plans number t sizes ins (m + 1) ds)
     where
@@ -90,7 +90,7 @@ module _ (ms : List Outcomes) where
       whole : length (map (cell_outcome config plans number t sizes ins) (matrix_cells sizes m d)) ≡ natural (exact_value d.w sizes) * natural (exact_value d.h sizes)
       whole = length-map (matrix_cells sizes m d) (cell_outcome config plans number t sizes ins) ∙ ap length (matrix_is sizes m d) ∙ rows_count (λ x y. record { matrix = m; x = x; y = y }) (natural (exact_value d.w sizes)) 0 (natural (exact_value d.h sizes)) ∙ swap (natural (exact_value d.w sizes)) (natural (exact_value d.h sizes))
 
-  call_sides : (config : ConfigValue) (plans : Plans) (number : ℕ) (t : ProgTransform) (sizes : List ℕ) (ins : List Outcomes) → HaveSides ms (own_sides t sizes) (call_of config plans number t sizes ins)
+  call_sides : (config : ConfigValue) (plans : Plans) (number : ℕ) (t : ProgTransform) (sizes : List ℕ) (ins : List Outcomes) → HaveSides (own_sides t sizes) (call_of config plans number t sizes ins)
   unfolding call_of
   call_sides config plans number t sizes ins = made_sides config plans number t sizes ins t.inputs (drop t.inputs t.matrices)
 
@@ -134,8 +134,8 @@ module _ (config : ConfigValue) (ms : List Outcomes) (p : List ProgTransform) (f
   own_is : own ≡ call_of config plans number t sizes ins
   own_is = call_is p config d number t ins there
 
-  pub own_have : HaveSides ms (own_sides t sizes) own
-  own_have = subst (HaveSides ms (own_sides t sizes)) (sym own_is) (call_sides ms config plans number t sizes ins)
+  pub own_have : HaveSides (own_sides t sizes) own
+  own_have = subst (HaveSides (own_sides t sizes)) (sym own_is) (call_sides ms config plans number t sizes ins)
 
   sided : AreSided sizes t.matrices lm
   sided = subst (λ l. AreSided sizes t.matrices (ins ++ l)) (sym own_is) (sides_are config plans number t sizes ins given_is (inputs_there p number t well there))

@@ -19,8 +19,8 @@ use Rattle.pb_recursion.specs.Shapes.{Sides, area, sides_of_decl}
 use Rattle.pb_runs.specs.Seats.{Seat, base_x, base_y, cell_at, no_seat}
 use Rattle.pb_runs.specs.Steps.{Instance, number_at, seat_in}
 use Rattle.pb_runs.specs.Unrolled.{Met, after_matrix, own_sides, seats_from, whole_seat}
-use Rattle.pb_runs.proofs.BaseLemmas.{before_grows, before_next}
-use Rattle.pb_runs.proofs.FailedLemmas.{HaveSides, seats_within}
+use Rattle.pb_runs.proofs.BaseLemmas.{HaveSides, before_grows, before_next}
+use Rattle.pb_runs.proofs.FailedLemmas.{seats_within}
 use Rattle.pb_runs.proofs.SeatLemmas.{HasCell, has_whole}
 use Rattle.pb_runs.proofs.ViewLemmas.{IsLocal, has_matrix, matrix_at}
 use Rattle.pb_runs.specs.Placed.{IsAt, before, total}
@@ -68,7 +68,7 @@ seat_there n (z ∷ ss) zero s e = (n, ap (λ q. Some (whole_seat n q)) (some_sa
 seat_there n (z ∷ ss) (suc k) s e = let rest = seat_there (after_matrix n z) ss k s e in (rest.0, rest.1, omega (arith, rest.2))
 
 -- a number in the row is that of a place
-pub row_place : (ms : List Outcomes) (n : Met) (ss : List Sides) (mats : List Outcomes) → HaveSides ms ss mats → (c : ℕ) → n.cells ≤ c → c < n.cells + total mats
+pub row_place : (ms : List Outcomes) (n : Met) (ss : List Sides) (mats : List Outcomes) → HaveSides ss mats → (c : ℕ) → n.cells ≤ c → c < n.cells + total mats
     → (k : ℕ) × (s : Sides) × (m : Met) × (slice_get ss k ≡ Some s) × (slice_get (seats_from n ss) k ≡ Some (whole_seat m s)) × HasCell (whole_seat m s) c
 row_place ms n [] [] h c low high = absurd (omega (arith, low, high))
 row_place ms n [] (m ∷ mats) h c low high = absurd h
@@ -99,7 +99,7 @@ at_dropped [] (suc n) k x at = absurd (let none : None ≡ Some x = at in cc)
 at_dropped (y ∷ xs) (suc n) k x at = let here : suc n + k ≡ suc (n + k) = omega arith in at_dropped xs n k x (subst (λ i. slice_get (y ∷ xs) i ≡ Some x) here at)
 
 -- ---- an instance, whose own matrices begin here
-module _ (ms : List Outcomes) (i : Instance) (given : List Seat) (n : Met) (own : List Outcomes) (seats : i.seats ≡ given ++ seats_from n (own_sides i.transform i.sizes)) (count : length given ≡ i.transform.inputs) (sides : HaveSides ms (own_sides i.transform i.sizes) own) where
+module _ (ms : List Outcomes) (i : Instance) (given : List Seat) (n : Met) (own : List Outcomes) (seats : i.seats ≡ given ++ seats_from n (own_sides i.transform i.sizes)) (count : length given ≡ i.transform.inputs) (sides : HaveSides (own_sides i.transform i.sizes) own) where
   abbrev t : ProgTransform
   t = i.transform
 

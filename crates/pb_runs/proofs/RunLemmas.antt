@@ -20,9 +20,9 @@ use Rattle.pb_runs.specs.Matrices.{below_at, matrices_at, matrices_by, matrices_
 use Rattle.pb_runs.specs.Seats.{Seat, sides_of_seat}
 use Rattle.pb_runs.specs.Steps.{Step, boxes_of, cells_in}
 use Rattle.pb_runs.specs.Unrolled.{Met, Unroll, Unrolled, after_matrices, found_for, nothing_met, seats_from, unroll, unroll_one, unrolled_at, unrolled_run}
-use Rattle.pb_runs.proofs.BaseLemmas.{Reaches, Stands, before_first, before_right, total_append}
+use Rattle.pb_runs.proofs.BaseLemmas.{HaveSides, Reaches, Stands, before_first, before_right, total_append}
 use Rattle.pb_runs.proofs.CalledLemmas.{AreDeeper, AreNatural, IsDeeper}
-use Rattle.pb_runs.proofs.FailedLemmas.{HaveSides, seats_placed, seats_reach, seats_within}
+use Rattle.pb_runs.proofs.FailedLemmas.{seats_placed, seats_reach, seats_within}
 use Rattle.pb_runs.proofs.InstanceLemmas.{instance_deep, own_have, sizes_same}
 use Rattle.pb_runs.proofs.SeatLemmas.{HasCell}
 use Rattle.pb_runs.proofs.CountLemmas.{counted, counted_in, counted_once, in_counted, in_row, row_few, row_in}
@@ -103,11 +103,11 @@ module _ (p : List ProgTransform) (found : List AnalysisValue) (config : ConfigV
   abbrev given : Cells
   given c = c < total ins
 
-  ins_have : (gs : List Outcomes) → AllByRecursion IsWhole gs → HaveSides ms (map sides_of_matrix gs) gs
+  ins_have : (gs : List Outcomes) → AllByRecursion IsWhole gs → HaveSides (map sides_of_matrix gs) gs
   ins_have [] w = tt
   ins_have (g ∷ gs) w = ((refl, refl, w.0), ins_have gs w.1)
 
-  have : HaveSides ms inputs ins
+  have : HaveSides inputs ins
   have = ins_have ins (all_to IsWhole ins h.whole)
 
   get_first : (xs ys : List Outcomes) (k : ℕ) (g : Outcomes) → slice_get xs k ≡ Some g → slice_get (xs ++ ys) k ≡ Some g

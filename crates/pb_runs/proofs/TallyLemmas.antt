@@ -8,9 +8,10 @@ use Rattle.pb_model.specs.Cells.{natural}
 use Rattle.pb_plan.proofs.OnceLemmas.{Once}
 use Rattle.pb_recursion.specs.Counts.{Counted, all_of, both, matrix_of, nothing, one_more}
 use Rattle.pb_recursion.specs.Shapes.{Sides}
-use Rattle.pb_runs.specs.Placed.{total}
+use Rattle.pb_runs.specs.Placed.{greatest_side, total}
+use Rattle.pb_runs.specs.Unrolled.{Met}
+use Rattle.pb_runs.proofs.BaseLemmas.{HaveSides, total_append}
 use Rattle.pb_runs.proofs.CountLemmas.{head_once, rest_once}
-use Rattle.pb_runs.proofs.FailedLemmas.{HaveSides}
 
 -- ---- sums
 pub same_counted : (a b : Counted) → a.calls ≡ b.calls → a.side ≡ b.side → a.cells ≡ b.cells → a ≡ b
@@ -83,11 +84,6 @@ all_same f (x ∷ xs) ys once_x once_y to from =
     ap (both (f x)) rest ∙ sym (moved f x s.0 s.1) ∙ ap (λ l. all_of (map f l)) (sym s.2)
 
 -- ---- matrices
--- the greatest side of some matrices
-abbrev pub greatest_side : List Outcomes → ℕ
-greatest_side [] = 0
-greatest_side (g ∷ gs) = max (max g.width g.height) (greatest_side gs)
-
 pub greatest_append : (xs ys : List Outcomes) → greatest_side (xs ++ ys) ≡ max (greatest_side xs) (greatest_side ys)
 greatest_append [] ys = omega arith
 greatest_append (g ∷ xs) ys = let rest = greatest_append xs ys in omega (arith, rest)
@@ -98,15 +94,31 @@ pub record AreTallied (ss : List Sides) (mats : List Outcomes) : Type 0 where
   pub side : greatest_side mats ≡ (all_of (map matrix_of ss)).side
   pub cells : total mats ≡ (all_of (map matrix_of ss)).cells
 
-pub tallied : (ms : List Outcomes) (ss : List Sides) (mats : List Outcomes) → HaveSides ms ss mats → AreTallied ss mats
-tallied ms [] [] h = record { calls = refl; side = refl; cells = refl }
-tallied ms [] (m ∷ mats) h = absurd h
-tallied ms (s ∷ ss) [] h = absurd h
-tallied ms (s ∷ ss) (m ∷ mats) h =
-    let rest = tallied ms ss mats h.1 in
+pub tallied : (ss : List Sides) (mats : List Outcomes) → HaveSides ss mats → AreTallied ss mats
+tallied [] [] h = record { calls = refl; side = refl; cells = refl }
+tallied [] (m ∷ mats) h = absurd h
+tallied (s ∷ ss) [] h = absurd h
+tallied (s ∷ ss) (m ∷ mats) h =
+    let rest = tallied ss mats h.1 in
     let area : length m.cells ≡ natural s.0 * natural s.1 = h.0.2 ∙ (λ i. h.0.0 i * h.0.1 i) in
     record {
       calls = omega (arith, rest.calls);
       side = omega (arith, rest.side, h.0.0, h.0.1);
       cells = omega (arith, rest.cells, area);
     }
+
+-- how many calls are met between two counts, and what is counted of the matrices that are met
+pub record Tallies (n next : Met) (mats : List Outcomes) (k : Counted) : Type 0 where
+  pub calls : next.calls ≡ n.calls + k.calls
+  pub side : greatest_side mats ≡ k.side
+  pub cells : total mats ≡ k.cells
+
+pub tallies_none : (n : Met) → Tallies n n [] nothing
+tallies_none n = record { calls = omega arith; side = refl; cells = refl }
+
+pub tallies_both : (n m next : Met) (xs ys : List Outcomes) (a b : Counted) → Tallies n m xs a → Tallies m next ys b → Tallies n next (xs ++ ys) (both a b)
+tallies_both n m next xs ys a b h l = record {
+  calls = omega (arith, h.calls, l.calls);
+  side = omega (arith, greatest_append xs ys, h.side, l.side);
+  cells = omega (arith, total_append xs ys, h.cells, l.cells);
+}

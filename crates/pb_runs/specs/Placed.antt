@@ -1,5 +1,5 @@
 -- The matrices of a run, one after the other, and what stands among their cells.
-use Rattle.std.specs.Prelude.{◌≡◌, ℕ, zero, suc, ◌+◌, ◌*◌, ◌<◌, List, [], ◌∷◌, length, Some, slice_get}
+use Rattle.std.specs.Prelude.{◌≡◌, ℕ, zero, suc, ◌+◌, ◌*◌, ◌<◌, max, List, [], ◌∷◌, length, Some, slice_get}
 use Rattle.pb_values.specs.Views.{HasPlace}
 use Rattle.pb_values.specs.declared.outcome.Outcome.{Outcome}
 use Rattle.pb_links.specs.declared.places.Spot.{Spot}
@@ -18,6 +18,11 @@ abbrev pub before : List Outcomes → ℕ → ℕ
 before [] k = 0
 before (g ∷ gs) zero = 0
 before (g ∷ gs) (suc k) = length g.cells + before gs k
+
+-- the greatest side of a matrix
+abbrev pub greatest_side : List Outcomes → ℕ
+greatest_side [] = 0
+greatest_side (g ∷ gs) = max (max g.width g.height) (greatest_side gs)
 
 -- the outcome of a cell by its number
 abbrev pub outcome_of : List Outcomes → ℕ → Outcome
