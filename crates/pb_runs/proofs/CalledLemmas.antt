@@ -25,11 +25,13 @@ use Rattle.pb_runs.specs.Seats.{Seat, no_seat}
 use Rattle.pb_runs.specs.Steps.{Instance, cells_in}
 use Rattle.pb_runs.specs.Unrolled.{Met, Player, Unroll, failed, given_back, own_sides, unrolled_by}
 use Rattle.pb_runs.proofs.BaseLemmas.{HaveSides, Stands}
-use Rattle.pb_runs.proofs.FailedLemmas.{failed_deep, filled_sides}
+use Rattle.pb_runs.proofs.FailedLemmas.{failed_deep, failed_tally, filled_sides}
 use Rattle.pb_runs.proofs.FitLemmas.{HaveNatural, fits_enters}
 use Rattle.pb_runs.proofs.NameLemmas.{Answer, AreNamed, named_known, named_placed}
 use Rattle.pb_runs.proofs.PlayedLemmas.{AreCalled, IsCalled}
 use Rattle.pb_runs.proofs.SeatLemmas.{HasCell}
+use Rattle.pb_recursion.specs.Counts.{Counted, Counter, call_count, failed_count}
+use Rattle.pb_runs.proofs.TallyLemmas.{Tallies}
 use Rattle.pb_runs.proofs.SoundLemmas.{Cells, IsDeep, deep_made, with_cells}
 use Rattle.pb_base.proofs.ListLemmas.{in_head, in_tail}
 use Rattle.pb_runs.specs.Placed.{IsPlaced}
@@ -74,14 +76,18 @@ drop_drop (suc n) m (x ∷ xs) = let here : suc n + m ≡ suc (n + m) = omega ar
 module _ (config : ConfigValue) (ms : List Outcomes) (p : List ProgTransform) where
   -- ---- a call one less deep
   -- it is unrolled to what it means, whatever is known of what is given
-  abbrev pub IsDeeper : Unroll → AllMade → Call → Type 1
-  IsDeeper u all call = (number : ℕ) (t : ProgTransform) → slice_get p number ≡ Some t → (known : Cells) (n : Met) (given : List Seat) (ins : List Outcomes) → AllZip (IsPlaced ms) given ins → can_enter t (map sides_of_matrix ins) ≡ true
+  abbrev pub IsDeeper : Unroll → AllMade → Call → Counter → Type 1
+  IsDeeper u all call counter = (number : ℕ) (t : ProgTransform) → slice_get p number ≡ Some t → (known : Cells) (n : Met) (given : List Seat) (ins : List Outcomes) → AllZip (IsPlaced ms) given ins → can_enter t (map sides_of_matrix ins) ≡ true
       → ((s : Seat) → Contains given s → (c : ℕ) → HasCell s c → known c) → Stands ms n (all number ins)
-      → IsDeep config ms known n (u number given n) (all number ins) (call number ins) × HaveSides (own_sides t (sizes_given t ins)) (call number ins)
+      → IsDeep config ms known n (u number given n) (all number ins) (call number ins) × HaveSides (own_sides t (sizes_given t ins)) (call number ins) × Tallies n (u number given n).next (all number ins) (counter number (map sides_of_matrix ins))
 
-  pub record AreDeeper (deeper : Option Unroll) (below : Option Below) : Type 1 where
-    pub none : deeper ≡ None → below ≡ None
-    pub some : (u : Unroll) → deeper ≡ Some u → (b : Below) × (below ≡ Some b) × IsDeeper u b.all b.call
+  -- what is counted depends on the sizes that are bound alone
+  abbrev pub CountsSizes : Counter → Type 0
+  CountsSizes counter = (number : ℕ) (t : ProgTransform) → slice_get p number ≡ Some t → (ss : List Sides) (mats : List Outcomes) → HaveNatural ss mats → counter number ss ≡ counter number (map sides_of_matrix mats)
+
+  pub record AreDeeper (deeper : Option Unroll) (below : Option Below) (counter : Option Counter) : Type 1 where
+    pub none : deeper ≡ None → (below ≡ None) × (counter ≡ None)
+    pub some : (u : Unroll) → deeper ≡ Some u → (b : Below) × (below ≡ Some b) × (k : Counter) × (counter ≡ Some k) × CountsSizes k × IsDeeper u b.all b.call k
 
   -- each size in range gives sides that aren't negative
   abbrev pub AreNatural : Type 0
@@ -121,10 +127,10 @@ module _ (config : ConfigValue) (ms : List Outcomes) (p : List ProgTransform) wh
     naturals known made ss mm [] are given = tt
     naturals known made ss mm (s ∷ slots) are given = ((are s given.0).width, (are s given.0).height, naturals known made ss mm slots are given.1)
 
-    failed_called : (k : Kind) (player : Player) (all make : PlanCallValue → List Outcomes → List Outcomes) (known : Cells) (n : Met) (c : PlanCallValue) (seats : List Seat) (given : List Outcomes)
+    failed_called : (k : Kind) (player : Player) (all make : PlanCallValue → List Outcomes → List Outcomes) (count : PlanCallValue → Counted) (known : Cells) (n : Met) (c : PlanCallValue) (seats : List Seat) (given : List Outcomes)
         → player c seats n ≡ failed (trapped_by i.number i.transform i.sizes rule r k) (target_sides i.transform.matrices i.sizes r c) n → all c given ≡ targets_filled i.number i.transform i.sizes rule r k c → make c given ≡ targets_filled i.number i.transform i.sizes rule r k c
-        → Stands ms n (all c given) → IsCalled config ms sides player make all known n c seats given
-    failed_called k player all make known n c seats given is_player is_all is_make stands =
+        → count c ≡ failed_count p i.transform i.sizes r c → Stands ms n (all c given) → IsCalled config ms sides player make all count known n c seats given
+    failed_called k player all make count known n c seats given is_player is_all is_make is_count stands =
         let o = trapped_by i.number i.transform i.sizes rule r k in
         let wanted = target_sides i.transform.matrices i.sizes r c in
         let mats = map (filled o) wanted in
@@ -132,17 +138,19 @@ module _ (config : ConfigValue) (ms : List Outcomes) (p : List ProgTransform) wh
         record {
           own = mats;
           deep = subst (λ u. IsDeep config ms known n u (all c given) mats) (sym is_player) (subst (λ a. IsDeep config ms known n (failed o wanted n) a mats) (sym is_all) deep);
+          tally = subst (λ u. Tallies n u.next (all c given) (count c)) (sym is_player) (subst (λ a. Tallies n (failed o wanted n).next a (count c)) (sym is_all) (subst (Tallies n (failed o wanted n).next mats) (sym is_count) (failed_tally ms o wanted n)));
           answer = subst (λ u. Answer ms sides (with_cells known (cells_in u.steps)) c.targets u.seats (make c given)) (sym is_player) (subst (λ a. Answer ms sides (with_cells known (cells_in (failed o wanted n).steps)) c.targets (failed o wanted n).seats a) (sym is_make)
               (filled_answers (with_cells known (cells_in (failed o wanted n).steps)) c.targets (failed o wanted n).seats mats (filled_sides ms o wanted) deep.placed (λ s there cell has. inr (deep_made config ms known n (failed o wanted n) mats mats deep s there cell has))));
         }
 
     -- a call that fits
-    fits_called : (u : Unroll) (b : Below) → IsDeeper u b.all b.call → AreNatural → (t : ProgTransform) (known : Cells) (n : Met) (c : PlanCallValue) (made : List Slot) (ss : Names Seat) (mm : Names Outcomes)
+    fits_called : (u : Unroll) (b : Below) (k : Counter) → CountsSizes k → IsDeeper u b.all b.call k → AreNatural → (t : ProgTransform) (known : Cells) (n : Met) (c : PlanCallValue) (made : List Slot) (ss : Names Seat) (mm : Names Outcomes)
         → slice_get p c.transform ≡ Some t → fits t (argument_sides i.transform.matrices i.sizes r c) (target_sides i.transform.matrices i.sizes r c) ≡ true → AreNamed ms sides known made ss mm → AllByRecursion (IsGiven made) c.arguments
         → Stands ms n (b.all c.transform (map (named no_grid mm) c.arguments))
         → IsDeep config ms known n (given_back p c (u c.transform (map (named no_seat ss) c.arguments) n)) (b.all c.transform (map (named no_grid mm) c.arguments)) (drop t.middles (b.call c.transform (map (named no_grid mm) c.arguments)))
         × Answer ms sides (with_cells known (cells_in (u c.transform (map (named no_seat ss) c.arguments) n).steps)) c.targets (given_back p c (u c.transform (map (named no_seat ss) c.arguments) n)).seats (drop t.middles (b.call c.transform (map (named no_grid mm) c.arguments)))
-    fits_called u b deeper natural_sides t known n c made ss mm there fit are given stands =
+        × Tallies n (u c.transform (map (named no_seat ss) c.arguments) n).next (b.all c.transform (map (named no_grid mm) c.arguments)) (k c.transform (argument_sides i.transform.matrices i.sizes r c))
+    fits_called u b k sized deeper natural_sides t known n c made ss mm there fit are given stands =
         let seats = map (named no_seat ss) c.arguments in
         let ins = map (named no_grid mm) c.arguments in
         let asides = argument_sides i.transform.matrices i.sizes r c in
@@ -161,9 +169,13 @@ module _ (config : ConfigValue) (ms : List Outcomes) (p : List ProgTransform) wh
           record { placed = placed; within = λ s h c has. deep.within s (inside s h) c has; sound = deep.sound; counts = deep.counts; reaches = deep.reaches },
           answers (with_cells known (cells_in un.steps)) c.targets (map (sides_of_decl (sizes_given t ins)) (drop (t.inputs + t.middles) t.matrices)) (given_back p c un).seats (drop t.middles own) enters.1 have placed
               (λ s h cell has. inr (deep_made config ms known n un (b.all c.transform ins) own deep s (inside s h) cell has)),
+          subst (Tallies n un.next (b.all c.transform ins)) (sym (sized c.transform t there asides ins (naturals known made ss mm c.arguments are given))) called.2,
         )
 
-    module _ (deeper : Option Unroll) (below : Option Below) where
+    module _ (deeper : Option Unroll) (below : Option Below) (counter : Option Counter) where
+      abbrev count : PlanCallValue → Counted
+      count = call_count p i.transform i.sizes counter r
+
       abbrev player : Player
       player = unrolled_by p i rule r deeper
 
@@ -173,7 +185,7 @@ module _ (config : ConfigValue) (ms : List Outcomes) (p : List ProgTransform) wh
       abbrev all : PlanCallValue → List Outcomes → List Outcomes
       all = call_matrices p i.number i.transform i.sizes rule r below
 
-      pub calls_called : AreDeeper deeper below → AreNatural → AreCalled config ms sides player make all
+      pub calls_called : AreDeeper deeper below counter → AreNatural → AreCalled config ms sides player make all count
       calls_called are_deeper natural_sides known n c made ss mm are given stands = by_deeper deeper refl
         where
           seats : List Seat
@@ -182,7 +194,7 @@ module _ (config : ConfigValue) (ms : List Outcomes) (p : List ProgTransform) wh
           ins : List Outcomes
           ins = map (named no_grid mm) c.arguments
 
-          by_below : (u : Unroll) → ((b : Below) × (below ≡ Some b) × IsDeeper u b.all b.call) → deeper ≡ Some u → IsCalled config ms sides player make all known n c seats ins
+          by_below : (u : Unroll) → ((b : Below) × (below ≡ Some b) × (k : Counter) × (counter ≡ Some k) × CountsSizes k × IsDeeper u b.all b.call k) → deeper ≡ Some u → IsCalled config ms sides player make all count known n c seats ins
           by_below u h e = by_fits (fits_call i.transform.matrices i.sizes p r c) refl
             where
               b : Below
@@ -198,10 +210,13 @@ module _ (config : ConfigValue) (ms : List Outcomes) (p : List ProgTransform) wh
               make_is : make c ins ≡ (if fits_call i.transform.matrices i.sizes p r c then made_back p c (b.call c.transform ins) else targets_filled i.number i.transform i.sizes rule r BadShape c)
               make_is = ap (λ o. made_by_call p i.number i.transform i.sizes rule r (call_below o) c ins) h.1
 
-              by_fits : (f : Bool) → fits_call i.transform.matrices i.sizes p r c ≡ f → IsCalled config ms sides player make all known n c seats ins
+              count_is : count c ≡ (if fits_call i.transform.matrices i.sizes p r c then h.2 c.transform (argument_sides i.transform.matrices i.sizes r c) else failed_count p i.transform i.sizes r c)
+              count_is = ap (λ o. call_count p i.transform i.sizes o r c) h.3
+
+              by_fits : (f : Bool) → fits_call i.transform.matrices i.sizes p r c ≡ f → IsCalled config ms sides player make all count known n c seats ins
               by_fits false fit =
-                  failed_called BadShape player all make known n c seats ins (player_is ∙ ap (λ f. if f then given_back p c (u c.transform seats n) else failed (trapped_by i.number i.transform i.sizes rule r BadShape) (target_sides i.transform.matrices i.sizes r c) n) fit)
-                  (all_is ∙ ap (λ f. if f then b.all c.transform ins else targets_filled i.number i.transform i.sizes rule r BadShape c) fit) (make_is ∙ ap (λ f. if f then made_back p c (b.call c.transform ins) else targets_filled i.number i.transform i.sizes rule r BadShape c) fit) stands
+                  failed_called BadShape player all make count known n c seats ins (player_is ∙ ap (λ f. if f then given_back p c (u c.transform seats n) else failed (trapped_by i.number i.transform i.sizes rule r BadShape) (target_sides i.transform.matrices i.sizes r c) n) fit)
+                  (all_is ∙ ap (λ f. if f then b.all c.transform ins else targets_filled i.number i.transform i.sizes rule r BadShape c) fit) (make_is ∙ ap (λ f. if f then made_back p c (b.call c.transform ins) else targets_filled i.number i.transform i.sizes rule r BadShape c) fit) (count_is ∙ ap (λ f. if f then h.2 c.transform (argument_sides i.transform.matrices i.sizes r c) else failed_count p i.transform i.sizes r c) fit) stands
               by_fits true fit = by_there (slice_get p c.transform) refl fit
                 where
                   player_fits : player c seats n ≡ given_back p c (u c.transform seats n)
@@ -210,23 +225,25 @@ module _ (config : ConfigValue) (ms : List Outcomes) (p : List ProgTransform) wh
                   all_fits : all c ins ≡ b.all c.transform ins
                   all_fits = all_is ∙ ap (λ f. if f then b.all c.transform ins else targets_filled i.number i.transform i.sizes rule r BadShape c) fit
 
-                  by_there : (o : Option ProgTransform) → slice_get p c.transform ≡ o → option_map_or (λ t. fits t (argument_sides i.transform.matrices i.sizes r c) (target_sides i.transform.matrices i.sizes r c)) o false ≡ true → IsCalled config ms sides player make all known n c seats ins
+                  by_there : (o : Option ProgTransform) → slice_get p c.transform ≡ o → option_map_or (λ t. fits t (argument_sides i.transform.matrices i.sizes r c) (target_sides i.transform.matrices i.sizes r c)) o false ≡ true → IsCalled config ms sides player make all count known n c seats ins
                   by_there None there fit = absurd (let wrong : false ≡ true = fit in cc)
                   by_there (Some t) there fit =
                       let own = drop t.middles (b.call c.transform ins) in
                       let make_fits : make c ins ≡ own = make_is ∙ ap (λ f. if f then made_back p c (b.call c.transform ins) else targets_filled i.number i.transform i.sizes rule r BadShape c) fits_true ∙ ap (λ o. drop (option_map_or (λ (q : ProgTransform). q.middles) o 0) (b.call c.transform ins)) there in
-                      let made_of = fits_called u b h.2 natural_sides t known n c made ss mm there fit are given (subst (Stands ms n) all_fits stands) in
+                      let count_fits : count c ≡ h.2 c.transform (argument_sides i.transform.matrices i.sizes r c) = count_is ∙ ap (λ f. if f then h.2 c.transform (argument_sides i.transform.matrices i.sizes r c) else failed_count p i.transform i.sizes r c) fits_true in
+                      let made_of = fits_called u b h.2 h.4 h.5 natural_sides t known n c made ss mm there fit are given (subst (Stands ms n) all_fits stands) in
                       record {
                         own = own;
                         deep = subst (λ q. IsDeep config ms known n q (all c ins) own) (sym player_fits) (subst (λ q. IsDeep config ms known n (given_back p c (u c.transform seats n)) q own) (sym all_fits) made_of.0);
+                        tally = subst (λ q. Tallies n q.next (all c ins) (count c)) (sym player_fits) (subst (λ q. Tallies n (u c.transform seats n).next q (count c)) (sym all_fits) (subst (Tallies n (u c.transform seats n).next (b.all c.transform ins)) (sym count_fits) made_of.2));
                         answer = subst (λ q. Answer ms sides (with_cells known (cells_in q.steps)) c.targets q.seats (make c ins)) (sym player_fits) (subst (λ q. Answer ms sides (with_cells known (cells_in (u c.transform seats n).steps)) c.targets (given_back p c (u c.transform seats n)).seats q) (sym make_fits) made_of.1);
                       }
                     where
                       fits_true : fits_call i.transform.matrices i.sizes p r c ≡ true
                       fits_true = ap (λ o. option_map_or (λ t. fits t (argument_sides i.transform.matrices i.sizes r c) (target_sides i.transform.matrices i.sizes r c)) o false) there ∙ fit
 
-          by_deeper : (o : Option Unroll) → deeper ≡ o → IsCalled config ms sides player make all known n c seats ins
+          by_deeper : (o : Option Unroll) → deeper ≡ o → IsCalled config ms sides player make all count known n c seats ins
           by_deeper None e =
               let none = are_deeper.none e in
-              failed_called DepthEnded player all make known n c seats ins (ap (λ o. unrolled_by p i rule r o c seats n) e) (ap (λ o. call_matrices p i.number i.transform i.sizes rule r o c ins) none) (ap (λ o. made_by_call p i.number i.transform i.sizes rule r (call_below o) c ins) none) stands
+              failed_called DepthEnded player all make count known n c seats ins (ap (λ o. unrolled_by p i rule r o c seats n) e) (ap (λ o. call_matrices p i.number i.transform i.sizes rule r o c ins) none.0) (ap (λ o. made_by_call p i.number i.transform i.sizes rule r (call_below o) c ins) none.0) (ap (λ o. call_count p i.transform i.sizes o r c) none.1) stands
           by_deeper (Some u) e = by_below u (are_deeper.some u e) e

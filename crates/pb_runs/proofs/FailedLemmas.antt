@@ -18,6 +18,8 @@ use Rattle.pb_runs.proofs.BaseLemmas.{HasSides, HaveSides, Reaches, Stands, reac
 use Rattle.pb_runs.proofs.CountLemmas.{counted, in_row, row_in, row_split}
 use Rattle.pb_runs.proofs.SeatLemmas.{HasCell, whole_has, whole_placed}
 use Rattle.pb_runs.proofs.SoundLemmas.{Cells, IsDeep, Sound}
+use Rattle.pb_runs.proofs.TallyLemmas.{Tallies, tallied}
+use Rattle.pb_recursion.specs.Counts.{all_of, both, matrix_of, one_more}
 use Rattle.pb_runs.specs.Placed.{IsPlaced, outcome_of, total}
 
 -- ---- matrices one after the other
@@ -178,3 +180,17 @@ module _ (config : ConfigValue) (ms : List Outcomes) where
         counts = λ c. ap (counted c) (trap_cells n.calls o full ∙ full_cells m ss ∙ all_cells ms m ss (map (filled o) ss) sides);
         reaches = record { matrices = reach.matrices; cells = reach.cells };
       }
+
+-- it counts once, with a matrix for each target
+seats_calls : (n : Met) (ss : List Sides) → (after_matrices n ss).calls ≡ n.calls
+seats_calls n [] = refl
+seats_calls n (s ∷ ss) = seats_calls (after_matrix n s) ss
+
+pub failed_tally : (ms : List Outcomes) (o : Outcome) (ss : List Sides) (n : Met) → Tallies n (failed o ss n).next (map (filled o) ss) (both one_more (all_of (map matrix_of ss)))
+failed_tally ms o ss n =
+    let t = tallied ss (map (filled o) ss) (filled_sides ms o ss) in
+    record { calls = omega (arith, seats_calls (after_call n) ss, t.calls); side = omega (arith, t.side); cells = omega (arith, t.cells) }
+
+-- matrices that are met one after the other
+pub seats_tally : (n : Met) (ss : List Sides) (mats : List Outcomes) → HaveSides ss mats → Tallies n (after_matrices n ss) mats (all_of (map matrix_of ss))
+seats_tally n ss mats h = let t = tallied ss mats h in record { calls = omega (arith, seats_calls n ss, t.calls); side = t.side; cells = t.cells }

@@ -21,6 +21,7 @@ use Rattle.pb_plan.proofs.OnceLemmas.{Once, once_flat}
 use Rattle.pb_solution.specs.Solutions.{stop_cell, stops_of}
 use Rattle.pb_solution.proofs.OrderLemmas.{stop_made}
 use Rattle.pb_solution.proofs.OutcomeLemmas.{AreSided, get_left, index_at, matrix_is, rows_count, sides_are}
+use Rattle.pb_recursion.specs.Counts.{Counted, Counter, all_of, both, chosen_plans, instance_count, matrix_of, plan_count}
 use Rattle.pb_recursion.specs.Depths.{IsWhole, call_at, deeper_at, plans_at, plans_over, sides_of_matrix, sizes_given}
 use Rattle.pb_recursion.specs.Shapes.{can_enter, sides_of_decl, sizes_from}
 use Rattle.pb_recursion.proofs.DepthLemmas.{call_is, depth_settled, inputs_there}
@@ -34,12 +35,15 @@ use Rattle.pb_runs.proofs.BoxLemmas.{IsSituated, inst, jobs}
 use Rattle.pb_runs.proofs.CalledLemmas.{AreDeeper, AreNatural}
 use Rattle.pb_runs.proofs.CopyLemmas.{own_once as job_once}
 use Rattle.pb_runs.proofs.CountLemmas.{counted, counted_row, counted_same, in_row, row_in, row_once}
-use Rattle.pb_runs.proofs.FailedLemmas.{seats_placed, seats_reach, seats_within}
-use Rattle.pb_runs.proofs.FoldLemmas.{jobs_are_done}
+use Rattle.pb_runs.proofs.ChosenLemmas.{plans_tally}
+use Rattle.pb_runs.proofs.FailedLemmas.{seats_placed, seats_reach, seats_tally, seats_within}
+use Rattle.pb_runs.proofs.FoldLemmas.{job_tally, jobs_are_done}
 use Rattle.pb_runs.proofs.JobLemmas.{IsKnown, made_own, own_cells}
 use Rattle.pb_runs.proofs.OwnLemmas.{own_in_row, own_once, row_own, side_below}
+use Rattle.pb_runs.proofs.PlanLemmas.{IsDone}
 use Rattle.pb_runs.proofs.SeatLemmas.{HasCell}
 use Rattle.pb_runs.proofs.SoundLemmas.{Cells, IsDeep}
+use Rattle.pb_runs.proofs.TallyLemmas.{Tallies, tallies_both}
 use Rattle.pb_runs.proofs.ViewLemmas.{IsLocal, has_matrix, zip_at}
 use Rattle.pb_runs.specs.Placed.{IsPlaced, total}
 use Rattle.pb_check.proofs.FirstLemmas.{some_at}
@@ -98,7 +102,7 @@ below_call : (p : List ProgTransform) (found : List AnalysisValue) (config : Con
 below_call p found config grain zero = refl
 below_call p found config grain (suc d) = refl
 
-module _ (config : ConfigValue) (ms : List Outcomes) (p : List ProgTransform) (found : List AnalysisValue) (grain : ℕ) (well : IsWellFormed p) (sound : IsSound p) (valid : IsValid p config) (d : ℕ) (deeper : Option Unroll) (are_deeper : AreDeeper config ms p deeper (below_at p found config grain d)) (naturals : AreNatural config ms p)
+module _ (config : ConfigValue) (ms : List Outcomes) (p : List ProgTransform) (found : List AnalysisValue) (grain : ℕ) (well : IsWellFormed p) (sound : IsSound p) (valid : IsValid p config) (d : ℕ) (deeper : Option Unroll) (counter : Option Counter) (are_deeper : AreDeeper config ms p deeper (below_at p found config grain d) counter) (naturals : AreNatural config ms p)
     (number : ℕ) (t : ProgTransform) (a : AnalysisValue) (there : slice_get p number ≡ Some t) (analysis : IsAnalysis t a) (known : Cells) (n : Met) (given : List Seat) (ins : List Outcomes) (placed : AllZip (IsPlaced ms) given ins) (enters : can_enter t (map sides_of_matrix ins) ≡ true)
     (cells_known : (s : Seat) → Contains given s → (c : ℕ) → HasCell s c → known c) where
   abbrev sizes : List ℕ
@@ -217,10 +221,15 @@ module _ (config : ConfigValue) (ms : List Outcomes) (p : List ProgTransform) (f
     abbrev n2 : Met
     n2 = after_matrices first (own_sides t sizes)
 
+    all_done : IsDone config ms known n2 (jobs_done p deeper i all_jobs n2) (flat_map (own_cells i) all_jobs) deep_mats (all_of (map (λ (job : JobValue). job_tally p t sizes counter job.rule) all_jobs))
+    all_done = jobs_are_done config ms p i grain at deeper below counter lm local settled once are_deeper naturals all_jobs 0 known n2 (λ k job e. ap (slice_get all_jobs) (number_is k) ∙ e) first_known (stands_right ms first n2 own deep_mats stands_first own_reach)
+      where
+        number_is : (k : ℕ) → 0 + k ≡ k
+        number_is k = omega arith
+
     pub instance_deep : IsDeep config ms known n (unrolled_at p found config grain deeper number t a sizes given n) (matrices_by p found config grain d below number ins t a) own
     instance_deep =
-        let number_is : (k : ℕ) → 0 + k ≡ k = λ k. omega arith in
-        let done = jobs_are_done config ms p i grain at deeper below lm local settled once are_deeper naturals all_jobs 0 known n2 (λ k job e. ap (slice_get all_jobs) (number_is k) ∙ e) first_known (stands_right ms first n2 own deep_mats stands_first own_reach) in
+        let done = all_done in
         record {
           placed = own_placed;
           within = λ s h c has. (let row = in_row c n.cells (total own) (seats_within ms first (own_sides t sizes) own own_have s h c has) in let sum = total_append own deep_mats in row_in c n.cells (total (own ++ deep_mats)) row.0 (omega (arith, row.1, sum)));
@@ -234,6 +243,28 @@ module _ (config : ConfigValue) (ms : List Outcomes) (p : List ProgTransform) (f
               omega (arith, here, mine, start, split, sum);
           reaches = (let r = reaches_both ms first n2 (jobs_done p deeper i all_jobs n2).next own deep_mats own_reach done.reaches in record { matrices = r.matrices; cells = r.cells });
         }
+
+    -- it counts for itself, for its own matrices, and for its plans
+    pub instance_tally : Tallies n (unrolled_at p found config grain deeper number t a sizes given n).next (matrices_by p found config grain d below number ins t a) (instance_count p config counter number t sizes)
+    instance_tally =
+        let mine = all_of (map matrix_of (own_sides t sizes)) in
+        let jobs_tally = all_of (map (λ (job : JobValue). job_tally p t sizes counter job.rule) all_jobs) in
+        let sum = tallies_both first n2 (jobs_done p deeper i all_jobs n2).next own deep_mats mine jobs_tally (seats_tally first (own_sides t sizes) own own_have) all_done.tally in
+        let plans_are : jobs_tally ≡ all_of (map (plan_count p t sizes counter) (chosen_plans config number t sizes)) = plans_tally config p i grain at counter in
+        let own_are : mine ≡ all_of (map (λ d. matrix_of (sides_of_decl sizes d)) (drop t.inputs t.matrices)) = ap all_of (map_map (drop t.inputs t.matrices)) in
+        let whole_are : both mine jobs_tally ≡ both (all_of (map (λ d. matrix_of (sides_of_decl sizes d)) (drop t.inputs t.matrices))) (all_of (map (plan_count p t sizes counter) (chosen_plans config number t sizes))) = (λ z. both (own_are z) (plans_are z)) in
+        let calls = ap (λ (c : Counted). c.calls) whole_are in
+        let side = ap (λ (c : Counted). c.side) whole_are in
+        let cells = ap (λ (c : Counted). c.cells) whole_are in
+        record {
+          calls = omega (arith, sum.calls, calls);
+          side = omega (arith, sum.side, side);
+          cells = omega (arith, sum.cells, cells);
+        }
+      where
+        map_map : (ds : List DeclValue) → map matrix_of (map (sides_of_decl sizes) ds) ≡ map (λ d. matrix_of (sides_of_decl sizes d)) ds
+        map_map [] = refl
+        map_map (e ∷ ds) = ap (λ l. matrix_of (sides_of_decl sizes e) ∷ l) (map_map ds)
 
   pub sizes_same : sizes_from t (map sides_of_seat given) ≡ sizes_given t ins
   sizes_same = ap (sizes_from t) (sides_same ms given ins placed)

@@ -19,3 +19,4 @@ pub mod FoldLemmas
 pub mod InstanceLemmas
 pub mod RunLemmas
 pub mod TallyLemmas
+pub mod ChosenLemmas

@@ -46,6 +46,8 @@ use Rattle.pb_runs.proofs.JobLemmas.{IsKnown, box_known, own_cells}
 use Rattle.pb_runs.proofs.NameLemmas.{AreNamed, IsNamed, name_of_read}
 use Rattle.pb_runs.proofs.PlayedLemmas.{IsPlayed, all_played, of_calls}
 use Rattle.pb_runs.proofs.SeatLemmas.{HasCell, part_across, part_cell, part_down, part_x, part_y}
+use Rattle.pb_recursion.specs.Counts.{Counted, Counter, call_count, plan_count}
+use Rattle.pb_runs.proofs.TallyLemmas.{Tallies}
 use Rattle.pb_runs.proofs.SoundLemmas.{Cells, Sound, cells_append, sound_append, with_cells}
 use Rattle.pb_runs.proofs.SpotLemmas.{spot_cell}
 use Rattle.pb_runs.proofs.ViewLemmas.{IsLocal, cut_is, has_matrix, natural_end, one_cut, view_count, view_placed}
@@ -79,12 +81,13 @@ map_length f [] = refl
 map_length f (x ∷ xs) = ap suc (map_length f xs)
 
 -- what is left of a job: its steps over what is known, its own cells and those of the calls below it, and what is met
-pub record IsDone (config : ConfigValue) (ms : List Outcomes) (known : Cells) (n : Met) (d : Done) (own : List ℕ) (mats : List Outcomes) : Type 0 where
+pub record IsDone (config : ConfigValue) (ms : List Outcomes) (known : Cells) (n : Met) (d : Done) (own : List ℕ) (mats : List Outcomes) (k : Counted) : Type 0 where
   pub sound : Sound config ms known d.steps
   pub counts : (c : ℕ) → counted c (cells_in d.steps) ≡ counted c own + counted c (range_with_len n.cells (total mats))
   pub reaches : Reaches ms n mats d.next
+  pub tally : Tallies n d.next mats k
 
-module _ (config : ConfigValue) (ms : List Outcomes) (p : List ProgTransform) (i : Instance) (grain : ℕ) (at : IsSituated config p i) (deeper : Option Unroll) (below : Option Below) (lm : List Outcomes) (local : IsLocal ms i lm)
+module _ (config : ConfigValue) (ms : List Outcomes) (p : List ProgTransform) (i : Instance) (grain : ℕ) (at : IsSituated config p i) (deeper : Option Unroll) (below : Option Below) (counter : Option Counter) (lm : List Outcomes) (local : IsLocal ms i lm)
     (settled : IsSettled config (plans_over p (call_below below) i.number i.transform i.sizes) i.number i.transform i.sizes lm)
     (once : (c d : Cell) → IsMadeCell i.transform i.sizes c → IsMadeCell i.transform i.sizes d → number_at i c ≡ number_at i d → c ≡ d) where
   abbrev t : ProgTransform
@@ -176,7 +179,7 @@ module _ (config : ConfigValue) (ms : List Outcomes) (p : List ProgTransform) (i
             subst (λ s. IsNamed ms sides known (slot.Read m) s (named no_grid (names_of_reads (read_matrices t i.sizes r lm)) (slot.Read m))) (sym (seat_is ∙ seat)) (subst (λ g. IsNamed ms sides known (slot.Read m) no_seat g) (sym (grid_is ∙ shown)) made)
 
     -- ---- its calls
-    calls_same : (calls : List PlanCallValue) (names : Names Outcomes) → calls_matrices p i.number t i.sizes k r below calls names ≡ of_calls config ms sides (unrolled_by p i k r deeper) (made_by_call p i.number t i.sizes k r (call_below below)) (call_matrices p i.number t i.sizes k r below) calls names
+    calls_same : (calls : List PlanCallValue) (names : Names Outcomes) → calls_matrices p i.number t i.sizes k r below calls names ≡ of_calls config ms sides (unrolled_by p i k r deeper) (made_by_call p i.number t i.sizes k r (call_below below)) (call_matrices p i.number t i.sizes k r below) (call_count p t i.sizes counter r) calls names
     calls_same [] names = refl
     calls_same (c ∷ calls) names = ap (λ l. call_matrices p i.number t i.sizes k r below c (map (named no_grid names) c.arguments) ++ l) (calls_same calls (after_call no_grid (made_by_call p i.number t i.sizes k r (call_below below)) c names))
 
@@ -186,14 +189,14 @@ module _ (config : ConfigValue) (ms : List Outcomes) (p : List ProgTransform) (i
     abbrev played : Met → Played
     played n = plan_played p i k r deeper n
 
-    plan_is_played : AreDeeper config ms p deeper below → AreNatural config ms p → (n : Met) → Stands ms n mats
-        → IsPlayed config ms sides (unrolled_by p i k r deeper) (made_by_call p i.number t i.sizes k r (call_below below)) (call_matrices p i.number t i.sizes k r below) (length r.outs) known n (played n) (of_calls config ms sides (unrolled_by p i k r deeper) (made_by_call p i.number t i.sizes k r (call_below below)) (call_matrices p i.number t i.sizes k r below) (calls_of_rule r) (names_of_reads (read_matrices t i.sizes r lm))) (plan_names p i.number t i.sizes k r (call_below below) (read_matrices t i.sizes r lm))
+    plan_is_played : AreDeeper config ms p deeper below counter → AreNatural config ms p → (n : Met) → Stands ms n mats
+        → IsPlayed config ms sides (unrolled_by p i k r deeper) (made_by_call p i.number t i.sizes k r (call_below below)) (call_matrices p i.number t i.sizes k r below) (call_count p t i.sizes counter r) (length r.outs) known n (played n) (of_calls config ms sides (unrolled_by p i k r deeper) (made_by_call p i.number t i.sizes k r (call_below below)) (call_matrices p i.number t i.sizes k r below) (call_count p t i.sizes counter r) (calls_of_rule r) (names_of_reads (read_matrices t i.sizes r lm))) (plan_names p i.number t i.sizes k r (call_below below) (read_matrices t i.sizes r lm)) (plan_count p t i.sizes counter (k, r))
     plan_is_played are_deeper naturals n stands =
-        all_played config ms sides (unrolled_by p i k r deeper) (made_by_call p i.number t i.sizes k r (call_below below)) (call_matrices p i.number t i.sizes k r below) (calls_called config ms p i k r deeper below are_deeper naturals) (length r.outs) (calls_of_rule r) known n []
+        all_played config ms sides (unrolled_by p i k r deeper) (made_by_call p i.number t i.sizes k r (call_below below)) (call_matrices p i.number t i.sizes k r below) (call_count p t i.sizes counter r) (calls_called config ms p i k r deeper below counter are_deeper naturals) (length r.outs) (calls_of_rule r) known n []
         (names_of_reads (map (view_seat i) r.reads)) (names_of_reads (read_matrices t i.sizes r lm)) (plan_ordered p i.number t k r at.well at.sound at.there rule is) reads_named (subst (Stands ms n) (calls_same (calls_of_rule r) (names_of_reads (read_matrices t i.sizes r lm))) stands)
 
     -- ---- the job
-    pub plan_job : AreDeeper config ms p deeper below → AreNatural config ms p → (n : Met) → Stands ms n mats → IsDone config ms known n (plan_done p deeper i job k r n) (own_cells i job) mats
+    pub plan_job : AreDeeper config ms p deeper below counter → AreNatural config ms p → (n : Met) → Stands ms n mats → IsDone config ms known n (plan_done p deeper i job k r n) (own_cells i job) mats (plan_count p t i.sizes counter (k, r))
     plan_job are_deeper naturals n stands =
         let is_played = plan_is_played are_deeper naturals n stands in
         let pl = played n in
@@ -211,4 +214,5 @@ module _ (config : ConfigValue) (ms : List Outcomes) (p : List ProgTransform) (i
               let joined = ap (counted c) (cells_append pl.steps copies) ∙ counted_append c (cells_in pl.steps) (cells_in copies) in
               joined ∙ omega (arith, first, second, total_same);
           reaches = subst (λ l. Reaches ms n l pl.next) (sym same) is_played.reaches;
+          tally = subst (λ l. Tallies n pl.next l (plan_count p t i.sizes counter (k, r))) (sym same) is_played.tally;
         }

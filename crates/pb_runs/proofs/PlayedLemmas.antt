@@ -17,10 +17,12 @@ use Rattle.pb_runs.specs.Unrolled.{Met, Played, Player, played}
 use Rattle.pb_runs.proofs.BaseLemmas.{Reaches, Stands, reaches_both, stands_left, stands_right, total_append}
 use Rattle.pb_runs.proofs.CountLemmas.{counted, counted_append, counted_row}
 use Rattle.pb_runs.proofs.NameLemmas.{Answer, AreNamed, after_named, named_more}
+use Rattle.pb_runs.proofs.TallyLemmas.{Tallies, tallies_both, tallies_none}
+use Rattle.pb_recursion.specs.Counts.{Counted, all_of}
 use Rattle.pb_runs.proofs.SoundLemmas.{Cells, IsDeep, Sound, cells_append, sound_append, with_cells}
 use Rattle.pb_runs.specs.Placed.{total}
 
-module _ (config : ConfigValue) (ms : List Outcomes) (sides : Slot → Sides) (player : Player) (make : PlanCallValue → List Outcomes → List Outcomes) (all : PlanCallValue → List Outcomes → List Outcomes) where
+module _ (config : ConfigValue) (ms : List Outcomes) (sides : Slot → Sides) (player : Player) (make : PlanCallValue → List Outcomes → List Outcomes) (all : PlanCallValue → List Outcomes → List Outcomes) (count : PlanCallValue → Counted) where
   -- the matrices of all calls
   abbrev pub of_calls : List PlanCallValue → Names Outcomes → List Outcomes
   of_calls [] names = []
@@ -30,6 +32,7 @@ module _ (config : ConfigValue) (ms : List Outcomes) (sides : Slot → Sides) (p
   pub record IsCalled (known : Cells) (n : Met) (c : PlanCallValue) (seats : List Seat) (given : List Outcomes) : Type 0 where
     pub own : List Outcomes
     pub deep : IsDeep config ms known n (player c seats n) (all c given) own
+    pub tally : Tallies n (player c seats n).next (all c given) (count c)
     pub answer : Answer ms sides (with_cells known (cells_in (player c seats n).steps)) c.targets (player c seats n).seats (make c given)
 
   -- each call is, whatever is known of its arguments
@@ -38,16 +41,17 @@ module _ (config : ConfigValue) (ms : List Outcomes) (sides : Slot → Sides) (p
       → Stands ms n (all c (map (named no_grid mm) c.arguments)) → IsCalled known n c (map (named no_seat ss) c.arguments) (map (named no_grid mm) c.arguments)
 
   -- after the calls of a plan each output is made
-  pub record IsPlayed (outputs : ℕ) (known : Cells) (n : Met) (p : Played) (mats : List Outcomes) (names : Names Outcomes) : Type 0 where
+  pub record IsPlayed (outputs : ℕ) (known : Cells) (n : Met) (p : Played) (mats : List Outcomes) (names : Names Outcomes) (k : Counted) : Type 0 where
     pub made : List Slot
     pub outs : (k : ℕ) → k < outputs → Contains made (slot.Out k)
     pub named : AreNamed ms sides (with_cells known (cells_in p.steps)) made p.names names
     pub sound : Sound config ms known p.steps
     pub counts : (c : ℕ) → counted c (cells_in p.steps) ≡ counted c (range_with_len n.cells (total mats))
     pub reaches : Reaches ms n mats p.next
+    pub tally : Tallies n p.next mats k
 
   pub all_played : AreCalled → (outputs : ℕ) (calls : List PlanCallValue) (known : Cells) (n : Met) (made : List Slot) (ss : Names Seat) (mm : Names Outcomes) → AreOrdered outputs made calls → AreNamed ms sides known made ss mm → Stands ms n (of_calls calls mm)
-      → IsPlayed outputs known n (played player calls ss n) (of_calls calls mm) (after_calls no_grid make calls mm)
+      → IsPlayed outputs known n (played player calls ss n) (of_calls calls mm) (after_calls no_grid make calls mm) (all_of (map count calls))
   all_played called outputs [] known n made ss mm ordered are stands = record {
     made = made;
     outs = ordered;
@@ -55,6 +59,7 @@ module _ (config : ConfigValue) (ms : List Outcomes) (sides : Slot → Sides) (p
     sound = tt;
     counts = λ c. refl;
     reaches = record { matrices = omega arith; cells = omega arith };
+    tally = tallies_none n;
   }
   all_played called outputs (c ∷ rest) known n made ss mm ordered are stands =
       let seats = map (named no_seat ss) c.arguments in
@@ -82,6 +87,7 @@ module _ (config : ConfigValue) (ms : List Outcomes) (sides : Slot → Sides) (p
             ap (counted k) joined ∙ counted_append k (cells_in u.steps) (cells_in steps) ∙ (λ i. here i + there i)
             ∙ ap (λ m. counted k (range_with_len n.cells (total first)) + counted k (range_with_len m (total (of_calls rest mm2)))) one.deep.reaches.cells ∙ sym split ∙ ap (λ m. counted k (range_with_len n.cells m)) (sym (total_append first (of_calls rest mm2)));
         reaches = reaches_both ms n u.next (played player rest ss2 u.next).next first (of_calls rest mm2) one.deep.reaches later.reaches;
+        tally = tallies_both n u.next (played player rest ss2 u.next).next first (of_calls rest mm2) (count c) (all_of (map count rest)) one.tally later.tally;
       }
     where
       together : (k : ℕ) (xs ys : List Step) → cells_in (xs ++ ys) ≡ cells_in xs ++ cells_in ys → with_cells (with_cells known (cells_in xs)) (cells_in ys) k → with_cells known (cells_in (xs ++ ys)) k

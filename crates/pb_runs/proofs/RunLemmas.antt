@@ -13,20 +13,23 @@ use Rattle.pb_check.specs.Phases.{IsBounded, IsSound}
 use Rattle.pb_check.proofs.FirstLemmas.{all_at}
 use Rattle.pb_entry.specs.Fitting.{IsNatural}
 use Rattle.pb_entry.proofs.SideLemmas.{natural_sides}
+use Rattle.pb_recursion.specs.Counts.{Counter, all_of, count_at, instance_count, matrix_of, nothing, one_count, run_count}
 use Rattle.pb_recursion.specs.Depths.{IsWhole, call_at, sides_of_matrix, sizes_given}
 use Rattle.pb_recursion.specs.Shapes.{Sides, sizes_from}
 use Rattle.pb_recursion.proofs.ShapeLemmas.{range_is}
 use Rattle.pb_runs.specs.Matrices.{below_at, matrices_at, matrices_by, matrices_one, run_matrices}
 use Rattle.pb_runs.specs.Seats.{Seat, sides_of_seat}
 use Rattle.pb_runs.specs.Steps.{Step, boxes_of, cells_in}
-use Rattle.pb_runs.specs.Unrolled.{Met, Unroll, Unrolled, after_matrices, found_for, nothing_met, seats_from, unroll, unroll_one, unrolled_at, unrolled_run}
+use Rattle.pb_runs.specs.Unrolled.{Met, Unroll, Unrolled, after_matrices, found_for, nothing_met, own_sides, seats_from, unroll, unroll_one, unrolled_at, unrolled_run}
 use Rattle.pb_runs.proofs.BaseLemmas.{HaveSides, Reaches, Stands, before_first, before_right, total_append}
-use Rattle.pb_runs.proofs.CalledLemmas.{AreDeeper, AreNatural, IsDeeper}
-use Rattle.pb_runs.proofs.FailedLemmas.{seats_placed, seats_reach, seats_within}
-use Rattle.pb_runs.proofs.InstanceLemmas.{instance_deep, own_have, sizes_same}
+use Rattle.pb_runs.proofs.CalledLemmas.{AreDeeper, AreNatural, CountsSizes, IsDeeper}
+use Rattle.pb_runs.proofs.FailedLemmas.{seats_placed, seats_reach, seats_tally, seats_within}
+use Rattle.pb_runs.proofs.FitLemmas.{sizes_same as bound_same}
+use Rattle.pb_runs.proofs.InstanceLemmas.{instance_deep, instance_tally, own_have, sizes_same}
 use Rattle.pb_runs.proofs.SeatLemmas.{HasCell}
 use Rattle.pb_runs.proofs.CountLemmas.{counted, counted_in, counted_once, in_counted, in_row, row_few, row_in}
 use Rattle.pb_runs.proofs.SoundLemmas.{Cells, IsDeep, sound_at}
+use Rattle.pb_runs.proofs.TallyLemmas.{Tallies, tallies_both}
 use Rattle.pb_plan.proofs.OnceLemmas.{Once}
 use Rattle.pb_links.specs.declared.places.Spot.{Spot}
 use Rattle.pb_runs.specs.Laws.{IsEntered, IsThere}
@@ -58,33 +61,48 @@ module _ (config : ConfigValue) (ms : List Outcomes) (p : List ProgTransform) (f
   found_at (s ∷ ps) (a ∷ fs) (suc k) t h e = found_at ps fs k t h.1 e
 
   -- a call, where those below it are unrolled to what they mean
-  one_deep : (d : ℕ) (deeper : Option Unroll) → AreDeeper config ms p deeper (below_at p found config grain d) → IsDeeper config ms p (unroll_one p found config grain deeper) (matrices_one p found config grain d (below_at p found config grain d)) (call_at p config d)
-  one_deep d deeper are_deeper number t there known n given ins placed enters cells_known stands =
+  one_deep : (d : ℕ) (deeper : Option Unroll) (counter : Option Counter) → AreDeeper config ms p deeper (below_at p found config grain d) counter → IsDeeper config ms p (unroll_one p found config grain deeper) (matrices_one p found config grain d (below_at p found config grain d)) (call_at p config d) (one_count p config counter)
+  one_deep d deeper counter are_deeper number t there known n given ins placed enters cells_known stands =
       let f = found_at p found number t are_found there in
       let a = f.0 in
       let below = below_at p found config grain d in
       let unrolled : unroll_one p found config grain deeper number given n ≡ unrolled_at p found config grain deeper number t a (sizes_given t ins) given n =
       ap (λ o. option_map_or (found_for p found config grain deeper number given n) o (record { seats = []; steps = []; next = n })) there
       ∙ ap (λ o. option_map_or (λ z. unrolled_at p found config grain deeper number t z (sizes_from t (map sides_of_seat given)) given n) o (record { seats = []; steps = []; next = n })) f.1
-      ∙ ap (λ s. unrolled_at p found config grain deeper number t a s given n) (sizes_same config ms p found grain well sound valid d deeper are_deeper naturals number t a there f.2 known n given ins placed enters cells_known) in
+      ∙ ap (λ s. unrolled_at p found config grain deeper number t a s given n) (sizes_same config ms p found grain well sound valid d deeper counter are_deeper naturals number t a there f.2 known n given ins placed enters cells_known) in
       let mats : matrices_one p found config grain d below number ins ≡ matrices_by p found config grain d below number ins t a =
       ap (λ o. option_map_or (λ q. option_map_or (matrices_by p found config grain d below number ins q) (slice_get found number) []) o []) there ∙ ap (λ o. option_map_or (matrices_by p found config grain d below number ins t) o []) f.1 in
-      let deep = instance_deep config ms p found grain well sound valid d deeper are_deeper naturals number t a there f.2 known n given ins placed enters cells_known (subst (Stands ms n) mats stands) in (
+      let deep = instance_deep config ms p found grain well sound valid d deeper counter are_deeper naturals number t a there f.2 known n given ins placed enters cells_known (subst (Stands ms n) mats stands) in
+      let tally = instance_tally config ms p found grain well sound valid d deeper counter are_deeper naturals number t a there f.2 known n given ins placed enters cells_known (subst (Stands ms n) mats stands) in
+      let counts : one_count p config counter number (map sides_of_matrix ins) ≡ instance_count p config counter number t (sizes_given t ins) = ap (λ o. option_map_or (λ z. instance_count p config counter number z (sizes_from z (map sides_of_matrix ins))) o nothing) there in (
         subst (λ u. IsDeep config ms known n u (matrices_one p found config grain d below number ins) (call_at p config d number ins)) (sym unrolled) (subst (λ l. IsDeep config ms known n (unrolled_at p found config grain deeper number t a (sizes_given t ins) given n) l (call_at p config d number ins)) (sym mats) deep),
-        own_have config ms p found grain well sound valid d deeper are_deeper naturals number t a there f.2 known n given ins placed enters cells_known,
+        own_have config ms p found grain well sound valid d deeper counter are_deeper naturals number t a there f.2 known n given ins placed enters cells_known,
+        subst (λ u. Tallies n u.next (matrices_one p found config grain d below number ins) (one_count p config counter number (map sides_of_matrix ins))) (sym unrolled) (subst (λ l. Tallies n (unrolled_at p found config grain deeper number t a (sizes_given t ins) given n).next l (one_count p config counter number (map sides_of_matrix ins))) (sym mats) (subst (Tallies n (unrolled_at p found config grain deeper number t a (sizes_given t ins) given n).next (matrices_by p found config grain d below number ins t a)) (sym counts) tally)),
       )
 
+  -- what is counted depends on the sizes alone
+  one_sizes : (counter : Option Counter) → CountsSizes config ms p (one_count p config counter)
+  one_sizes counter number t there ss mats have =
+      ap (λ o. option_map_or (λ z. instance_count p config counter number z (sizes_from z ss)) o nothing) there
+      ∙ ap (instance_count p config counter number t) (bound_same t ss mats have)
+      ∙ sym (ap (λ o. option_map_or (λ z. instance_count p config counter number z (sizes_from z (map sides_of_matrix mats))) o nothing) there)
+
+  depth_sizes : (d : ℕ) → CountsSizes config ms p (count_at p config d)
+  unfolding count_at
+  depth_sizes zero = one_sizes None
+  depth_sizes (suc d) = one_sizes (Some (count_at p config d))
+
   -- at each depth
-  pub depth_deep : (d : ℕ) → IsDeeper config ms p (unroll p found config grain d) (matrices_at p found config grain d) (call_at p config d)
-  unfolding unroll matrices_at
-  depth_deep zero = one_deep zero None (record { none = λ e. refl; some = λ u e. absurd (let wrong : None ≡ Some u = e in cc) })
-  depth_deep (suc d) = one_deep (suc d) (Some (unroll p found config grain d)) (record {
+  pub depth_deep : (d : ℕ) → IsDeeper config ms p (unroll p found config grain d) (matrices_at p found config grain d) (call_at p config d) (count_at p config d)
+  unfolding unroll matrices_at count_at
+  depth_deep zero = one_deep zero None None (record { none = λ e. (refl, refl); some = λ u e. absurd (let wrong : None ≡ Some u = e in cc) })
+  depth_deep (suc d) = one_deep (suc d) (Some (unroll p found config grain d)) (Some (count_at p config d)) (record {
     none = λ e. absurd (let wrong : Some (unroll p found config grain d) ≡ None = e in cc);
-    some = λ u e. (record { call = call_at p config d; all = matrices_at p found config grain d }, refl, by u (let some : Some (unroll p found config grain d) ≡ Some u = e in cc) (depth_deep d));
+    some = λ u e. (record { call = call_at p config d; all = matrices_at p found config grain d }, refl, count_at p config d, refl, depth_sizes d, by u (let some : Some (unroll p found config grain d) ≡ Some u = e in cc) (depth_deep d));
   })
     where
-      by : (u : Unroll) → unroll p found config grain d ≡ u → IsDeeper config ms p (unroll p found config grain d) (matrices_at p found config grain d) (call_at p config d) → IsDeeper config ms p u (matrices_at p found config grain d) (call_at p config d)
-      by u same h = subst (λ v. IsDeeper config ms p v (matrices_at p found config grain d) (call_at p config d)) same h
+      by : (u : Unroll) → unroll p found config grain d ≡ u → IsDeeper config ms p (unroll p found config grain d) (matrices_at p found config grain d) (call_at p config d) (count_at p config d) → IsDeeper config ms p u (matrices_at p found config grain d) (call_at p config d) (count_at p config d)
+      by u same h = subst (λ v. IsDeeper config ms p v (matrices_at p found config grain d) (call_at p config d) (count_at p config d)) same h
 
 -- ---- a run
 module _ (p : List ProgTransform) (found : List AnalysisValue) (config : ConfigValue) (grain depth number : ℕ) (ins : List Outcomes) (h : IsEntered p found config number ins) where
@@ -140,8 +158,11 @@ module _ (p : List ProgTransform) (found : List AnalysisValue) (config : ConfigV
   known_ins : (s : Seat) → Contains (seats_from nothing_met inputs) s → (c : ℕ) → HasCell s c → given c
   known_ins s there c has = let row = in_row c 0 (total ins) (seats_within ms nothing_met inputs ins have s there c has) in omega (arith, row.1)
 
+  called : IsDeep config ms given n run made (call_at p config depth number ins) × HaveSides (own_sides h.transform (sizes_given h.transform ins)) (call_at p config depth number ins) × Tallies n run.next made (count_at p config depth number inputs)
+  called = depth_deep config ms p found grain h.well h.sound h.valid h.are_found depth number h.transform h.there given n (seats_from nothing_met inputs) ins placed_ins h.enters known_ins stands_made
+
   deep : IsDeep config ms given n run made (call_at p config depth number ins)
-  deep = (depth_deep config ms p found grain h.well h.sound h.valid h.are_found depth number h.transform h.there given n (seats_from nothing_met inputs) ins placed_ins h.enters known_ins stands_made).0
+  deep = called.0
 
   pub run_placed : AllZip (IsPlaced ms) run.seats (call_at p config depth number ins)
   run_placed = deep.placed
@@ -181,3 +202,6 @@ module _ (p : List ProgTransform) (found : List AnalysisValue) (config : ConfigV
       (λ earlier. inr (earlier.0, earlier.1, omega (arith, earlier.2), earlier.3, earlier.4)))
       (λ own. inr (k, s, omega arith, e, own))
       ((sound_at config ms given run.steps k s deep.sound e).reads b there c cell)
+
+  pub run_tally : Tallies nothing_met run.next ms (run_count p config depth number inputs)
+  run_tally = tallies_both nothing_met n run.next ins made (all_of (map matrix_of inputs)) (count_at p config depth number inputs) (seats_tally nothing_met inputs ins have) called.2
