@@ -1,12 +1,10 @@
 -- The plans that are chosen for some cell of an instance are those of its jobs, each once.
-use Rattle.std.proofs.Common.{◌≡◌, ◌∙◌, refl, sym, ap, subst, inl, inr, ◌⊎◌, ⊎_elim, ℕ, zero, suc, ◌+◌, ◌-◌, ◌<◌, ℤ, pos, negsuc, ◌<ℤ◌, Bool, true, false, ◌&&◌, ◌||◌, not, List, [], ◌∷◌, ◌++◌, drop, length, map, slice_get, slice_index, Option, Some, None, arith}
+use Rattle.std.proofs.Common.{◌≡◌, ◌∙◌, refl, sym, ap, subst, inl, inr, ◌⊎◌, ⊎_elim, ℕ, zero, suc, ◌+◌, ◌-◌, Bool, true, false, ◌||◌, not, List, [], ◌∷◌, ◌++◌, drop, length, map, slice_get, slice_index, Option, Some, None, arith}
 use Rattle.std.specs.Prelude.{◌==◌, filter, if◌then◌else◌}
 use Rattle.std.specs.List.{Contains, enumerate_from, flat_map, list_any, range_with_len}
 use Rattle.std.specs.Option.{option_map_or}
 use Rattle.std.proofs.lemmas.Bool.{and_parts, eq-eqb, eqb-true}
-use Rattle.std.proofs.lemmas.Int.{ints}
 use Rattle.pb_linear.specs.Numbers.{exact_value}
-use Rattle.pb_graph.specs.Nodes.{NodeValue}
 use Rattle.pb_program.specs.Configs.{ConfigValue}
 use Rattle.pb_program.specs.Trees.{ProgRule, ProgTransform}
 use Rattle.pb_program.specs.declared.rule.RuleKind.{RuleKind}
@@ -14,7 +12,7 @@ use Rattle.pb_program.specs.declared.rule.RuleKind.TheVariants as kind
 use Rattle.pb_region.specs.Boxes.{is_wide}
 use Rattle.pb_base.proofs.ListLemmas.{at_in, filter_in, flat_in, in_at, in_cases, in_filter, in_flat, in_head, in_none, in_tail}
 use Rattle.pb_model.specs.Calls.{made_cells}
-use Rattle.pb_model.specs.Cells.{Cell, natural}
+use Rattle.pb_model.specs.Cells.{Cell}
 use Rattle.pb_model.specs.Chosen.{chosen_rule}
 use Rattle.pb_model.proofs.CallLemmas.{in_made, made_at}
 use Rattle.pb_check.specs.Orders.{IsAnalysis, wide_rules}
@@ -23,9 +21,7 @@ use Rattle.pb_check.proofs.LawfulLemmas.{at_numbered, both, numbered_at}
 use Rattle.pb_frame.specs.Frames.{JobValue, chosen_wides, corner_of, in_layer, is_cell_rule, is_wide_rule}
 use Rattle.pb_frame.specs.declared.part.FramePart.{FramePart}
 use Rattle.pb_frame.proofs.PartLemmas.{corner_made, of_part}
-use Rattle.pb_graph.specs.Layerings.{ShareWide}
-use Rattle.pb_tasks.specs.Made.{IsMadeBy}
-use Rattle.pb_tasks.proofs.BeforeLemmas.{among_rules, first_part, home, own_layer, parts}
+use Rattle.pb_tasks.proofs.BeforeLemmas.{among_rules, first_part, own_layer, parts}
 use Rattle.pb_tasks.proofs.JobLemmas.{IsBlockAt, IsPlaced, IsWideAt, kind_of, part_of, placed, same_place}
 use Rattle.pb_tasks.proofs.MadeLemmas.{made_by, made_rule}
 use Rattle.pb_tasks.proofs.RiseLemmas.{rises_filter, rises_numbered, rises_one, rises_range}
@@ -35,7 +31,7 @@ use Rattle.pb_runs.specs.Steps.{Instance}
 use Rattle.pb_runs.proofs.BoxLemmas.{IsSituated, inst, jobs}
 use Rattle.pb_runs.proofs.FoldLemmas.{job_tally, rule_tally}
 use Rattle.pb_runs.proofs.OwnLemmas.{at_dropped, below_side, side_below}
-use Rattle.pb_runs.proofs.TallyLemmas.{all_append, all_same, both_nothing, same_counted}
+use Rattle.pb_runs.proofs.TallyLemmas.{all_append, all_same, same_counted}
 
 abbrev the_none : (A : Type 0) → List A
 the_none A = []

@@ -9,7 +9,7 @@ use Rattle.pb_program.specs.Configs.{ConfigValue}
 use Rattle.pb_model.specs.Calls.{Outcomes}
 use Rattle.pb_model.specs.Cells.{natural}
 use Rattle.pb_base.proofs.ListLemmas.{filter_in, flat_in, in_cases, in_none, map_in}
-use Rattle.pb_recursion.specs.Depths.{IsWhole, filled}
+use Rattle.pb_recursion.specs.Depths.{filled}
 use Rattle.pb_recursion.specs.Shapes.{Sides, area}
 use Rattle.pb_runs.specs.Seats.{Seat, across, cell_at, down, seat_cells}
 use Rattle.pb_runs.specs.Steps.{cells_in, cells_of}

@@ -1,12 +1,12 @@
 -- What is counted of lists.
-use Rattle.std.proofs.Common.{◌≡◌, ◌∙◌, refl, sym, ap, subst, inl, inr, ◌⊎◌, ⊎_elim, ℕ, zero, suc, ◌+◌, ◌*◌, max, List, [], ◌∷◌, ◌++◌, length, map, slice_get, Some, None, arith}
+use Rattle.std.proofs.Common.{◌≡◌, ◌∙◌, refl, sym, ap, subst, inl, inr, ◌⊎◌, ⊎_elim, zero, suc, ◌+◌, ◌*◌, max, List, [], ◌∷◌, ◌++◌, length, map, Some, arith}
 use Rattle.std.specs.List.{Contains}
 use Rattle.std.proofs.lemmas.List.Elements.{Contains-append_cases, Contains-append_left, Contains-append_right}
 use Rattle.pb_base.proofs.ListLemmas.{in_at, in_cases, in_head, in_none, in_tail}
 use Rattle.pb_model.specs.Calls.{Outcomes}
 use Rattle.pb_model.specs.Cells.{natural}
 use Rattle.pb_plan.proofs.OnceLemmas.{Once}
-use Rattle.pb_recursion.specs.Counts.{Counted, all_of, both, matrix_of, nothing, one_more}
+use Rattle.pb_recursion.specs.Counts.{Counted, all_of, both, matrix_of, nothing}
 use Rattle.pb_recursion.specs.Shapes.{Sides}
 use Rattle.pb_runs.specs.Placed.{greatest_side, total}
 use Rattle.pb_runs.specs.Unrolled.{Met}

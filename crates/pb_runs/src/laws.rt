@@ -6,10 +6,11 @@ ghost use Rattle.pb_program.specs.Trees.{ProgTransform};
 ghost use Rattle.pb_model.specs.Calls.{Outcomes};
 ghost use Rattle.pb_check.specs.Orders.{AnalysisValue};
 ghost use Rattle.pb_taskgraph.specs.Graphs.{EachOnce};
+ghost use Rattle.pb_recursion.specs.Counts.{run_count};
 ghost use Rattle.pb_recursion.specs.Depths.{call_at, sides_of_matrix};
 ghost use Rattle.pb_runs.specs.Laws.{IsEntered, IsThere};
 ghost use Rattle.pb_runs.specs.Matrices.{run_matrices};
-ghost use Rattle.pb_runs.specs.Placed.{IsPlaced, SpotCell, total};
+ghost use Rattle.pb_runs.specs.Placed.{IsPlaced, SpotCell, greatest_side, total};
 ghost use Rattle.pb_runs.specs.Right.{IsRight};
 ghost use Rattle.pb_runs.specs.Steps.{Step, boxes_of, cells_in};
 ghost use Rattle.pb_runs.specs.Unrolled.{unrolled_run};
@@ -40,4 +41,15 @@ pub fn what_a_step_reads_is_made_before()
     ensures { (p : List ProgTransform) (found : List AnalysisValue) (config : ConfigValue) (grain depth number : ℕ) (ins : List Outcomes) → IsEntered p found config number ins
         → (k : ℕ) (s : Step) → slice_get (unrolled_run p found config grain depth number (map sides_of_matrix ins)).steps k ≡ Some s → (b : Spot) → Contains (boxes_of s) b
         → (c : ℕ) → SpotCell (run_matrices p found config grain depth number ins) b c → IsThere ins (unrolled_run p found config grain depth number (map sides_of_matrix ins)).steps k c }
+{}
+
+/// A law: a run makes as many calls, and has as great a side and as many cells, as is counted by recursion over the sizes of its
+/// calls, from the sides of its inputs alone.
+pub fn a_run_is_counted_from_its_sides()
+    ensures calls { (p : List ProgTransform) (found : List AnalysisValue) (config : ConfigValue) (grain depth number : ℕ) (ins : List Outcomes) → IsEntered p found config number ins
+        → (unrolled_run p found config grain depth number (map sides_of_matrix ins)).next.calls ≡ (run_count p config depth number (map sides_of_matrix ins)).calls }
+    ensures side { (p : List ProgTransform) (found : List AnalysisValue) (config : ConfigValue) (grain depth number : ℕ) (ins : List Outcomes) → IsEntered p found config number ins
+        → greatest_side (run_matrices p found config grain depth number ins) ≡ (run_count p config depth number (map sides_of_matrix ins)).side }
+    ensures cells { (p : List ProgTransform) (found : List AnalysisValue) (config : ConfigValue) (grain depth number : ℕ) (ins : List Outcomes) → IsEntered p found config number ins
+        → total (run_matrices p found config grain depth number ins) ≡ (run_count p config depth number (map sides_of_matrix ins)).cells }
 {}
