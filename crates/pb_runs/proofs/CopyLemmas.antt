@@ -43,7 +43,7 @@ use Rattle.pb_frame.specs.Frames.{HoldsCell, JobValue, cut_by, has_cell, has_pla
 use Rattle.pb_frame.specs.declared.part.FramePart.{FramePart}
 use Rattle.pb_frame.proofs.PartLemmas.{of_part, one_part}
 use Rattle.pb_links.specs.declared.places.Spot.{Spot}
-use Rattle.pb_tasks.specs.Boxes.{spot_of}
+use Rattle.pb_tasks.specs.Boxes.{boxes_by, spot_of}
 use Rattle.pb_tasks.specs.Made.{IsMadeBy}
 use Rattle.pb_tasks.proofs.BeforeLemmas.{home, parts}
 use Rattle.pb_tasks.proofs.JobLemmas.{at_map, map_at, part_of, placed, rising_parts}
@@ -61,17 +61,18 @@ use Rattle.pb_recursion.specs.Depths.{Call, in_outputs_of, plan_names, plans_ove
 use Rattle.pb_recursion.specs.Plans.{Names, named, no_cell, sides_of_slot, sides_of_view}
 use Rattle.pb_recursion.specs.Shapes.{Sides, sides_of_area, span_length}
 use Rattle.pb_runs.specs.Matrices.{read_matrices}
-use Rattle.pb_runs.specs.Seats.{Seat, across, cell_at, down, no_seat, spot_at}
-use Rattle.pb_runs.specs.Steps.{Copied, Instance, by_copy, cells_in, cells_of, from_corner, number_at, stop_number}
+use Rattle.pb_runs.specs.Seats.{Seat, across, base_x, base_y, cell_at, down, no_seat, spot_at}
+use Rattle.pb_runs.specs.Steps.{Copied, Instance, by_copy, by_job, cells_in, cells_of, from_corner, number_at, seat_in, stop_number, through}
 use Rattle.pb_runs.specs.Unrolled.{copies_of, copy_step, is_part_of, output_parts, output_rect}
-use Rattle.pb_runs.proofs.BoxLemmas.{IsSituated, inst, jobs}
+use Rattle.pb_runs.proofs.BoxLemmas.{IsSituated, box_ends, box_there, inst, jobs}
 use Rattle.pb_runs.proofs.CountLemmas.{counted, counted_same}
 use Rattle.pb_runs.proofs.JobLemmas.{made_own, made_value, own_cells}
 use Rattle.pb_runs.proofs.NameLemmas.{IsNamed}
 use Rattle.pb_runs.proofs.OutputLemmas.{Holds, holds_is, in_output, one_output, some_output}
-use Rattle.pb_runs.proofs.SoundLemmas.{Cells, IsMade, Sound, cells_append, sound_append, sound_more, with_cells}
-use Rattle.pb_runs.proofs.SpotLemmas.{spot_back}
-use Rattle.pb_runs.proofs.ViewLemmas.{IsLocal, span_is}
+use Rattle.pb_runs.proofs.SoundLemmas.{Cells, IsLaid, IsMade, Sound, cells_append, sound_append, sound_more, with_cells}
+use Rattle.pb_runs.proofs.OwnLemmas.{side_below}
+use Rattle.pb_runs.proofs.SpotLemmas.{IsCellAt, cell_has, cell_moved, place_of_spot, spot_back, spot_place}
+use Rattle.pb_runs.proofs.ViewLemmas.{IsLocal, has_matrix, span_is}
 use Rattle.pb_runs.specs.Placed.{SpotCell, outcome_of}
 use Rattle.pb_recursion.proofs.ShapeLemmas.{get_below}
 
@@ -160,6 +161,57 @@ module _ (config : ConfigValue) (ms : List Outcomes) (p : List ProgTransform) (i
         some_same : (x y : JobValue) → Some x ≡ Some y → x ≡ y
         some_same x y h = cc
 
+    base_is : (part : FramePart) (n : NodeValue) → slice_get i.found.nodes part.node ≡ Some n → (spot_of i.found.nodes part).base ≡ n.matrix
+    base_is part n there = ap (λ o. option_map_or (λ (q : NodeValue). q.matrix) o 0) there
+
+    -- ---- where its cells stand
+    made_there : (c : Cell) → IsMadeCell t i.sizes c → IsCellAt ms (seat_in i c.matrix).base (base_x (seat_in i c.matrix) c.x c.y) (base_y (seat_in i c.matrix) c.x c.y) (number_at i c)
+    made_there c made =
+        let d = made.cell.decl in
+        let h = has_matrix ms i lm local c.matrix d made.cell.there in
+        let on_x = side_below (exact_value d.w i.sizes) c.x made.cell.before_x in
+        let on_y = side_below (exact_value d.h i.sizes) c.y made.cell.before_y in
+        cell_has ms (seat_in i c.matrix) h.grid h.placed c.x c.y (omega (arith, on_x, h.sides.width, h.placed.width)) (omega (arith, on_y, h.sides.height, h.placed.height))
+
+    -- a place of a part holds a cell
+    part_holds : (part : FramePart) → Contains job.parts part → (x y : ℕ) → HasPlace part.rect x y → IsHeld (record { matrix = (spot_of i.found.nodes part).base; x = x; y = y })
+    part_holds part of x y place =
+        let n = of_part i.number t i.found i.sizes (inst config p i grain at) config part (home config i.number t i.found i.sizes grain (inst config p i grain at) at.valid j job e part of) in
+        record { part = part; of = of; holds = record { node = n.0; there = n.1; matrix = sym (base_is part n.0 n.1); place = place } }
+
+    -- a held cell, by the spot of its part
+    held_there : (c : Cell) (h : IsHeld c) → IsCellAt ms (seat_in i (spot_of i.found.nodes h.part).base).base (base_x (seat_in i (spot_of i.found.nodes h.part).base) c.x c.y) (base_y (seat_in i (spot_of i.found.nodes h.part).base) c.x c.y) (number_at i c)
+    held_there c h =
+        let base : (spot_of i.found.nodes h.part).base ≡ c.matrix = base_is h.part h.holds.node h.holds.there ∙ h.holds.matrix in
+        subst (λ m. IsCellAt ms (seat_in i m).base (base_x (seat_in i m) c.x c.y) (base_y (seat_in i m) c.x c.y) (number_at i c)) (sym base) (made_there c (held_cell c h))
+
+    pub job_laid : IsLaid config ms (by_job i job)
+    unfolding cells_of
+    job_laid = record {
+      shown = λ b h u v has.
+          let f = map_in (through i) (boxes_by t i.sizes job.rule job.parts) b h in
+          let d = box_there config p i grain at j job e f.0 f.1 in
+          let ends = box_ends config p i grain at j job e f.0 f.1 d.0 d.1 in
+          let m = has_matrix ms i lm local f.0.base d.0 d.1 in
+          let seat = seat_in i f.0.base in
+          let q = place_of_spot seat f.0.rect u v (subst (λ (z : Spot). HasPlace z.rect u v) (sym f.2) has) in
+          let cell = cell_has ms seat m.grid m.placed q.0 q.1 (omega (arith, q.2.right, ends.0, m.sides.width, m.placed.width)) (omega (arith, q.2.high, ends.1, m.sides.height, m.placed.height)) in
+          (cell_at seat q.0 q.1, cell_moved ms seat.base b.base (base_x seat q.0 q.1) (base_y seat q.0 q.1) u v (cell_at seat q.0 q.1) (ap (λ (z : Spot). z.base) f.2) q.3 q.4 cell);
+      parts = λ b h u v has.
+          let f = map_in (λ part. through i (spot_of i.found.nodes part)) job.parts b h in
+          let seat = seat_in i (spot_of i.found.nodes f.0).base in
+          let q = place_of_spot seat f.0.rect u v (subst (λ (z : Spot). HasPlace z.rect u v) (sym f.2) has) in
+          let c : Cell = record { matrix = (spot_of i.found.nodes f.0).base; x = q.0; y = q.1 } in
+          let held = part_holds f.0 f.1 q.0 q.1 q.2 in
+          (number_at i c, cell_moved ms seat.base b.base (base_x seat q.0 q.1) (base_y seat q.0 q.1) u v (number_at i c) (ap (λ (z : Spot). z.base) f.2) q.3 q.4 (made_there c (held_cell c held)), held_own c held);
+      held = λ n h.
+          let c = own_held n h in
+          let spot = spot_of i.found.nodes c.1.part in
+          let seat = seat_in i spot.base in
+          (through i spot, in_map (λ part. through i (spot_of i.found.nodes part)) job.parts c.1.part c.1.of, base_x seat c.0.x c.0.y, base_y seat c.0.x c.0.y, spot_place seat c.1.part.rect c.0.x c.0.y c.1.holds.place,
+          subst (IsCellAt ms seat.base (base_x seat c.0.x c.0.y) (base_y seat c.0.x c.0.y)) c.2 (held_there c.0 c.1));
+    }
+
     -- ---- the cells that are copied from an output
     abbrev out_rect : Read → Rect
     out_rect o = output_rect i o
@@ -176,9 +228,6 @@ module _ (config : ConfigValue) (ms : List Outcomes) (p : List ProgTransform) (i
       pub matrix : o.matrix ≡ s.base
       pub place : HasPlace (out_rect o) s.x s.y
       pub index : slice_get (filter (is_part_of i o) job.parts) s.piece ≡ Some held.part
-
-    base_is : (part : FramePart) (n : NodeValue) → slice_get i.found.nodes part.node ≡ Some n → (spot_of i.found.nodes part).base ≡ n.matrix
-    base_is part n there = ap (λ o. option_map_or (λ (q : NodeValue). q.matrix) o 0) there
 
     pub copied_is : (o : Read) (s : Stop) → Contains (walk_of [] (pieces o)) s → IsCopied o s
     copied_is o s h = by (slice_get (pieces o) s.piece) refl (walk_in [] (pieces o) s h)
@@ -380,6 +429,43 @@ module _ (config : ConfigValue) (ms : List Outcomes) (p : List ProgTransform) (i
               subst (λ (z : FramePart). z.rect.y1 ≤ (out_rect o).y1) q.2 high,
             )
 
+        copy_laid : IsLaid config ms (by_copy i copied)
+        unfolding cells_of
+        copy_laid = record {
+          shown = λ b h u v has.
+              let part = map_in (λ (q : FramePart). spot_at source (from_corner copied.corner q.rect)) (output_parts i job o) b h in
+              let held = part_held part.0 part.1 in
+              let made = held_cell held.0 held.1 in
+              let ends = source_sides held.0 held.1 made.cell.decl (ap (slice_get t.matrices) held.2 ∙ made.cell.there) in
+              let q = place_of_spot source (from_corner copied.corner part.0.rect) u v (subst (λ (z : Spot). HasPlace z.rect u v) (sym part.2) has) in
+              let cell = cell_has ms source (named no_grid mm (slot.Out m)) named_is.placed q.0 q.1 (omega (arith, q.2.right, ends.0, held.3)) (omega (arith, q.2.high, ends.1, held.4)) in
+              (cell_at source q.0 q.1, cell_moved ms source.base b.base (base_x source q.0 q.1) (base_y source q.0 q.1) u v (cell_at source q.0 q.1) (ap (λ (z : Spot). z.base) part.2) q.3 q.4 cell);
+          parts = λ b h u v has.
+              let f = map_in (λ part. through i (spot_of i.found.nodes part)) (output_parts i job o) b h in
+              let whole = map_in (within (out_rect o)) (filter (is_part_of i o) job.parts) f.0 f.1 in
+              let among = filter_in (is_part_of i o) job.parts whole.0 whole.1 in
+              let on = and_parts ((spot_of i.found.nodes whole.0).base == o.matrix) (has_place (cut_by (out_rect o) whole.0.rect)) among.1 in
+              let spot = spot_of i.found.nodes (within (out_rect o) whole.0) in
+              let seat = seat_in i spot.base in
+              let is : through i spot ≡ b = ap (λ part. through i (spot_of i.found.nodes part)) whole.2 ∙ f.2 in
+              let q = place_of_spot seat spot.rect u v (subst (λ (z : Spot). HasPlace z.rect u v) (sym is) has) in
+              let places = cut_place (out_rect o) whole.0.rect q.0 q.1 q.2 in
+              let c : Cell = record { matrix = (spot_of i.found.nodes whole.0).base; x = q.0; y = q.1 } in
+              let held = part_holds whole.0 among.0 q.0 q.1 places.1 in
+              (number_at i c, cell_moved ms seat.base b.base (base_x seat q.0 q.1) (base_y seat q.0 q.1) u v (number_at i c) (ap (λ (z : Spot). z.base) is) q.3 q.4 (made_there c (held_cell c held)),
+              in_copy o c held (sym (eqb-true (spot_of i.found.nodes whole.0).base o.matrix on.0)) places.0);
+          held = λ n h.
+              let s = map_in (stop_number i) (walk_of [] (pieces o)) n h in
+              let k = copied_is o s.0 s.1 in
+              let c = stop_cell s.0 in
+              let part = within (out_rect o) k.held.part in
+              let spot = spot_of i.found.nodes part in
+              let seat = seat_in i spot.base in
+              (through i spot, in_map (λ z. through i (spot_of i.found.nodes z)) (output_parts i job o) part (in_map (within (out_rect o)) (filter (is_part_of i o) job.parts) k.held.part (in_at (filter (is_part_of i o) job.parts) s.0.piece k.held.part k.index)),
+              base_x seat c.x c.y, base_y seat c.x c.y, spot_place seat part.rect c.x c.y (place_cut (out_rect o) k.held.part.rect c.x c.y k.place k.held.holds.place),
+              subst (IsCellAt ms seat.base (base_x seat c.x c.y) (base_y seat c.x c.y)) s.2 (held_there c k.held));
+        }
+
         copy_made : IsMade config ms known (by_copy i copied)
         copy_made = record {
           reads = λ b h c cell.
@@ -390,6 +476,7 @@ module _ (config : ConfigValue) (ms : List Outcomes) (p : List ProgTransform) (i
               let back = spot_back ms source (named no_grid mm (slot.Out m)) named_is.placed (from_corner copied.corner part.0.rect) (omega (arith, ends.0, held.3)) (omega (arith, ends.1, held.4)) c (subst (λ q. SpotCell ms q c) (sym part.2) cell) in
               inl (named_is.cells c (back.0, back.1, omega (arith, back.2.right, ends.0, held.3), omega (arith, back.2.high, ends.1, held.4), back.3));
           right = λ s h. (let is_copied = copied_is o s h in copy_value (stop_cell s) is_copied.held is_copied.matrix is_copied.place);
+          laid = copy_laid;
         }
 
       -- ---- all copies

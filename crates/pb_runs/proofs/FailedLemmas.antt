@@ -1,23 +1,26 @@
 -- Calls that can't be made: a trap in each cell of their targets.
-use Rattle.std.proofs.Common.{◌≡◌, ◌∙◌, refl, sym, ap, subst, inl, inr, ℕ, zero, suc, ◌+◌, ◌-◌, ◌*◌, Bool, true, false, List, [], ◌∷◌, ◌++◌, length, map, slice_get, Some, None, arith}
+use Rattle.std.proofs.Common.{◌≡◌, ◌∙◌, refl, sym, ap, subst, inl, inr, ℕ, zero, suc, ◌+◌, ◌-◌, ◌*◌, ◌<◌, Bool, true, false, List, [], ◌∷◌, ◌++◌, length, map, slice_get, Some, None, arith}
 use Rattle.std.specs.Prelude.{filter, replicate, nat_lt, ◌&&◌}
 use Rattle.std.specs.List.{AllZip, Contains, flat_map, range_with_len}
 use Rattle.std.proofs.lemmas.Bool.Decides.{nat_tests}
 use Rattle.std.proofs.lemmas.List.{length-replicate}
+use Rattle.pb_values.specs.Views.{HasPlace}
 use Rattle.pb_values.specs.declared.outcome.Outcome.{Outcome}
+use Rattle.pb_links.specs.declared.places.Spot.{Spot}
 use Rattle.pb_program.specs.Configs.{ConfigValue}
 use Rattle.pb_model.specs.Calls.{Outcomes}
 use Rattle.pb_model.specs.Cells.{natural}
-use Rattle.pb_base.proofs.ListLemmas.{filter_in, flat_in, in_cases, in_none, map_in}
+use Rattle.pb_base.proofs.ListLemmas.{filter_in, flat_in, in_cases, in_flat, in_map, in_none, map_in}
 use Rattle.pb_recursion.specs.Depths.{filled}
 use Rattle.pb_recursion.specs.Shapes.{Sides, area}
-use Rattle.pb_runs.specs.Seats.{Seat, across, cell_at, down, seat_cells}
-use Rattle.pb_runs.specs.Steps.{cells_in, cells_of}
+use Rattle.pb_runs.specs.Seats.{Seat, across, base_x, base_y, cell_at, down, seat_cells}
+use Rattle.pb_runs.specs.Steps.{by_trap, cells_in, cells_of}
 use Rattle.pb_runs.specs.Unrolled.{Met, after_call, after_matrices, after_matrix, failed, seat_has_cells, seats_from, trap_step, whole_seat}
 use Rattle.pb_runs.proofs.BaseLemmas.{HasSides, HaveSides, Reaches, Stands, reaches_both, stands_right}
 use Rattle.pb_runs.proofs.CountLemmas.{counted, in_row, row_in, row_split}
 use Rattle.pb_runs.proofs.SeatLemmas.{HasCell, whole_has, whole_placed}
-use Rattle.pb_runs.proofs.SoundLemmas.{Cells, IsDeep, Sound}
+use Rattle.pb_runs.proofs.SoundLemmas.{Cells, IsDeep, IsLaid, Sound}
+use Rattle.pb_runs.proofs.SpotLemmas.{IsCellAt, cell_has, cell_moved}
 use Rattle.pb_runs.proofs.TallyLemmas.{Tallies, tallied}
 use Rattle.pb_recursion.specs.Counts.{all_of, both, matrix_of, one_more}
 use Rattle.pb_runs.specs.Placed.{IsPlaced, outcome_of, total}
@@ -159,11 +162,69 @@ module _ (config : ConfigValue) (ms : List Outcomes) where
       append_none [] = refl
       append_none (x ∷ xs) = ap (λ l. x ∷ l) (append_none xs)
 
-  trap_sound : (known : Cells) (call : ℕ) (o : Outcome) (seats : List Seat) → ((s : Seat) → Contains seats s → (c : ℕ) → HasCell s c → outcome_of ms c ≡ o) → Sound config ms known (trap_step call o seats)
+  -- a seat of a matrix with cells of its own
+  record IsWholeSeat (s : Seat) : Type 0 where
+    met : Met
+    sides : Sides
+    is : s ≡ whole_seat met sides
+    grid : Outcomes
+    placed : IsPlaced ms s grid
+
+  whole_in : (n : Met) (ss : List Sides) (mats : List Outcomes) → AllZip (IsPlaced ms) (seats_from n ss) mats → (s : Seat) → Contains (seats_from n ss) s → IsWholeSeat s
+  whole_in n [] mats placed s h = absurd (in_none s h)
+  whole_in n (z ∷ ss) [] placed s h = absurd placed
+  whole_in n (z ∷ ss) (m ∷ mats) placed s h = elim (in_cases (whole_seat n z) s (seats_from (after_matrix n z) ss) h) [
+    | inl same ↦ record { met = n; sides = z; is = sym same; grid = m; placed = subst (λ q. IsPlaced ms q m) same placed.0 }
+    | inr later ↦ whole_in (after_matrix n z) ss mats placed.1 s later
+  ]
+
+  -- its places have its cells
+  seat_place : (s : Seat) → IsWholeSeat s → (u v : ℕ) → HasPlace s.rect u v → (u < across s) × (v < down s) × IsCellAt ms s.base u v (cell_at s u v)
+  seat_place s w u v place =
+      let right = ap (λ (q : Seat). q.rect.x1) w.is in
+      let high = ap (λ (q : Seat). q.rect.y1) w.is in
+      let wide = ap across w.is in
+      let tall = ap down w.is in
+      let on_x : u < across s = omega (arith, place.right, right, wide) in
+      let on_y : v < down s = omega (arith, place.high, high, tall) in
+      let at_x : base_x s u v ≡ u = (let e = ap (λ (q : Seat). base_x q u v) w.is in omega (arith, e)) in
+      let at_y : base_y s u v ≡ v = (let e = ap (λ (q : Seat). base_y q u v) w.is in omega (arith, e)) in
+      (on_x, on_y, cell_moved ms s.base s.base (base_x s u v) (base_y s u v) u v (cell_at s u v) refl at_x at_y (cell_has ms s w.grid w.placed u v on_x on_y))
+
+  place_seat : (s : Seat) → IsWholeSeat s → (u v : ℕ) → u < across s → v < down s → HasPlace s.rect u v
+  place_seat s w u v on_x on_y =
+      let left = ap (λ (q : Seat). q.rect.x0) w.is in
+      let right = ap (λ (q : Seat). q.rect.x1) w.is in
+      let low = ap (λ (q : Seat). q.rect.y0) w.is in
+      let high = ap (λ (q : Seat). q.rect.y1) w.is in
+      let wide = ap across w.is in
+      let tall = ap down w.is in
+      record { left = omega (arith, left); right = omega (arith, on_x, right, wide); low = omega (arith, low); high = omega (arith, on_y, high, tall) }
+
+  trap_laid : (call : ℕ) (o : Outcome) (seats : List Seat) → ((s : Seat) → Contains seats s → IsWholeSeat s) → IsLaid config ms (by_trap (record { call = call; outcome = o; seats = seats }))
   unfolding cells_of
-  trap_sound known call o [] right = tt
-  trap_sound known call o (s ∷ seats) right =
-      (record { reads = λ b h c cell. absurd (in_none b h); right = λ c h. (let seat = flat_in seat_cells (s ∷ seats) c h in right seat.0 seat.1 c (seat_in_row seat.0 c seat.2)) }, tt)
+  trap_laid call o seats whole = record {
+    shown = λ b h u v has. absurd (in_none b h);
+    parts = λ b h u v has.
+        let f = map_in (λ (s : Seat). record { base = s.base; rect = s.rect }) seats b h in
+        let s = f.0 in
+        let at = seat_place s (whole s f.1) u v (subst (λ (z : Spot). HasPlace z.rect u v) (sym f.2) has) in
+        let row = in_map (λ x. cell_at s x v) (range_with_len 0 (across s)) u (row_in u 0 (across s) (omega arith) (omega (arith, at.0))) in
+        let own = in_flat (λ y. map (λ x. cell_at s x y) (range_with_len 0 (across s))) (range_with_len 0 (down s)) v (cell_at s u v) (row_in v 0 (down s) (omega arith) (omega (arith, at.1))) row in
+        (cell_at s u v, subst (λ (z : Spot). IsCellAt ms z.base u v (cell_at s u v)) f.2 at.2, in_flat seat_cells seats s (cell_at s u v) f.1 own);
+    held = λ n h.
+        let f = flat_in seat_cells seats n h in
+        let s = f.0 in
+        let c = seat_in_row s n f.2 in
+        let place = place_seat s (whole s f.1) c.0 c.1 c.2 c.3 in
+        (record { base = s.base; rect = s.rect }, in_map (λ (z : Seat). record { base = z.base; rect = z.rect }) seats s f.1, c.0, c.1, place, subst (IsCellAt ms s.base c.0 c.1) (sym c.4) (seat_place s (whole s f.1) c.0 c.1 place).2);
+  }
+
+  trap_sound : (known : Cells) (call : ℕ) (o : Outcome) (seats : List Seat) → ((s : Seat) → Contains seats s → (c : ℕ) → HasCell s c → outcome_of ms c ≡ o) → IsLaid config ms (by_trap (record { call = call; outcome = o; seats = seats })) → Sound config ms known (trap_step call o seats)
+  unfolding cells_of
+  trap_sound known call o [] right laid = tt
+  trap_sound known call o (s ∷ seats) right laid =
+      (record { reads = λ b h c cell. absurd (in_none b h); right = λ c h. (let seat = flat_in seat_cells (s ∷ seats) c h in right seat.0 seat.1 c (seat_in_row seat.0 c seat.2)); laid = laid }, tt)
 
   pub failed_deep : (known : Cells) (o : Outcome) (ss : List Sides) (n : Met) → Stands ms n (map (filled o) ss) → IsDeep config ms known n (failed o ss n) (map (filled o) ss) (map (filled o) ss)
   failed_deep known o ss n stands =
@@ -176,7 +237,7 @@ module _ (config : ConfigValue) (ms : List Outcomes) where
       record {
         placed = placed;
         within = seats_within ms m ss (map (filled o) ss) sides;
-        sound = trap_sound known n.calls o full (λ s there c has. filled_right o m ss placed s (filter_from (seats_from m ss) s there) c has);
+        sound = trap_sound known n.calls o full (λ s there c has. filled_right o m ss placed s (filter_from (seats_from m ss) s there) c has) (trap_laid n.calls o full (λ s there. whole_in m ss (map (filled o) ss) placed s (filter_from (seats_from m ss) s there)));
         counts = λ c. ap (counted c) (trap_cells n.calls o full ∙ full_cells m ss ∙ all_cells ms m ss (map (filled o) ss) sides);
         reaches = record { matrices = reach.matrices; cells = reach.cells };
       }

@@ -32,6 +32,7 @@ use Rattle.pb_runs.specs.Unrolled.{Done, Met, Unroll, job_done, jobs_done, plan_
 use Rattle.pb_runs.proofs.BaseLemmas.{Stands, reaches_both, stands_left, stands_right, total_append}
 use Rattle.pb_runs.proofs.BoxLemmas.{IsSituated, inst, jobs}
 use Rattle.pb_runs.proofs.CalledLemmas.{AreDeeper, AreNatural}
+use Rattle.pb_runs.proofs.CopyLemmas.{job_laid}
 use Rattle.pb_runs.proofs.CountLemmas.{counted, counted_append, counted_in, counted_row, in_counted}
 use Rattle.pb_runs.proofs.JobLemmas.{IsKnown, job_made, own_cells}
 use Rattle.pb_runs.proofs.PlanLemmas.{IsDone, plan_job}
@@ -81,7 +82,7 @@ module _ (config : ConfigValue) (ms : List Outcomes) (p : List ProgTransform) (i
     computed : ((s : Stop) → Contains (stops_of i.found.nodes i.found.order.layers job) s → (r : ProgRule) → rule_of config plans i.number t i.sizes (stop_cell s) ≡ Some r → r.kind ≡ kind.Plan → ⊥) → IsDone config ms known n (record { steps = by_job i job ∷ []; next = n }) (own_cells i job) [] nothing
     unfolding cells_of
     computed other = record {
-      sound = (job_made config ms p i grain at plans lm local settled known j job e k_known other, tt);
+      sound = (job_made config ms p i grain at plans lm local settled known j job e k_known other (job_laid config ms p i grain at (call_below below) lm local settled once j job e), tt);
       counts = λ c. ap (counted c) (append_none (own_cells i job)) ∙ omega arith;
       reaches = record { matrices = omega arith; cells = omega arith };
       tally = tallies_none n;

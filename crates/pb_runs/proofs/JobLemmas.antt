@@ -30,7 +30,7 @@ use Rattle.pb_solution.proofs.OrderLemmas.{made_stop, stop_made}
 use Rattle.pb_runs.specs.Right.{IsMadeByRule, no_plans}
 use Rattle.pb_runs.specs.Steps.{Instance, by_job, cells_of, number_at, seat_in, stop_number, through}
 use Rattle.pb_runs.proofs.BoxLemmas.{IsSituated, box_before, box_ends, box_there, inst, jobs}
-use Rattle.pb_runs.proofs.SoundLemmas.{Cells, IsMade}
+use Rattle.pb_runs.proofs.SoundLemmas.{Cells, IsLaid, IsMade}
 use Rattle.pb_runs.proofs.SpotLemmas.{spot_back}
 use Rattle.pb_runs.proofs.ViewLemmas.{IsLocal, has_matrix, number_is}
 use Rattle.pb_runs.specs.Placed.{SpotCell, outcome_of}
@@ -146,12 +146,13 @@ module _ (config : ConfigValue) (ms : List Outcomes) (p : List ProgTransform) (i
 
     -- a job whose rules compute
     pub job_made : (known : Cells) (j : ℕ) (job : JobValue) → slice_get all_jobs j ≡ Some job → IsKnown known j
-        → ((s : Stop) → Contains (stops_of i.found.nodes i.found.order.layers job) s → (r : ProgRule) → rule_of config plans i.number t i.sizes (stop_cell s) ≡ Some r → r.kind ≡ kind.Plan → ⊥) → IsMade config ms known (by_job i job)
+        → ((s : Stop) → Contains (stops_of i.found.nodes i.found.order.layers job) s → (r : ProgRule) → rule_of config plans i.number t i.sizes (stop_cell s) ≡ Some r → r.kind ≡ kind.Plan → ⊥) → IsLaid config ms (by_job i job) → IsMade config ms known (by_job i job)
     unfolding cells_of
-    job_made known j job e k other = record {
+    job_made known j job e k other laid = record {
       reads = λ b h c cell. (let f = map_in (through i) (boxes_by t i.sizes job.rule job.parts) b h in ⊎_elim (λ there. inl there) (λ own. inr own.1) (box_known known j job e k f.0 f.1 c (subst (λ q. SpotCell ms q c) (sym f.2) cell)));
       right = λ s h.
           let made = made_cell config i.number t i.found i.sizes grain (inst config p i grain at) (stop_cell s) j s.piece (stop_made config i.number t i.found i.sizes grain (inst config p i grain at) at.valid j job e s h) in
           let r = rule_for (stop_cell s) made in
           made_by_rule s made r.0 r.1 (λ is. other s h r.0 r.1 is);
+      laid = laid;
     }

@@ -3,16 +3,18 @@ use Rattle.std.proofs.Common.{◌≡◌, ◌∙◌, refl, sym, ap, subst, inl, i
 use Rattle.std.specs.List.{AllZip, Contains, range_with_len}
 use Rattle.std.proofs.lemmas.List.Elements.{Contains-append_cases}
 use Rattle.pb_links.specs.declared.places.Spot.{Spot}
+use Rattle.pb_values.specs.Views.{HasPlace}
 use Rattle.pb_program.specs.Configs.{ConfigValue}
 use Rattle.pb_model.specs.Calls.{Outcomes}
 use Rattle.pb_base.proofs.ListLemmas.{in_none}
 use Rattle.pb_runs.specs.Right.{IsRight}
 use Rattle.pb_runs.specs.Seats.{Seat}
-use Rattle.pb_runs.specs.Steps.{Step, boxes_of, cells_in, cells_of}
+use Rattle.pb_runs.specs.Steps.{Step, boxes_of, cells_in, cells_of, parts_of}
 use Rattle.pb_runs.specs.Unrolled.{Met, Unrolled}
 use Rattle.pb_runs.proofs.BaseLemmas.{Reaches}
 use Rattle.pb_runs.proofs.CountLemmas.{counted, counted_in, in_counted}
 use Rattle.pb_runs.proofs.SeatLemmas.{HasCell}
+use Rattle.pb_runs.proofs.SpotLemmas.{IsCellAt}
 use Rattle.pb_runs.specs.Placed.{IsPlaced, SpotCell, total}
 
 -- some cells, by their numbers
@@ -31,10 +33,17 @@ cells_append (s ∷ xs) ys = ap (λ l. cells_of s ++ l) (cells_append xs ys) ∙
     assoc (x ∷ xs) ys zs = ap (λ l. x ∷ l) (assoc xs ys zs)
 
 module _ (config : ConfigValue) (ms : List Outcomes) where
+  -- what a step reads is there, and the places of its parts are its cells
+  pub record IsLaid (s : Step) : Type 0 where
+    pub shown : (b : Spot) → Contains (boxes_of s) b → (x y : ℕ) → HasPlace b.rect x y → (c : ℕ) × IsCellAt ms b.base x y c
+    pub parts : (b : Spot) → Contains (parts_of s) b → (x y : ℕ) → HasPlace b.rect x y → (c : ℕ) × IsCellAt ms b.base x y c × Contains (cells_of s) c
+    pub held : (c : ℕ) → Contains (cells_of s) c → (b : Spot) × Contains (parts_of s) b × (x : ℕ) × (y : ℕ) × HasPlace b.rect x y × IsCellAt ms b.base x y c
+
   -- a step is right, and reads what is known or what it makes
   pub record IsMade (known : Cells) (s : Step) : Type 0 where
     pub reads : (b : Spot) → Contains (boxes_of s) b → (c : ℕ) → SpotCell ms b c → known c ⊎ Contains (cells_of s) c
     pub right : IsRight config ms s
+    pub laid : IsLaid s
 
   -- each step, one after another
   abbrev pub Sound : Cells → List Step → Type 0
@@ -42,7 +51,7 @@ module _ (config : ConfigValue) (ms : List Outcomes) where
   Sound known (s ∷ rest) = IsMade known s × Sound (with_cells known (cells_of s)) rest
 
   pub made_more : (known more : Cells) (s : Step) → ((c : ℕ) → known c → more c) → IsMade known s → IsMade more s
-  made_more known more s to h = record { reads = λ b in_boxes c cell. ⊎_elim (λ k. inl (to c k)) (λ own. inr own) (h.reads b in_boxes c cell); right = h.right }
+  made_more known more s to h = record { reads = λ b in_boxes c cell. ⊎_elim (λ k. inl (to c k)) (λ own. inr own) (h.reads b in_boxes c cell); right = h.right; laid = h.laid }
 
   pub sound_more : (known more : Cells) (xs : List Step) → ((c : ℕ) → known c → more c) → Sound known xs → Sound more xs
   sound_more known more [] to h = tt
