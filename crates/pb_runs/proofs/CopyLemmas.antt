@@ -207,9 +207,14 @@ module _ (config : ConfigValue) (ms : List Outcomes) (p : List ProgTransform) (i
       held = λ n h.
           let c = own_held n h in
           let spot = spot_of i.found.nodes c.1.part in
-          let seat = seat_in i spot.base in
-          (through i spot, in_map (λ part. through i (spot_of i.found.nodes part)) job.parts c.1.part c.1.of, base_x seat c.0.x c.0.y, base_y seat c.0.x c.0.y, spot_place seat c.1.part.rect c.0.x c.0.y c.1.holds.place,
-          subst (IsCellAt ms seat.base (base_x seat c.0.x c.0.y) (base_y seat c.0.x c.0.y)) c.2 (held_there c.0 c.1));
+          let seat = seat_in i spot.base in (
+            through i spot,
+            in_map (λ part. through i (spot_of i.found.nodes part)) job.parts c.1.part c.1.of,
+            base_x seat c.0.x c.0.y,
+            base_y seat c.0.x c.0.y,
+            spot_place seat c.1.part.rect c.0.x c.0.y c.1.holds.place,
+            subst (IsCellAt ms seat.base (base_x seat c.0.x c.0.y) (base_y seat c.0.x c.0.y)) c.2 (held_there c.0 c.1),
+          );
     }
 
     -- ---- the cells that are copied from an output
@@ -451,19 +456,25 @@ module _ (config : ConfigValue) (ms : List Outcomes) (p : List ProgTransform) (i
               let q = place_of_spot seat spot.rect u v (subst (λ (z : Spot). HasPlace z.rect u v) (sym is) has) in
               let places = cut_place (out_rect o) whole.0.rect q.0 q.1 q.2 in
               let c : Cell = record { matrix = (spot_of i.found.nodes whole.0).base; x = q.0; y = q.1 } in
-              let held = part_holds whole.0 among.0 q.0 q.1 places.1 in
-              (number_at i c, cell_moved ms seat.base b.base (base_x seat q.0 q.1) (base_y seat q.0 q.1) u v (number_at i c) (ap (λ (z : Spot). z.base) is) q.3 q.4 (made_there c (held_cell c held)),
-              in_copy o c held (sym (eqb-true (spot_of i.found.nodes whole.0).base o.matrix on.0)) places.0);
+              let held = part_holds whole.0 among.0 q.0 q.1 places.1 in (
+                number_at i c,
+                cell_moved ms seat.base b.base (base_x seat q.0 q.1) (base_y seat q.0 q.1) u v (number_at i c) (ap (λ (z : Spot). z.base) is) q.3 q.4 (made_there c (held_cell c held)),
+                in_copy o c held (sym (eqb-true (spot_of i.found.nodes whole.0).base o.matrix on.0)) places.0,
+              );
           held = λ n h.
               let s = map_in (stop_number i) (walk_of [] (pieces o)) n h in
               let k = copied_is o s.0 s.1 in
               let c = stop_cell s.0 in
               let part = within (out_rect o) k.held.part in
               let spot = spot_of i.found.nodes part in
-              let seat = seat_in i spot.base in
-              (through i spot, in_map (λ z. through i (spot_of i.found.nodes z)) (output_parts i job o) part (in_map (within (out_rect o)) (filter (is_part_of i o) job.parts) k.held.part (in_at (filter (is_part_of i o) job.parts) s.0.piece k.held.part k.index)),
-              base_x seat c.x c.y, base_y seat c.x c.y, spot_place seat part.rect c.x c.y (place_cut (out_rect o) k.held.part.rect c.x c.y k.place k.held.holds.place),
-              subst (IsCellAt ms seat.base (base_x seat c.x c.y) (base_y seat c.x c.y)) s.2 (held_there c k.held));
+              let seat = seat_in i spot.base in (
+                through i spot,
+                in_map (λ z. through i (spot_of i.found.nodes z)) (output_parts i job o) part (in_map (within (out_rect o)) (filter (is_part_of i o) job.parts) k.held.part (in_at (filter (is_part_of i o) job.parts) s.0.piece k.held.part k.index)),
+                base_x seat c.x c.y,
+                base_y seat c.x c.y,
+                spot_place seat part.rect c.x c.y (place_cut (out_rect o) k.held.part.rect c.x c.y k.place k.held.holds.place),
+                subst (IsCellAt ms seat.base (base_x seat c.x c.y) (base_y seat c.x c.y)) s.2 (held_there c k.held),
+              );
         }
 
         copy_made : IsMade config ms known (by_copy i copied)

@@ -12,6 +12,7 @@ pub mod OwnLemmas
 pub mod SpotLemmas
 pub mod BoxLemmas
 pub mod JobLemmas
+pub mod LinkLemmas
 pub mod OutputLemmas
 pub mod CopyLemmas
 pub mod PlanLemmas

@@ -28,7 +28,7 @@ use Rattle.pb_runs.proofs.FitLemmas.{sizes_same as bound_same}
 use Rattle.pb_runs.proofs.InstanceLemmas.{instance_deep, instance_tally, own_have, sizes_same}
 use Rattle.pb_runs.proofs.SeatLemmas.{HasCell}
 use Rattle.pb_runs.proofs.CountLemmas.{counted, counted_in, counted_once, in_counted, in_row, row_few, row_in}
-use Rattle.pb_runs.proofs.SoundLemmas.{Cells, IsDeep, sound_at}
+use Rattle.pb_runs.proofs.SoundLemmas.{Cells, IsDeep, IsLaid, sound_at}
 use Rattle.pb_runs.proofs.TallyLemmas.{Tallies, tallies_both}
 use Rattle.pb_plan.proofs.OnceLemmas.{Once}
 use Rattle.pb_links.specs.declared.places.Spot.{Spot}
@@ -106,7 +106,7 @@ module _ (config : ConfigValue) (ms : List Outcomes) (p : List ProgTransform) (f
 
 -- ---- a run
 module _ (p : List ProgTransform) (found : List AnalysisValue) (config : ConfigValue) (grain depth number : ℕ) (ins : List Outcomes) (h : IsEntered p found config number ins) where
-  abbrev ms : List Outcomes
+  abbrev pub ms : List Outcomes
   ms = run_matrices p found config grain depth number ins
 
   abbrev pub run : Unrolled
@@ -170,17 +170,20 @@ module _ (p : List ProgTransform) (found : List AnalysisValue) (config : ConfigV
   pub run_right : (k : ℕ) (s : Step) → slice_get run.steps k ≡ Some s → IsRight config ms s
   run_right k s e = (sound_at config ms given run.steps k s deep.sound e).right
 
+  pub run_laid : (k : ℕ) (s : Step) → slice_get run.steps k ≡ Some s → IsLaid config ms s
+  run_laid k s e = (sound_at config ms given run.steps k s deep.sound e).laid
+
   start : n.cells ≡ total ins
   start = let r = reach.cells in omega (arith, r)
 
   all_total : total ms ≡ total ins + total made
   all_total = total_append ins made
 
+  pub run_few : (c : ℕ) → counted c (cells_in run.steps) ≤ 1
+  run_few c = let counts = deep.counts c in let one = row_few c n.cells (total made) in omega (arith, counts, one)
+
   pub run_once : Once (cells_in run.steps)
-  run_once = counted_once (cells_in run.steps) (λ c. few c)
-    where
-      few : (c : ℕ) → counted c (cells_in run.steps) ≤ 1
-      few c = let counts = deep.counts c in let one = row_few c n.cells (total made) in omega (arith, counts, one)
+  run_once = counted_once (cells_in run.steps) run_few
 
   pub run_only : (c : ℕ) → Contains (cells_in run.steps) c → (total ins ≤ c) × (c < total ms)
   run_only c there =

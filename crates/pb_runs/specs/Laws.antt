@@ -7,10 +7,11 @@ use Rattle.pb_program.specs.WellFormed.{IsWellFormed}
 use Rattle.pb_model.specs.Calls.{Outcomes}
 use Rattle.pb_check.specs.Orders.{AnalysisValue, AreFound}
 use Rattle.pb_check.specs.Phases.{IsSound}
+use Rattle.pb_links.specs.Links.{predecessors}
 use Rattle.pb_recursion.specs.Depths.{IsWhole, sides_of_matrix}
 use Rattle.pb_recursion.specs.Shapes.{can_enter}
 use Rattle.pb_runs.specs.Placed.{total}
-use Rattle.pb_runs.specs.Steps.{Step, cells_of}
+use Rattle.pb_runs.specs.Steps.{Step, cells_of, places_of}
 
 -- of an accepted program, with what is found of its transforms, and a valid configuration: a transform by its number, and
 -- matrices that can enter it
@@ -27,3 +28,7 @@ pub record IsEntered (p : List ProgTransform) (found : List AnalysisValue) (conf
 -- a cell is given to the run; or a step makes it that stands before the step with this number, or is this one
 abbrev pub IsThere : List Outcomes → List Step → ℕ → ℕ → Type 0
 IsThere ins steps k c = (c < total ins) ⊎ ((u : ℕ) × (s : Step) × (u ≤ k) × (slice_get steps u ≡ Some s) × Contains (cells_of s) c)
+
+-- a cell is given to the run; or a step makes it for which the step with this number waits, or which is this one
+abbrev pub IsLinked : List Outcomes → List Step → ℕ → ℕ → Type 0
+IsLinked ins steps k c = (c < total ins) ⊎ ((u : ℕ) × (s : Step) × ((u ≡ k) ⊎ Contains (predecessors (map places_of steps) k) u) × (slice_get steps u ≡ Some s) × Contains (cells_of s) c)

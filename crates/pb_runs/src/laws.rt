@@ -1,5 +1,6 @@
 ghost use Rattle.std.specs.Prelude.{◌≡◌, ◌↔◌, ◌<◌, ◌≤◌, ℕ, List, Some, map, slice_get};
 ghost use Rattle.std.specs.List.{AllZip, Contains};
+ghost use Rattle.pb_links.specs.Links.{predecessors};
 ghost use Rattle.pb_links.specs.declared.places.Spot.{Spot};
 ghost use Rattle.pb_program.specs.Configs.{ConfigValue};
 ghost use Rattle.pb_program.specs.Trees.{ProgTransform};
@@ -8,11 +9,11 @@ ghost use Rattle.pb_check.specs.Orders.{AnalysisValue};
 ghost use Rattle.pb_taskgraph.specs.Graphs.{EachOnce};
 ghost use Rattle.pb_recursion.specs.Counts.{run_count};
 ghost use Rattle.pb_recursion.specs.Depths.{call_at, sides_of_matrix};
-ghost use Rattle.pb_runs.specs.Laws.{IsEntered, IsThere};
+ghost use Rattle.pb_runs.specs.Laws.{IsEntered, IsLinked, IsThere};
 ghost use Rattle.pb_runs.specs.Matrices.{run_matrices};
 ghost use Rattle.pb_runs.specs.Placed.{IsPlaced, SpotCell, greatest_side, total};
 ghost use Rattle.pb_runs.specs.Right.{IsRight};
-ghost use Rattle.pb_runs.specs.Steps.{Step, boxes_of, cells_in};
+ghost use Rattle.pb_runs.specs.Steps.{Step, boxes_of, cells_in, cells_of, parts_of, places_of};
 ghost use Rattle.pb_runs.specs.Unrolled.{unrolled_run};
 
 /// A law: the matrices that a run gives are those of its first call, and stand where the seats of the unrolled run say.
@@ -52,4 +53,24 @@ pub fn a_run_is_counted_from_its_sides()
         → greatest_side (run_matrices p found config grain depth number ins) ≡ (run_count p config depth number (map sides_of_matrix ins)).side }
     ensures cells { (p : List ProgTransform) (found : List AnalysisValue) (config : ConfigValue) (grain depth number : ℕ) (ins : List Outcomes) → IsEntered p found config number ins
         → total (run_matrices p found config grain depth number ins) ≡ (run_count p config depth number (map sides_of_matrix ins)).cells }
+{}
+
+/// A law: the cells that a step makes are those of its parts.
+pub fn the_parts_of_a_step_have_its_cells()
+    ensures { (p : List ProgTransform) (found : List AnalysisValue) (config : ConfigValue) (grain depth number : ℕ) (ins : List Outcomes) → IsEntered p found config number ins
+        → (k : ℕ) (s : Step) → slice_get (unrolled_run p found config grain depth number (map sides_of_matrix ins)).steps k ≡ Some s
+        → (c : ℕ) → Contains (cells_of s) c ↔ ((b : Spot) × Contains (parts_of s) b × SpotCell (run_matrices p found config grain depth number ins) b c) }
+{}
+
+/// A law: a step waits for earlier steps alone. It waits for each other step of which a part meets a box that it reads.
+pub fn a_step_waits_for_earlier_ones()
+    ensures { (p : List ProgTransform) (found : List AnalysisValue) (config : ConfigValue) (grain depth number : ℕ) (ins : List Outcomes) → IsEntered p found config number ins
+        → (k u : ℕ) → Contains (predecessors (map places_of (unrolled_run p found config grain depth number (map sides_of_matrix ins)).steps) k) u → u < k }
+{}
+
+/// A law: each cell of a box that a step reads is given, or made by a step for which it waits, or by the step itself.
+pub fn what_a_step_reads_is_linked()
+    ensures { (p : List ProgTransform) (found : List AnalysisValue) (config : ConfigValue) (grain depth number : ℕ) (ins : List Outcomes) → IsEntered p found config number ins
+        → (k : ℕ) (s : Step) → slice_get (unrolled_run p found config grain depth number (map sides_of_matrix ins)).steps k ≡ Some s → (b : Spot) → Contains (boxes_of s) b
+        → (c : ℕ) → SpotCell (run_matrices p found config grain depth number ins) b c → IsLinked ins (unrolled_run p found config grain depth number (map sides_of_matrix ins)).steps k c }
 {}
