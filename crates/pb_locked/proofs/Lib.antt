@@ -1,1 +1,3 @@
 pub mod BoardLemmas
+pub mod ScanLemmas
+pub mod TakeLemmas

@@ -1,12 +1,13 @@
 -- States of the machine between the steps of a pool under one lock.
-use Rattle.std.specs.Prelude.{◌≡◌, ℕ, ◌<◌, ◌==◌, ◌++◌, true, false, List, [], ◌∷◌, length, map, Option, Some, None, IsSome, if◌then◌else◌}
+use Rattle.std.specs.Prelude.{◌≡◌, ℕ, ◌<◌, ◌≤◌, ◌==◌, ◌++◌, true, false, List, [], ◌∷◌, length, map, Option, Some, None, IsSome, if◌then◌else◌, ◌⊎◌, nat_eq}
 use Rattle.std.specs.List.{Contains}
 use Rattle.pb_taskgraph.specs.Graphs.{after_of, cells_of}
 use Rattle.pb_taskgraph.specs.Plans.{Plan}
 use Rattle.pb_core.specs.declared.event.Event.{Event}
 use Rattle.pb_core.specs.declared.event.Event.TheVariants.{Finish, Give, Release, Start, Write}
 use Rattle.pb_core.specs.States.{State}
-use Rattle.pb_core.specs.Events.{IsReached}
+use Rattle.pb_core.specs.Events.{IsReached, all_happen}
+use Rattle.pb_core.specs.Cores.{CoreValue, state_of}
 
 -- a task is ready: it isn't started, and waits for no release
 abbrev pub IsReady : Plan → State → ℕ → Type 0
@@ -32,3 +33,24 @@ taken_from (Some holder) hand t = if holder == hand then Start hand t ∷ [] els
 -- the events by which it completes a task: its Writes in its own order, its Finish, and its Releases
 abbrev pub completed_by : Plan → ℕ → ℕ → List Event
 completed_by p hand t = map (λ c. Write hand c) (p.order t) ++ (Finish hand t ∷ map (λ next. Release hand t next) (after_of p.graph t))
+
+-- the ready task of least number; None where no task is ready
+abbrev pub FindsReady : Plan → State → Option ℕ → Type 0
+FindsReady p s (Some t) = IsReady p s t × ((u : ℕ) → IsReady p s u → t ≤ u)
+FindsReady p s None = (u : ℕ) → IsReady p s u → ⊥
+
+-- a hand and a task that it has begun; None where there is none
+abbrev pub FindsBegun : State → Option (ℕ × ℕ) → Type 0
+FindsBegun s (Some found) = HasBegun s found.0 found.1
+FindsBegun s None = (hand t : ℕ) → HasBegun s hand t → ⊥
+
+-- another hand that holds a task; None where there is none
+abbrev pub HoldsOther : Option ℕ → ℕ → Option ℕ → Type 0
+HoldsOther held hand (Some holder) = (held ≡ Some holder) × (nat_eq holder hand ≡ false)
+HoldsOther held hand None = (held ≡ None) ⊎ (held ≡ Some hand)
+
+-- the ready task of least number is taken; None where no task is ready, and then nothing changes
+abbrev pub Takes : Plan → CoreValue → ℕ → Option ℕ → CoreValue → Type 0
+Takes p old hand (Some t) new =
+    FindsReady p (state_of p old) (Some t) × (state_of p new ≡ all_happen p (state_of p old) (taken_from ((state_of p old).holder t) hand t))
+Takes p old hand None new = FindsReady p (state_of p old) None × (new ≡ old)

@@ -4,8 +4,10 @@
 //! task is unfinished, some task is ready or begun.
 #![tactic(auto)]
 
+mod board;
 mod laws;
 
+pub use board::Board;
 pub use laws::{
     a_begun_task_can_be_completed, a_board_begins, a_board_goes_on, a_ready_task_can_be_taken,
 };
