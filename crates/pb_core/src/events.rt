@@ -3,8 +3,7 @@ ghost use Rattle.pb_core.specs.Runs.{Runs};
 
 use crate::event::{Event, EventsRefusal};
 use crate::machine::Core;
-use crate::names::NamesWork;
-use pb_taskgraph::Work;
+use pb_taskgraph::{NamesWork, Work};
 use std::alloc::Global;
 
 /// Makes events happen, one after another. NotEnabled tells the place of the first that isn't enabled in its turn.

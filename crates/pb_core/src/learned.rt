@@ -3,8 +3,7 @@ ghost use Rattle.pb_taskgraph.specs.Plans.{IsPlan};
 ghost use Rattle.pb_taskgraph.specs.Serial.{serial_turn};
 ghost use Rattle.pb_core.specs.Cores.{AreLearned, CanRun, HasRun};
 
-use crate::names::NamesWork;
-use pb_taskgraph::{CellPort, Work};
+use pb_taskgraph::{CellPort, NamesWork, Work};
 use pb_values::{CellReader, Outcome};
 use std::marker::{Model, PhantomData};
 

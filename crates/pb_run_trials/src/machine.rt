@@ -3,8 +3,8 @@ ghost use Rattle.std.specs.Prelude.{◌≡◌, ◌≤◌};
 ghost use Rattle.pb_run_trials.specs.Sums.{plan_of};
 
 use crate::sums::Sums;
-use pb_core::{Core, Event, EventsRefusal, NamesWork, run_events};
-use pb_taskgraph::Work;
+use pb_core::{Core, Event, EventsRefusal, run_events};
+use pb_taskgraph::{NamesWork, Work};
 use pb_values::Outcome;
 use std::alloc::{AllocError, Global};
 use std::marker::Brand;

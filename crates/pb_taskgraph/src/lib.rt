@@ -5,6 +5,7 @@
 //! of running tasks share. The law `a_run_in_lawful_order_gives_the_solution` says the same of any lawful order.
 #![tactic(auto)]
 
+mod gate;
 mod graph;
 mod laws;
 mod limits;
@@ -15,12 +16,14 @@ mod serial;
 mod task;
 mod work;
 
+pub use gate::{Gate, OpenGate};
 pub use graph::TaskGraph;
 pub use laws::{
     a_run_in_lawful_order_gives_the_solution, a_task_is_told_what_it_may_read,
     tasks_by_number_are_in_lawful_order,
 };
 pub use limits::{MOST_CELLS, MOST_LINKS, MOST_TASKS};
+pub use names::NamesWork;
 pub use port::CellPort;
 pub use serial::{Finished, run_serial};
 pub use task::{Part, Task, TaskKind};

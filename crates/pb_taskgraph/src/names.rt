@@ -3,7 +3,7 @@ ghost use Rattle.pb_taskgraph.specs.Plans.{Plan, no_plan};
 use std::marker::Brand;
 
 /// A name for a work, so that a type can speak of one.
-pub(crate) trait NamesWork {
+pub trait NamesWork {
     /// What the work stands for.
     ghost plan: { Plan };
 }
