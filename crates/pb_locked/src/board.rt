@@ -4,8 +4,8 @@ ghost use Rattle.pb_core.specs.Events.{AllEnabled, AllFinished, all_happen};
 ghost use Rattle.pb_core.specs.Cores.{state_of};
 ghost use Rattle.pb_locked.specs.Boards.{FindsBegun, FindsReady, HoldsOther, IsBoard, Takes, taken_from};
 
-use pb_core::{Core, Event, NamesWork, Progress};
-use pb_taskgraph::Work;
+use pb_core::{Core, Event, Progress};
+use pb_taskgraph::{NamesWork, Work};
 use pb_values::Outcome;
 use std::alloc::{AllocError, Global};
 use std::marker::Model;
