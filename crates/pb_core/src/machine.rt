@@ -78,7 +78,7 @@ impl<'w, W: Work, N: NamesWork> Core<'w, W, N> {
     }
 
     /// The graph of the work.
-    pub fn graph(&self) -> &TaskGraph
+    pub fn graph(&self) -> &'w TaskGraph
         ensures graph { result.now ≡ N.plan.graph }
         ensures plan { IsPlan N.plan }
     {

@@ -90,11 +90,11 @@ module _ (p : Plan) (is : IsPlan p) (s : State) (b : IsBoard p s) where
 
   -- a begun task is completed
   module _ (hand t : ℕ) (begun : HasBegun s hand t) where
-    task : t < length p.graph.tasks
-    task = (sound.held.tasks t (sound.held.started t (some-of (s.runner t) hand begun.0))).0
+    pub begun-task : t < length p.graph.tasks
+    begun-task = (sound.held.tasks t (sound.held.started t (some-of (s.runner t) hand begun.0))).0
 
     own : (c : ℕ) → Contains (p.order t) c → Contains (cells_of p.graph t) c
-    own c = (is.listed t c task).0
+    own c = (is.listed t c begun-task).0
 
     abbrev nexts : List ℕ
     nexts = after_of p.graph t
@@ -120,8 +120,8 @@ module _ (p : Plan) (is : IsPlan p) (s : State) (b : IsBoard p s) where
     pub complete-enabled : AllEnabled p s (completed_by p hand t)
     complete-enabled =
         both-enabled p (write_all hand (p.order t)) (Finish hand t ∷ release_all hand t nexts) s
-        (writes-enabled p hand t (p.order t) s own (is.once t task) begun.0 begun.1 (λ c h. b.empty t c begun.1 (own c h))) (
-          (run-2, ap (λ (g : ℕ → Option ℕ). g t) w.quiet.number ∙ begun.1, λ c h. w.new c ((is.listed t c task).1 h)),
+        (writes-enabled p hand t (p.order t) s own (is.once t begun-task) begun.0 begun.1 (λ c h. b.empty t c begun.1 (own c h))) (
+          (run-2, ap (λ (g : ℕ → Option ℕ). g t) w.quiet.number ∙ begun.1, λ c h. w.new c ((is.listed t c begun-task).1 h)),
           releases-enabled p hand t nexts s3 (is.graph.linked.after_once t) (λ v h. h)
               (λ v h. ap (λ (g : ℕ → ℕ → Bool). g t v) w.quiet.released ∙ not-true (s.released t v) (λ e. not-none (s.number t) begun.1 (sound.counts.releases t v e)))
               (some-of (s3.number t) s2.finished (with-same s2.number t (Some s2.finished) t refl)) run-2,

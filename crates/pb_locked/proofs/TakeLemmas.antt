@@ -13,7 +13,7 @@ use Rattle.pb_core.specs.Cores.{CoreValue, Steps, state_of, untouched}
 use Rattle.pb_locked.specs.Boards.{taken_from}
 
 -- an enabled event happens
-did : (p : Plan) (old : CoreValue) (e : Event) (result : Result (Unit {0}) NotEnabled) (new : CoreValue) → Steps p old e result new → Enabled p (state_of p old) e → state_of p new ≡ happens p (state_of p old) e
+pub did : (p : Plan) (old : CoreValue) (e : Event) (result : Result (Unit {0}) NotEnabled) (new : CoreValue) → Steps p old e result new → Enabled p (state_of p old) e → state_of p new ≡ happens p (state_of p old) e
 did p old e (Ok done) new steps enabled = steps.1
 did p old e (Err refused) new steps enabled = absurd (steps.0 enabled)
 

@@ -1,10 +1,12 @@
 -- States of the machine between the steps of a pool under one lock.
-use Rattle.std.specs.Prelude.{◌≡◌, ℕ, ◌<◌, ◌≤◌, ◌==◌, ◌++◌, true, false, List, [], ◌∷◌, length, map, Option, Some, None, IsSome, if◌then◌else◌, ◌⊎◌, nat_eq}
+use Rattle.std.specs.Prelude.{◌≡◌, ℕ, ◌<◌, ◌≤◌, ◌==◌, ◌++◌, true, false, List, [], ◌∷◌, length, map, Option, Some, None, IsSome, Result, Ok, Err, if◌then◌else◌, ◌⊎◌, nat_eq}
 use Rattle.std.specs.List.{Contains}
+use Rattle.pb_values.specs.declared.outcome.Outcome.{Outcome}
 use Rattle.pb_taskgraph.specs.Graphs.{after_of, cells_of}
-use Rattle.pb_taskgraph.specs.Plans.{Plan}
+use Rattle.pb_taskgraph.specs.Plans.{Plan, outcome_at}
 use Rattle.pb_core.specs.declared.event.Event.{Event}
 use Rattle.pb_core.specs.declared.event.Event.TheVariants.{Finish, Give, Release, Start, Write}
+use Rattle.pb_core.specs.declared.event.NotEnabled.{NotEnabled}
 use Rattle.pb_core.specs.States.{State}
 use Rattle.pb_core.specs.Events.{IsReached, all_happen}
 use Rattle.pb_core.specs.Cores.{CoreValue, state_of}
@@ -30,9 +32,20 @@ abbrev pub taken_from : Option ℕ → ℕ → ℕ → List Event
 taken_from None hand t = Start hand t ∷ []
 taken_from (Some holder) hand t = if holder == hand then Start hand t ∷ [] else Give holder hand t ∷ (Start hand t ∷ [])
 
+-- a hand's Writes of cells, and its Releases of the successors of a task
+abbrev pub writes_of : ℕ → List ℕ → List Event
+writes_of hand cells = map (λ c. Write hand c) cells
+
+abbrev pub releases_of : ℕ → ℕ → List ℕ → List Event
+releases_of hand t nexts = map (λ next. Release hand t next) nexts
+
 -- the events by which it completes a task: its Writes in its own order, its Finish, and its Releases
 abbrev pub completed_by : Plan → ℕ → ℕ → List Event
-completed_by p hand t = map (λ c. Write hand c) (p.order t) ++ (Finish hand t ∷ map (λ next. Release hand t next) (after_of p.graph t))
+completed_by p hand t = writes_of hand (p.order t) ++ (Finish hand t ∷ releases_of hand t (after_of p.graph t))
+
+-- the outcomes of cells in the solution
+abbrev pub outcomes_of : Plan → List ℕ → List Outcome
+outcomes_of p cells = map (λ c. outcome_at p.solution c) cells
 
 -- the ready task of least number; None where no task is ready
 abbrev pub FindsReady : Plan → State → Option ℕ → Type 0
@@ -54,3 +67,8 @@ abbrev pub Takes : Plan → CoreValue → ℕ → Option ℕ → CoreValue → T
 Takes p old hand (Some t) new =
     FindsReady p (state_of p old) (Some t) × (state_of p new ≡ all_happen p (state_of p old) (taken_from ((state_of p old).holder t) hand t))
 Takes p old hand None new = FindsReady p (state_of p old) None × (new ≡ old)
+
+-- a task that the hand has begun is completed; where it hasn't begun it, nothing changes
+abbrev pub Completes : Plan → CoreValue → ℕ → ℕ → Result (Unit {0}) NotEnabled → CoreValue → Type 0
+Completes p old hand t (Ok done) new = HasBegun (state_of p old) hand t × (state_of p new ≡ all_happen p (state_of p old) (completed_by p hand t))
+Completes p old hand t (Err refused) new = (HasBegun (state_of p old) hand t → ⊥) × (new ≡ old)

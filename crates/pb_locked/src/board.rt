@@ -1,10 +1,12 @@
 ghost use Rattle.std.specs.Prelude.{◌≡◌, ◌<◌, ◌≤◌, ◌↔◌, ℕ, IfOk, IsTrue, None, Some, length};
+ghost use Rattle.pb_taskgraph.specs.Graphs.{cells_of};
 ghost use Rattle.pb_core.specs.States.{first_state};
 ghost use Rattle.pb_core.specs.Events.{AllEnabled, AllFinished, all_happen};
 ghost use Rattle.pb_core.specs.Cores.{state_of};
-ghost use Rattle.pb_locked.specs.Boards.{FindsBegun, FindsReady, HoldsOther, IsBoard, Takes, taken_from};
+ghost use Rattle.pb_locked.specs.Boards.{Completes, FindsBegun, FindsReady, HoldsOther, IsBoard, Takes, outcomes_of, taken_from};
 
-use pb_core::{Core, Event, Progress};
+use crate::complete::complete_task;
+use pb_core::{Core, Event, NotEnabled, Progress};
 use pb_taskgraph::{NamesWork, Work};
 use pb_values::Outcome;
 use std::alloc::{AllocError, Global};
@@ -28,6 +30,16 @@ fn begun_by(at: Progress) -> Option<u32>
         return None;
     }
     at.runner
+}
+
+/// Whether a hand has begun a task with this progress.
+fn has_begun(at: Progress, hand: u32) -> bool
+    ensures { IsTrue result ↔ ((at.runner ≡ Some hand) × (at.number ≡ None)) }
+{
+    match begun_by(at) {
+        Some(beginner) => beginner == hand,
+        None => false,
+    }
 }
 
 /// Another hand that holds a task with this progress.
@@ -124,6 +136,24 @@ impl<'w, W: Work, N: NamesWork> Board<'w, W, N> {
         let _graph = self.core.graph();
         take_task(&mut self.core, hand, task);
         Some(task)
+    }
+
+    /// A hand completes a task that it has begun: its cells get the outcomes that the task gave, part by part, each row by row.
+    /// NotEnabled comes where the hand hasn't begun the task or the task is finished, and then nothing changes.
+    pub fn complete(&mut self, hand: u32, task: u32, values: &[Outcome]) -> Result<(), NotEnabled>
+        requires { values.now ≡ outcomes_of N.plan (cells_of N.plan.graph task) }
+        ensures { Completes N.plan self.old hand task result self.new }
+    {
+        let graph = self.core.graph();
+        let links = match graph.tasks().get(task as usize) {
+            Some(links) => links,
+            None => return Err(NotEnabled),
+        };
+        if !has_begun(self.core.progress(task), hand) {
+            return Err(NotEnabled);
+        }
+        complete_task(&mut self.core, hand, task, links, values);
+        Ok(())
     }
 
     /// A hand and a task that it has begun and that isn't finished.

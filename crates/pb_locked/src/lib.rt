@@ -5,6 +5,7 @@
 #![tactic(auto)]
 
 mod board;
+mod complete;
 mod laws;
 
 pub use board::Board;
