@@ -1,5 +1,5 @@
 -- A task is completed by Writes, a Finish and Releases.
-use Rattle.std.proofs.Common.{◌≡◌, ◌∙◌, refl, sym, ap, subst, ⊎_elim, ℕ, zero, suc, ◌<◌, ◌≤◌, ◌+◌, ◌-◌, ◌*◌, List, [], ◌∷◌, ◌++◌, length, length-append, get_or, map, take, drop, Option, Some, None, IsSome, Result, Ok, Err, arith, ◌↔◌, IsTrue, false, true, eqb, pos}
+use Rattle.std.proofs.Common.{◌≡◌, ◌∙◌, refl, sym, ap, subst, ⊎_elim, ℕ, zero, suc, ◌<◌, ◌≤◌, ◌+◌, ◌-◌, ◌*◌, List, [], ◌∷◌, ◌++◌, length, length-append, get_or, map, take, drop, Option, Some, None, IsSome, Result, arith, ◌↔◌, IsTrue, false, true, eqb, pos}
 use Rattle.std.proofs.lemmas.Bool.{eq-eqb, eqb-true}
 use Rattle.std.specs.List.{Contains, flat_map, range_with_len}
 use Rattle.std.proofs.Math.ListN.{drop_of_length-le}
@@ -15,7 +15,7 @@ use Rattle.pb_taskgraph.specs.Plans.{IsPlan, Plan, outcome_at}
 use Rattle.pb_taskgraph.specs.declared.limits.TheConstants.{MOST_CELLS}
 use Rattle.pb_taskgraph.proofs.PlanLemmas.{few}
 use Rattle.pb_core.specs.declared.event.Event.{Event}
-use Rattle.pb_core.specs.declared.event.Event.TheVariants.{Finish, Release, Write}
+use Rattle.pb_core.specs.declared.event.Event.TheVariants.{Finish, Write}
 use Rattle.pb_core.specs.declared.event.NotEnabled.{NotEnabled}
 use Rattle.pb_core.specs.declared.progress.Progress.{Progress}
 use Rattle.pb_core.specs.States.{Enabled, State, happens}

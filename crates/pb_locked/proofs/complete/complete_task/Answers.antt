@@ -1,7 +1,7 @@
-use Rattle.std.proofs.Common.{◌≡◌, ◌∙◌, ap, sym, subst}
+use Rattle.std.proofs.Common.{◌∙◌, ap, sym, subst}
 use Rattle.std.specs.List.{flat_map}
 use Rattle.pb_values.specs.Views.{view_cells}
-use Rattle.pb_taskgraph.specs.Graphs.{TaskValue, after_of, cells_of}
+use Rattle.pb_taskgraph.specs.Graphs.{TaskValue}
 use Rattle.pb_taskgraph.specs.declared.task.Part.{Part}
 use Rattle.pb_core.specs.Events.{AllEnabled, all_happen}
 use Rattle.pb_core.specs.Cores.{state_of}

@@ -1,5 +1,4 @@
-use Rattle.std.proofs.Common.{◌∙◌, ◌*◌, ◌<◌, ◌^◌, ap, arith}
-use Rattle.std.specs.List.{flat_map}
+use Rattle.std.proofs.Common.{◌∙◌, ap, arith}
 use Rattle.pb_values.specs.Views.{view_cells}
 use Rattle.pb_taskgraph.specs.declared.task.Part.{Part}
 use Rattle.pb_core.specs.Cores.{state_of}
