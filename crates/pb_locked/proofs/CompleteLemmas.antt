@@ -26,7 +26,7 @@ use Rattle.pb_core.proofs.BlockLemmas.{HasWritten, both-happen, writes-done, wri
 use Rattle.pb_core.proofs.OnceLemmas.{all-early, all-late, all-sound}
 use Rattle.pb_core.proofs.StateLemmas.{reached-sound, state-path}
 use Rattle.pb_core.proofs.WithLemmas.{none-of, not-none, of-some}
-use Rattle.pb_locked.specs.Boards.{HasBegun, IsBoard, completed_by, outcomes_of, releases_of, writes_of}
+use Rattle.pb_locked.specs.Boards.{HasBegun, IsBoard, completed_by, outcomes_of, releases_by, writes_by}
 use Rattle.pb_locked.proofs.BoardLemmas.{begun-task, complete-enabled}
 use Rattle.pb_locked.proofs.TakeLemmas.{did}
 
@@ -63,13 +63,13 @@ parts-end f parts k past = ap (flat_map f) (drop-end parts k past)
 
 -- the writes of a row, from the next one on
 pub row-next : (hand : ℕ) (v : View) (y x cell : ℕ) → x < v.shape.w → cell ≡ cell_of v x y
-    → writes_of hand (map (λ k. cell_of v k y) (range_with_len x (v.shape.w - x))) ≡ Write hand cell ∷ writes_of hand (map (λ k. cell_of v k y) (range_with_len (x + 1) (v.shape.w - (x + 1))))
+    → writes_by hand (map (λ k. cell_of v k y) (range_with_len x (v.shape.w - x))) ≡ Write hand cell ∷ writes_by hand (map (λ k. cell_of v k y) (range_with_len (x + 1) (v.shape.w - (x + 1))))
 row-next hand v y x cell below is =
-    ap (λ l. writes_of hand (map (λ k. cell_of v k y) l)) (range-next x v.shape.w below)
-    ∙ ap (λ c. Write hand c ∷ writes_of hand (map (λ k. cell_of v k y) (range_with_len (x + 1) (v.shape.w - (x + 1))))) (sym is)
+    ap (λ l. writes_by hand (map (λ k. cell_of v k y) l)) (range-next x v.shape.w below)
+    ∙ ap (λ c. Write hand c ∷ writes_by hand (map (λ k. cell_of v k y) (range_with_len (x + 1) (v.shape.w - (x + 1))))) (sym is)
 
-pub row-end : (hand : ℕ) (v : View) (y x : ℕ) → v.shape.w ≤ x → writes_of hand (map (λ k. cell_of v k y) (range_with_len x (v.shape.w - x))) ≡ []
-row-end hand v y x past = ap (λ l. writes_of hand (map (λ k. cell_of v k y) l)) (range-end x v.shape.w past)
+pub row-end : (hand : ℕ) (v : View) (y x : ℕ) → v.shape.w ≤ x → writes_by hand (map (λ k. cell_of v k y) (range_with_len x (v.shape.w - x))) ≡ []
+row-end hand v y x past = ap (λ l. writes_by hand (map (λ k. cell_of v k y) l)) (range-end x v.shape.w past)
 
 pub row-length : (v : View) (y : ℕ) → length (row_cells v y) ≡ v.shape.w
 row-length v y = row-count (λ x. cell_of v x y) 0 v.shape.w
@@ -99,7 +99,7 @@ module _ (p : Plan) where
   -- cells that are still to be written, with their outcomes, up to a state
   pub record CellsLeft (end s : State) (hand : ℕ) (values : List Outcome) (cells : List ℕ) : Type 0 where
     pub are : values ≡ outcomes_of p cells
-    pub left : AreLeft end s (writes_of hand cells)
+    pub left : AreLeft end s (writes_by hand cells)
 
   pub left-first : (s : State) (events : List Event) → AllEnabled p s events → AreLeft (all_happen p s events) s events
   left-first s events enabled = record { enabled = enabled; ends = refl }
@@ -126,10 +126,10 @@ module _ (p : Plan) where
       sized : length (outcomes_of p own) ≡ n
       sized = length-map own (λ c. outcome_at p.solution c) ∙ size
 
-      writes : writes_of hand cells ≡ writes_of hand own ++ writes_of hand more
-      writes = ap (writes_of hand) are ∙ map-append (λ c. Write hand c) own more
+      writes : writes_by hand cells ≡ writes_by hand own ++ writes_by hand more
+      writes = ap (writes_by hand) are ∙ map-append (λ c. Write hand c) own more
 
-      enabled : AllEnabled p s (writes_of hand own ++ writes_of hand more)
+      enabled : AllEnabled p s (writes_by hand own ++ writes_by hand more)
       enabled = subst (λ (l : List Event). AllEnabled p s l) writes left.left.enabled
 
       pub piece-room : n ≤ length values
@@ -138,15 +138,15 @@ module _ (p : Plan) where
       pub piece-values : take n values ≡ outcomes_of p own
       piece-values = ap (take n) two ∙ take_at (outcomes_of p own) (outcomes_of p more) n sized
 
-      pub piece-enabled : AllEnabled p s (writes_of hand own)
-      piece-enabled = all-early p (writes_of hand own) (writes_of hand more) s enabled
+      pub piece-enabled : AllEnabled p s (writes_by hand own)
+      piece-enabled = all-early p (writes_by hand own) (writes_by hand more) s enabled
 
-      pub rest-cells : (now : State) (rest : List Outcome) → now ≡ all_happen p s (writes_of hand own) → rest ≡ drop n values → CellsLeft end now hand rest more
+      pub rest-cells : (now : State) (rest : List Outcome) → now ≡ all_happen p s (writes_by hand own) → rest ≡ drop n values → CellsLeft end now hand rest more
       rest-cells now rest is kept = record {
         are = kept ∙ ap (drop n) two ∙ drop_at (outcomes_of p own) (outcomes_of p more) n sized;
         left = record {
-          enabled = subst (λ (t : State). AllEnabled p t (writes_of hand more)) (sym is) (all-late p (writes_of hand own) (writes_of hand more) s enabled);
-          ends = ap (λ (t : State). all_happen p t (writes_of hand more)) is ∙ sym (both-happen p (writes_of hand own) (writes_of hand more) s) ∙ ap (λ (l : List Event). all_happen p s l) (sym writes) ∙ left.left.ends;
+          enabled = subst (λ (t : State). AllEnabled p t (writes_by hand more)) (sym is) (all-late p (writes_by hand own) (writes_by hand more) s enabled);
+          ends = ap (λ (t : State). all_happen p t (writes_by hand more)) is ∙ sym (both-happen p (writes_by hand own) (writes_by hand more) s) ∙ ap (λ (l : List Event). all_happen p s l) (sym writes) ∙ left.left.ends;
         };
       }
 
@@ -178,17 +178,17 @@ module _ (p : Plan) (is : IsPlan p) (s : State) (b : IsBoard p s) (hand t : ℕ)
   listed : (c : ℕ) → Contains cells c → Contains (p.order t) c
   listed c = (is.listed t c below).1
 
-  pub stores-enabled : AllEnabled p s (writes_of hand cells)
+  pub stores-enabled : AllEnabled p s (writes_by hand cells)
   stores-enabled = writes-enabled p hand t cells s (λ c h. h) (is.graph.partition.once t) begun.0 begun.1 (λ c h. b.empty t c begun.1 h)
 
-  order-enabled : AllEnabled p s (writes_of hand (p.order t))
+  order-enabled : AllEnabled p s (writes_by hand (p.order t))
   order-enabled = writes-enabled p hand t (p.order t) s own (is.once t below) begun.0 begun.1 (λ c h. b.empty t c begun.1 (own c h))
 
   abbrev s1 : State
-  s1 = all_happen p s (writes_of hand cells)
+  s1 = all_happen p s (writes_by hand cells)
 
   abbrev s2 : State
-  s2 = all_happen p s (writes_of hand (p.order t))
+  s2 = all_happen p s (writes_by hand (p.order t))
 
   w1 : HasWritten s s1 cells
   w1 = writes-done p hand cells s
@@ -197,10 +197,10 @@ module _ (p : Plan) (is : IsPlan p) (s : State) (b : IsBoard p s) (hand t : ℕ)
   w2 = writes-done p hand (p.order t) s
 
   one-sound : IsSound p s1
-  one-sound = all-sound p is (writes_of hand cells) s sound stores-enabled
+  one-sound = all-sound p is (writes_by hand cells) s sound stores-enabled
 
   two-sound : IsSound p s2
-  two-sound = all-sound p is (writes_of hand (p.order t)) s sound order-enabled
+  two-sound = all-sound p is (writes_by hand (p.order t)) s sound order-enabled
 
   value-same : (c : ℕ) → s1.value c ≡ s2.value c
   value-same c = same-option (s1.value c) (s2.value c) (outcome_at p.solution c)
@@ -214,10 +214,10 @@ module _ (p : Plan) (is : IsPlan p) (s : State) (b : IsBoard p s) (hand t : ℕ)
       (w1.quiet.given ∙ sym w2.quiet.given) (w1.quiet.released ∙ sym w2.quiet.released) (fun_ext value-same) (w1.quiet.finished ∙ sym w2.quiet.finished)
 
   abbrev rest : List Event
-  rest = Finish hand t ∷ releases_of hand t (after_of p.graph t)
+  rest = Finish hand t ∷ releases_by hand t (after_of p.graph t)
 
   rest-enabled : AllEnabled p s2 rest
-  rest-enabled = all-late p (writes_of hand (p.order t)) rest s (complete-enabled p is s b hand t begun)
+  rest-enabled = all-late p (writes_by hand (p.order t)) rest s (complete-enabled p is s b hand t begun)
 
   -- the cells are stored, and the task is finished
   module _ (stored ended : CoreValue) (is-stored : state_of p stored ≡ s1) (result : Result (Unit {0}) NotEnabled) (steps : Steps p stored (Finish hand t) result ended) where
@@ -226,11 +226,11 @@ module _ (p : Plan) (is : IsPlan p) (s : State) (b : IsBoard p s) (hand t : ℕ)
         let now = is-stored ∙ stores-same in
         did p stored (Finish hand t) result ended steps (subst (λ (x : State). Enabled p x (Finish hand t)) (sym now) rest-enabled.0) ∙ ap (λ (x : State). happens p x (Finish hand t)) now
 
-    pub finish-releases : AllEnabled p (state_of p ended) (releases_of hand t (after_of p.graph t))
-    finish-releases = subst (λ (x : State). AllEnabled p x (releases_of hand t (after_of p.graph t))) (sym finished) rest-enabled.1
+    pub finish-releases : AllEnabled p (state_of p ended) (releases_by hand t (after_of p.graph t))
+    finish-releases = subst (λ (x : State). AllEnabled p x (releases_by hand t (after_of p.graph t))) (sym finished) rest-enabled.1
 
-    pub finish-done : (now : State) → now ≡ all_happen p (state_of p ended) (releases_of hand t (after_of p.graph t)) → now ≡ all_happen p s (completed_by p hand t)
-    finish-done now is-now = is-now ∙ ap (λ (x : State). all_happen p x (releases_of hand t (after_of p.graph t))) finished ∙ sym (both-happen p (writes_of hand (p.order t)) rest s)
+    pub finish-done : (now : State) → now ≡ all_happen p (state_of p ended) (releases_by hand t (after_of p.graph t)) → now ≡ all_happen p s (completed_by p hand t)
+    finish-done now is-now = is-now ∙ ap (λ (x : State). all_happen p x (releases_by hand t (after_of p.graph t))) finished ∙ sym (both-happen p (writes_by hand (p.order t)) rest s)
 
 some-path : (a b : ℕ) → Some a ≡ Some b → a ≡ b
 some-path a b e = cc

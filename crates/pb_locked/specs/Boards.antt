@@ -33,15 +33,15 @@ taken_from None hand t = Start hand t ∷ []
 taken_from (Some holder) hand t = if holder == hand then Start hand t ∷ [] else Give holder hand t ∷ (Start hand t ∷ [])
 
 -- a hand's Writes of cells, and its Releases of the successors of a task
-abbrev pub writes_of : ℕ → List ℕ → List Event
-writes_of hand cells = map (λ c. Write hand c) cells
+abbrev pub writes_by : ℕ → List ℕ → List Event
+writes_by hand cells = map (λ c. Write hand c) cells
 
-abbrev pub releases_of : ℕ → ℕ → List ℕ → List Event
-releases_of hand t nexts = map (λ next. Release hand t next) nexts
+abbrev pub releases_by : ℕ → ℕ → List ℕ → List Event
+releases_by hand t nexts = map (λ next. Release hand t next) nexts
 
 -- the events by which it completes a task: its Writes in its own order, its Finish, and its Releases
 abbrev pub completed_by : Plan → ℕ → ℕ → List Event
-completed_by p hand t = writes_of hand (p.order t) ++ (Finish hand t ∷ releases_of hand t (after_of p.graph t))
+completed_by p hand t = writes_by hand (p.order t) ++ (Finish hand t ∷ releases_by hand t (after_of p.graph t))
 
 -- the outcomes of cells in the solution
 abbrev pub outcomes_of : Plan → List ℕ → List Outcome

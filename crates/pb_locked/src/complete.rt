@@ -1,11 +1,11 @@
 ghost use Rattle.std.specs.Prelude.{◌≡◌, ◌<◌, ◌≤◌, length};
 ghost use Rattle.std.specs.List.{flat_map};
 ghost use Rattle.pb_values.specs.Views.{row_cells, view_cells};
+ghost use Rattle.pb_taskgraph.specs.Graphs.{after_of, cells_of, task_cells};
 ghost use Rattle.pb_taskgraph.specs.Plans.{IsPlan};
 ghost use Rattle.pb_core.specs.Events.{AllEnabled, all_happen};
 ghost use Rattle.pb_core.specs.Cores.{state_of};
-ghost use Rattle.pb_taskgraph.specs.Graphs.{after_of, cells_of, task_cells};
-ghost use Rattle.pb_locked.specs.Boards.{HasBegun, IsBoard, completed_by, outcomes_of, releases_of, writes_of};
+ghost use Rattle.pb_locked.specs.Boards.{HasBegun, IsBoard, completed_by, outcomes_of, releases_by, writes_by};
 
 use pb_core::{Core, Event};
 use pb_taskgraph::{MOST_CELLS, NamesWork, Part, Task, Work};
@@ -20,8 +20,8 @@ fn store_row<W: Work, N: NamesWork>(
 )
     requires row { y < view.now.shape.h }
     requires values { values.now ≡ outcomes_of N.plan (row_cells view.now y) }
-    requires enabled { AllEnabled N.plan (state_of N.plan core.old) (writes_of hand (row_cells view.now y)) }
-    ensures { state_of N.plan core.new ≡ all_happen N.plan (state_of N.plan core.old) (writes_of hand (row_cells view.now y)) }
+    requires enabled { AllEnabled N.plan (state_of N.plan core.old) (writes_by hand (row_cells view.now y)) }
+    ensures { state_of N.plan core.new ≡ all_happen N.plan (state_of N.plan core.old) (writes_by hand (row_cells view.now y)) }
 {
     for (x, value) in values.iter().enumerate() {
         let _stored = core.store(hand, view.place(x as u64, y), *value);
@@ -35,8 +35,8 @@ fn store_view<W: Work, N: NamesWork>(
     values: &[Outcome],
 )
     requires values { values.now ≡ outcomes_of N.plan (view_cells view.now) }
-    requires enabled { AllEnabled N.plan (state_of N.plan core.old) (writes_of hand (view_cells view.now)) }
-    ensures { state_of N.plan core.new ≡ all_happen N.plan (state_of N.plan core.old) (writes_of hand (view_cells view.now)) }
+    requires enabled { AllEnabled N.plan (state_of N.plan core.old) (writes_by hand (view_cells view.now)) }
+    ensures { state_of N.plan core.new ≡ all_happen N.plan (state_of N.plan core.old) (writes_by hand (view_cells view.now)) }
 {
     // A view without columns may have any number of rows.
     if view.shape.w == 0 {
@@ -59,8 +59,8 @@ fn store_parts<W: Work, N: NamesWork>(
 )
     requires few { length values.now ≤ MOST_CELLS }
     requires values { values.now ≡ outcomes_of N.plan (flat_map (λ part. view_cells part.view) parts.now) }
-    requires enabled { AllEnabled N.plan (state_of N.plan core.old) (writes_of hand (flat_map (λ part. view_cells part.view) parts.now)) }
-    ensures { state_of N.plan core.new ≡ all_happen N.plan (state_of N.plan core.old) (writes_of hand (flat_map (λ part. view_cells part.view) parts.now)) }
+    requires enabled { AllEnabled N.plan (state_of N.plan core.old) (writes_by hand (flat_map (λ part. view_cells part.view) parts.now)) }
+    ensures { state_of N.plan core.new ≡ all_happen N.plan (state_of N.plan core.old) (writes_by hand (flat_map (λ part. view_cells part.view) parts.now)) }
 {
     let mut rest = values;
     for part in parts {
@@ -77,8 +77,8 @@ fn release_all<W: Work, N: NamesWork>(
     task: u32,
     nexts: &[u32],
 )
-    requires { AllEnabled N.plan (state_of N.plan core.old) (releases_of hand task nexts.now) }
-    ensures { state_of N.plan core.new ≡ all_happen N.plan (state_of N.plan core.old) (releases_of hand task nexts.now) }
+    requires { AllEnabled N.plan (state_of N.plan core.old) (releases_by hand task nexts.now) }
+    ensures { state_of N.plan core.new ≡ all_happen N.plan (state_of N.plan core.old) (releases_by hand task nexts.now) }
 {
     for next in nexts {
         let _released = core.step(Event::Release {

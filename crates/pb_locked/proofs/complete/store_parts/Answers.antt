@@ -2,7 +2,7 @@ use Rattle.std.proofs.Common.{◌∙◌, ap, arith}
 use Rattle.pb_values.specs.Views.{view_cells}
 use Rattle.pb_taskgraph.specs.declared.task.Part.{Part}
 use Rattle.pb_core.specs.Cores.{state_of}
-use Rattle.pb_locked.specs.Boards.{writes_of}
+use Rattle.pb_locked.specs.Boards.{writes_by}
 use Rattle.pb_locked.proofs.CompleteLemmas.{left-none, parts-end, parts-next, piece-enabled, piece-room, piece-values, rest-cells, view-length}
 use Rattle.pb_locked.proofs.complete.store_parts.Goals as goal
 
@@ -37,4 +37,4 @@ loop-part-preserved g c =
     )
 
 pub returns : goal.returns
-returns g c = let p = g.N.NamesWork.plan in left-none p _ (state_of p c.loop-part.core) _ (ap (writes_of c.args.hand) (parts-end (λ (part : Part). view_cells part.view) c.args.parts.now c.loop-part.part-index (omega (arith, c.loop-part-test.false)))) c.loop-part.invariant.1.left
+returns g c = let p = g.N.NamesWork.plan in left-none p _ (state_of p c.loop-part.core) _ (ap (writes_by c.args.hand) (parts-end (λ (part : Part). view_cells part.view) c.args.parts.now c.loop-part.part-index (omega (arith, c.loop-part-test.false)))) c.loop-part.invariant.1.left
