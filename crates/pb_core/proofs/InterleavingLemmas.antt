@@ -29,11 +29,11 @@ writes-both (Finish hand task ∷ es) fs = writes-both es fs
 writes-both (Release hand task next ∷ es) fs = writes-both es fs
 writes-both (Give giver taker task ∷ es) fs = writes-both es fs
 
-writes-all : (cells : List ℕ) → writes (write_all cells) ≡ cells
+writes-all : (cells : List ℕ) → writes (write_all 0 cells) ≡ cells
 writes-all [] = refl
 writes-all (c ∷ cells) = ap (λ l. c ∷ l) (writes-all cells)
 
-writes-none : (t : ℕ) (nexts : List ℕ) → writes (release_all t nexts) ≡ []
+writes-none : (t : ℕ) (nexts : List ℕ) → writes (release_all 0 t nexts) ≡ []
 writes-none t [] = refl
 writes-none t (n ∷ nexts) = writes-none t nexts
 
@@ -93,8 +93,8 @@ module _ (p : Plan) (is : IsPlan p) (t : ℕ) (task : t < length p.graph.tasks) 
     finished-writes : (u : ℕ) → writes (finished_events p q u) ≡ p.order u
     finished-writes u =
         let nexts = filter (λ next. not (q.owed u next)) (after_of p.graph u) in
-        writes-both (write_all (p.order u)) (Finish 0 u ∷ release_all u nexts)
-        ∙ ap (λ l. l ++ writes (release_all u nexts)) (writes-all (p.order u)) ∙ ap (λ l. p.order u ++ l) (writes-none u nexts) ∙ append-nil (p.order u)
+        writes-both (write_all 0 (p.order u)) (Finish 0 u ∷ release_all 0 u nexts)
+        ∙ ap (λ l. l ++ writes (release_all 0 u nexts)) (writes-all (p.order u)) ∙ ap (λ l. p.order u ++ l) (writes-none u nexts) ∙ append-nil (p.order u)
 
     begun-writes : (u : ℕ) → writes (begun_events p q u) ≡ filter (λ c. is_some (q.value c)) (p.order u)
     begun-writes u = writes-all (filter (λ c. is_some (q.value c)) (p.order u))

@@ -63,7 +63,7 @@ range-once n i j below inside same = omega (arith, at i below, at j inside, same
 -- the first n finished tasks have been through all their events, and the others through none
 pub record Follows (p : Plan) (q : Snapshot) (n : ℕ) (s : State) : Type 0 where
   pub sound : IsSound p s
-  pub alone : IsAlone s
+  pub alone : IsAlone 0 s
   pub finished : s.finished ≡ n
   pub done : (t m : ℕ) → q.number t ≡ Some m → m < n → s.number t ≡ Some m
   pub was : (t m : ℕ) → s.number t ≡ Some m → (q.number t ≡ Some m) × (m < n)
@@ -117,19 +117,19 @@ module _ (p : Plan) (is : IsPlan p) (q : Snapshot) (good : IsSoundSnapshot p q) 
     s1 = happens p s (Start 0 t)
 
     abbrev s2 : State
-    s2 = all_happen p s1 (write_all (p.order t))
+    s2 = all_happen p s1 (write_all 0 (p.order t))
 
     abbrev s3 : State
     s3 = happens p s2 (Finish 0 t)
 
     abbrev s4 : State
-    s4 = all_happen p s3 (release_all t nexts)
+    s4 = all_happen p s3 (release_all 0 t nexts)
 
     w : HasWritten s1 s2 (p.order t)
-    w = writes-done p (p.order t) s1
+    w = writes-done p 0 (p.order t) s1
 
-    r : HasReleased s3 s4 t nexts
-    r = releases-done p t nexts s3
+    r : HasReleased 0 s3 s4 t nexts
+    r = releases-done p 0 t nexts s3
 
     run-2 : s2.runner t ≡ Some 0
     run-2 = ap (λ (g : ℕ → Option ℕ). g t) w.runner ∙ with-same s.runner t (Some 0) t refl
@@ -137,10 +137,10 @@ module _ (p : Plan) (is : IsPlan p) (q : Snapshot) (good : IsSoundSnapshot p q) 
     pub block-enabled : AllEnabled p s (finished_events p q t)
     block-enabled = (
       (holds, not-started),
-      both-enabled p (write_all (p.order t)) (Finish 0 t ∷ release_all t nexts) s1
-          (writes-enabled p t (p.order t) s1 own (is.once t is-task) (with-same s.runner t (Some 0) t refl) not-done empty) (
+      both-enabled p (write_all 0 (p.order t)) (Finish 0 t ∷ release_all 0 t nexts) s1
+          (writes-enabled p 0 t (p.order t) s1 own (is.once t is-task) (with-same s.runner t (Some 0) t refl) not-done empty) (
             (run-2, ap (λ (g : ℕ → Option ℕ). g t) w.quiet.number ∙ not-done, λ c h. w.new c ((is.listed t c is-task).1 h)),
-            releases-enabled p t nexts s3 (once-filter (λ next. not (q.owed t next)) (after_of p.graph t) (is.graph.linked.after_once t))
+            releases-enabled p 0 t nexts s3 (once-filter (λ next. not (q.owed t next)) (after_of p.graph t) (is.graph.linked.after_once t))
                 (λ v h. (filter_in (λ next. not (q.owed t next)) (after_of p.graph t) v h).0)
                 (λ v h. ap (λ (g : ℕ → ℕ → Bool). g t v) w.quiet.released ∙ not-true (s.released t v) (λ e. not-none (s.number t) not-done (f.sound.counts.releases t v e)))
                 (some-of (s3.number t) s2.finished (with-same s2.number t (Some s2.finished) t refl)) run-2,
@@ -148,7 +148,7 @@ module _ (p : Plan) (is : IsPlan p) (q : Snapshot) (good : IsSoundSnapshot p q) 
     )
 
     block-happens : s4 ≡ all_happen p s (finished_events p q t)
-    block-happens = sym (both-happen p (write_all (p.order t)) (Finish 0 t ∷ release_all t nexts) s1)
+    block-happens = sym (both-happen p (write_all 0 (p.order t)) (Finish 0 t ∷ release_all 0 t nexts) s1)
 
     number-4 : s4.number ≡ with s.number t (Some n)
     number-4 = r.number ∙ ap (λ (g : ℕ → Option ℕ). with g t (Some s2.finished)) w.quiet.number ∙ ap (λ k. with s.number t (Some k)) (w.quiet.finished ∙ f.finished)
@@ -328,10 +328,10 @@ module _ (p : Plan) (is : IsPlan p) (q : Snapshot) (good : IsSoundSnapshot p q) 
     t1 = happens p s (Start 0 t)
 
     abbrev t2 : State
-    t2 = all_happen p t1 (write_all mine)
+    t2 = all_happen p t1 (write_all 0 mine)
 
     x : HasWritten t1 t2 mine
-    x = writes-done p mine t1
+    x = writes-done p 0 mine t1
 
     own-mine : (c : ℕ) → Contains mine c → Contains (cells_of p.graph t) c
     own-mine c h = (is.listed t c b.task).0 (filter_in (λ d. is_some (q.value d)) (p.order t) c h).0
@@ -344,7 +344,7 @@ module _ (p : Plan) (is : IsPlan p) (q : Snapshot) (good : IsSoundSnapshot p q) 
     begun-enabled : AllEnabled p s (begun_events p q t)
     begun-enabled = (
       (begun-holds, f.idle t (in_head t ts)),
-      writes-enabled p t mine t1 own-mine (once-filter (λ c. is_some (q.value c)) (p.order t) (is.once t b.task)) (with-same s.runner t (Some 0) t refl)
+      writes-enabled p 0 t mine t1 own-mine (once-filter (λ c. is_some (q.value c)) (p.order t) (is.once t b.task)) (with-same s.runner t (Some 0) t refl)
           (ap (λ (g : ℕ → Option ℕ). g t) f.quiet.number ∙ number-0 t ∙ b.open_) (λ c h. f.empty t c (in_head t ts) (own-mine c h)),
     )
 
@@ -353,7 +353,7 @@ module _ (p : Plan) (is : IsPlan p) (q : Snapshot) (good : IsSoundSnapshot p q) 
 
     begun-comes : Comes ts (all_happen p s (begun_events p q t))
     begun-comes = record {
-      quiet = quiet-both s0 s t2 f.quiet (quiet-both s t1 t2 (record { count = refl; holder = refl; number = refl; released = refl; finished = refl }) x.quiet);
+      quiet = quiet-both s0 s t2 f.quiet (quiet-both s t1 t2 (record { count = refl; holder = refl; number = refl; released = refl; finished = refl; given = refl }) x.quiet);
       idle = λ u h. ap (λ (g : ℕ → Option ℕ). g u) x.runner ∙ with-other s.runner t (Some 0) u (λ e. once-head t ts once (subst (Contains ts) e h)) ∙ f.idle u (in_tail t u ts h);
       empty = λ u c h own. none-of (t2.value c) (λ some. ⊎_elim
           (λ (new : Contains mine c). apart u c h own (own-mine c new))

@@ -1,10 +1,10 @@
-ghost use Rattle.std.specs.Prelude.{◌≡◌, ◌<◌, ◌≤◌, ◌↔◌, IfOk, IsTrue, length};
+ghost use Rattle.std.specs.Prelude.{◌≡◌, ◌<◌, ◌≤◌, ◌↔◌, IfOk, IsTrue, length, slice_index_or};
 ghost use Rattle.pb_taskgraph.specs.Graphs.{cells_of};
 ghost use Rattle.pb_taskgraph.specs.Plans.{IsPlan, outcome_at};
 ghost use Rattle.pb_core.specs.declared.event.Event.TheVariants.{Finish, Give, Release, Start, Write};
 ghost use Rattle.pb_core.specs.States.{first_state};
 ghost use Rattle.pb_core.specs.Events.{AllFinished, IsReached};
-ghost use Rattle.pb_core.specs.Cores.{FindsLink, FindsWriter, Steps, TellsWritten, state_of};
+ghost use Rattle.pb_core.specs.Cores.{FindsLink, FindsWriter, Steps, TellsWritten, state_of, untouched};
 
 use crate::event::{Event, NotEnabled};
 use crate::first::{first_links, first_outcomes, first_tasks, first_written};
@@ -77,7 +77,8 @@ impl<'w, W: Work, N: NamesWork> Core<'w, W, N> {
         start_task(&mut self.tasks, hand, task)
     }
 
-    fn graph(&self) -> &TaskGraph
+    /// The graph of the work.
+    pub fn graph(&self) -> &'w TaskGraph
         ensures graph { result.now ≡ N.plan.graph }
         ensures plan { IsPlan N.plan }
     {
@@ -215,6 +216,14 @@ impl<'w, W: Work, N: NamesWork> Core<'w, W, N> {
         ensures { result ≡ (state_of N.plan self.now).number task }
     {
         progress_of(&self.tasks, task).number
+    }
+
+    /// What a task has come to.
+    pub fn progress(&self, task: u32) -> Progress
+        requires { task < length N.plan.graph.tasks }
+        ensures { result ≡ slice_index_or self.now.tasks task untouched }
+    {
+        progress_of(&self.tasks, task)
     }
 
     /// Whether all tasks are finished. Events led to the state of any machine.

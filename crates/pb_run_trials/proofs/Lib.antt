@@ -1,2 +1,3 @@
-pub mod SumsLemmas
+pub mod PairLemmas
 pub mod PlanLemmas
+pub mod SumsLemmas

@@ -1,0 +1,4 @@
+pub mod BoardLemmas
+pub mod CompleteLemmas
+pub mod ScanLemmas
+pub mod TakeLemmas
