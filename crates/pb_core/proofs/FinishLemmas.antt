@@ -30,7 +30,7 @@ use Rattle.pb_core.proofs.WithLemmas.{of-some, some-of}
 use Rattle.pb_core.proofs.WriteLemmas.{cond-is, sound}
 
 -- numbers below another, each once, are at most so many
-few : (xs : List ℕ) (n : ℕ) → EachOnce xs → ((x : ℕ) → Contains xs x → x < n) → length xs ≤ n
+pub few : (xs : List ℕ) (n : ℕ) → EachOnce xs → ((x : ℕ) → Contains xs x → x < n) → length xs ≤ n
 few xs n once below = length-le_from_distinct_below xs n
     (IsDistinct-from_apart eqb xs (λ i j d before inside. grind (arith, nat_tests, once i j (omega arith) inside, get_or_default xs i 0 d (omega arith), get_or_default xs j 0 d inside)))
     (λ q h. below q (Contains-from_any eqb-true q xs h))

@@ -13,7 +13,7 @@ use Rattle.pb_values.specs.Views.{cell_of, row_cells, view_cells}
 use Rattle.pb_taskgraph.specs.Graphs.{after_of, cells_of}
 use Rattle.pb_taskgraph.specs.Plans.{IsPlan, Plan, outcome_at}
 use Rattle.pb_taskgraph.specs.declared.limits.TheConstants.{MOST_CELLS}
-use Rattle.pb_taskgraph.proofs.PlanLemmas.{few}
+use Rattle.pb_core.proofs.FinishLemmas.{few}
 use Rattle.pb_core.specs.declared.event.Event.{Event}
 use Rattle.pb_core.specs.declared.event.Event.TheVariants.{Finish, Write}
 use Rattle.pb_core.specs.declared.event.NotEnabled.{NotEnabled}
