@@ -70,7 +70,7 @@ use Rattle.pb_runs.proofs.JobLemmas.{made_own, made_value, own_cells}
 use Rattle.pb_runs.proofs.NameLemmas.{IsNamed}
 use Rattle.pb_runs.proofs.OutputLemmas.{Holds, holds_is, in_output, one_output, some_output}
 use Rattle.pb_runs.proofs.SoundLemmas.{Cells, IsLaid, IsMade, Sound, cells_append, sound_append, sound_more, with_cells}
-use Rattle.pb_runs.proofs.OwnLemmas.{side_below}
+use Rattle.pb_runs.proofs.ReadLemmas.{cell_there, job_reads}
 use Rattle.pb_runs.proofs.SpotLemmas.{IsCellAt, cell_has, cell_moved, place_of_spot, spot_back, spot_place}
 use Rattle.pb_runs.proofs.ViewLemmas.{IsLocal, has_matrix, span_is}
 use Rattle.pb_runs.specs.Placed.{SpotCell, outcome_of}
@@ -165,14 +165,6 @@ module _ (config : ConfigValue) (ms : List Outcomes) (p : List ProgTransform) (i
     base_is part n there = ap (λ o. option_map_or (λ (q : NodeValue). q.matrix) o 0) there
 
     -- ---- where its cells stand
-    made_there : (c : Cell) → IsMadeCell t i.sizes c → IsCellAt ms (seat_in i c.matrix).base (base_x (seat_in i c.matrix) c.x c.y) (base_y (seat_in i c.matrix) c.x c.y) (number_at i c)
-    made_there c made =
-        let d = made.cell.decl in
-        let h = has_matrix ms i lm local c.matrix d made.cell.there in
-        let on_x = side_below (exact_value d.w i.sizes) c.x made.cell.before_x in
-        let on_y = side_below (exact_value d.h i.sizes) c.y made.cell.before_y in
-        cell_has ms (seat_in i c.matrix) h.grid h.placed c.x c.y (omega (arith, on_x, h.sides.width, h.placed.width)) (omega (arith, on_y, h.sides.height, h.placed.height))
-
     -- a place of a part holds a cell
     part_holds : (part : FramePart) → Contains job.parts part → (x y : ℕ) → HasPlace part.rect x y → IsHeld (record { matrix = (spot_of i.found.nodes part).base; x = x; y = y })
     part_holds part of x y place =
@@ -183,7 +175,7 @@ module _ (config : ConfigValue) (ms : List Outcomes) (p : List ProgTransform) (i
     held_there : (c : Cell) (h : IsHeld c) → IsCellAt ms (seat_in i (spot_of i.found.nodes h.part).base).base (base_x (seat_in i (spot_of i.found.nodes h.part).base) c.x c.y) (base_y (seat_in i (spot_of i.found.nodes h.part).base) c.x c.y) (number_at i c)
     held_there c h =
         let base : (spot_of i.found.nodes h.part).base ≡ c.matrix = base_is h.part h.holds.node h.holds.there ∙ h.holds.matrix in
-        subst (λ m. IsCellAt ms (seat_in i m).base (base_x (seat_in i m) c.x c.y) (base_y (seat_in i m) c.x c.y) (number_at i c)) (sym base) (made_there c (held_cell c h))
+        subst (λ m. IsCellAt ms (seat_in i m).base (base_x (seat_in i m) c.x c.y) (base_y (seat_in i m) c.x c.y) (number_at i c)) (sym base) (cell_there config ms p i grain at lm local c (held_cell c h).cell)
 
     pub job_laid : IsLaid config ms (by_job i job)
     unfolding cells_of
@@ -203,7 +195,10 @@ module _ (config : ConfigValue) (ms : List Outcomes) (p : List ProgTransform) (i
           let q = place_of_spot seat f.0.rect u v (subst (λ (z : Spot). HasPlace z.rect u v) (sym f.2) has) in
           let c : Cell = record { matrix = (spot_of i.found.nodes f.0).base; x = q.0; y = q.1 } in
           let held = part_holds f.0 f.1 q.0 q.1 q.2 in
-          (number_at i c, cell_moved ms seat.base b.base (base_x seat q.0 q.1) (base_y seat q.0 q.1) u v (number_at i c) (ap (λ (z : Spot). z.base) f.2) q.3 q.4 (made_there c (held_cell c held)), held_own c held);
+          (number_at i c, cell_moved ms seat.base b.base (base_x seat q.0 q.1) (base_y seat q.0 q.1) u v (number_at i c) (ap (λ (z : Spot). z.base) f.2) q.3 q.4 (cell_there config ms p i grain at lm local c (held_cell c held).cell), held_own c held);
+      reads = λ n h.
+          let b = job_reads config ms p i grain at lm local j job e h.0 h.1 h.2 h.3 in
+          (b.0, b.1, b.2, b.3, b.4, subst (IsCellAt ms b.0.base b.2 b.3) h.4 b.5);
       held = λ n h.
           let c = own_held n h in
           let spot = spot_of i.found.nodes c.1.part in
@@ -458,8 +453,27 @@ module _ (config : ConfigValue) (ms : List Outcomes) (p : List ProgTransform) (i
               let c : Cell = record { matrix = (spot_of i.found.nodes whole.0).base; x = q.0; y = q.1 } in
               let held = part_holds whole.0 among.0 q.0 q.1 places.1 in (
                 number_at i c,
-                cell_moved ms seat.base b.base (base_x seat q.0 q.1) (base_y seat q.0 q.1) u v (number_at i c) (ap (λ (z : Spot). z.base) is) q.3 q.4 (made_there c (held_cell c held)),
+                cell_moved ms seat.base b.base (base_x seat q.0 q.1) (base_y seat q.0 q.1) u v (number_at i c) (ap (λ (z : Spot). z.base) is) q.3 q.4 (cell_there config ms p i grain at lm local c (held_cell c held).cell),
                 in_copy o c held (sym (eqb-true (spot_of i.found.nodes whole.0).base o.matrix on.0)) places.0,
+              );
+          reads = λ n h.
+              let s = h.0 in
+              let k = copied_is o s h.1 in
+              let made = held_cell (stop_cell s) k.held in
+              let ends = source_sides (stop_cell s) k.held made.cell.decl (ap (slice_get t.matrices) k.matrix ∙ made.cell.there) in
+              let part = within (out_rect o) k.held.part in
+              let cut = place_cut (out_rect o) k.held.part.rect s.x s.y k.place k.held.holds.place in
+              let x = s.x - (out_rect o).x0 in
+              let y = s.y - (out_rect o).y0 in
+              let on_x : x < across source = omega (arith, k.place.left, k.place.right, ends.0) in
+              let on_y : y < down source = omega (arith, k.place.low, k.place.high, ends.1) in
+              let place : HasPlace (from_corner copied.corner part.rect) x y = record { left = omega (arith, cut.left); right = omega (arith, cut.right, k.place.left); low = omega (arith, cut.low); high = omega (arith, cut.high, k.place.low) } in (
+                spot_at source (from_corner copied.corner part.rect),
+                in_map (λ (q : FramePart). spot_at source (from_corner copied.corner q.rect)) (output_parts i job o) part (in_map (within (out_rect o)) (filter (is_part_of i o) job.parts) k.held.part (in_at (filter (is_part_of i o) job.parts) s.piece k.held.part k.index)),
+                base_x source x y,
+                base_y source x y,
+                spot_place source (from_corner copied.corner part.rect) x y place,
+                subst (IsCellAt ms source.base (base_x source x y) (base_y source x y)) h.2 (cell_has ms source (named no_grid mm (slot.Out m)) named_is.placed x y on_x on_y),
               );
           held = λ n h.
               let s = map_in (stop_number i) (walk_of [] (pieces o)) n h in

@@ -205,6 +205,7 @@ module _ (config : ConfigValue) (ms : List Outcomes) where
   unfolding cells_of
   trap_laid call o seats whole = record {
     shown = λ b h u v has. absurd (in_none b h);
+    reads = λ c none. absurd none;
     parts = λ b h u v has.
         let f = map_in (λ (s : Seat). record { base = s.base; rect = s.rect }) seats b h in
         let s = f.0 in

@@ -18,6 +18,7 @@ pub mod CopyLemmas
 pub mod PlanLemmas
 pub mod FoldLemmas
 pub mod InstanceLemmas
+pub mod ReadLemmas
 pub mod RunLemmas
 pub mod TallyLemmas
 pub mod ChosenLemmas

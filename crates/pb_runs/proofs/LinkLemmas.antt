@@ -17,6 +17,7 @@ use Rattle.pb_check.proofs.FirstLemmas.{some_same}
 use Rattle.pb_plan.proofs.NumberLemmas.{row_below, row_once}
 use Rattle.pb_runs.specs.Laws.{IsEntered, IsLinked}
 use Rattle.pb_runs.specs.Placed.{SpotCell, before}
+use Rattle.pb_runs.specs.Right.{ReadsNumber}
 use Rattle.pb_runs.specs.Steps.{Step, boxes_of, cells_in, cells_of, parts_of, places_of}
 use Rattle.pb_runs.proofs.CountLemmas.{counted, counted_append, in_counted}
 use Rattle.pb_runs.proofs.OwnLemmas.{number_once}
@@ -145,3 +146,9 @@ module _ (p : List ProgTransform) (found : List AnalysisValue) (config : ConfigV
   parts_cells k s e c b there cell =
       let made = (run_laid p found config grain depth number ins h k s e).parts b there cell.x cell.y cell.has in
       subst (Contains (cells_of s)) (shown_cell all b c made.0 cell made.1) made.2
+
+  -- what a step reads is in its boxes
+  pub reads_boxed : (k : ℕ) (s : Step) → slice_get steps k ≡ Some s → (c : ℕ) → ReadsNumber config s c → (b : Spot) × Contains (boxes_of s) b × SpotCell all b c
+  reads_boxed k s e c reading =
+      let b = (run_laid p found config grain depth number ins h k s e).reads c reading in
+      (b.0, b.1, spot_shown all b.0 b.0.base b.2 b.3 c refl b.4 b.5)

@@ -7,7 +7,7 @@ use Rattle.pb_values.specs.Views.{HasPlace}
 use Rattle.pb_program.specs.Configs.{ConfigValue}
 use Rattle.pb_model.specs.Calls.{Outcomes}
 use Rattle.pb_base.proofs.ListLemmas.{in_none}
-use Rattle.pb_runs.specs.Right.{IsRight}
+use Rattle.pb_runs.specs.Right.{IsRight, ReadsNumber}
 use Rattle.pb_runs.specs.Seats.{Seat}
 use Rattle.pb_runs.specs.Steps.{Step, boxes_of, cells_in, cells_of, parts_of}
 use Rattle.pb_runs.specs.Unrolled.{Met, Unrolled}
@@ -33,10 +33,11 @@ cells_append (s ∷ xs) ys = ap (λ l. cells_of s ++ l) (cells_append xs ys) ∙
     assoc (x ∷ xs) ys zs = ap (λ l. x ∷ l) (assoc xs ys zs)
 
 module _ (config : ConfigValue) (ms : List Outcomes) where
-  -- what a step reads is there, and the places of its parts are its cells
+  -- what a step reads is in its boxes, these are there, and the places of its parts are its cells
   pub record IsLaid (s : Step) : Type 0 where
     pub shown : (b : Spot) → Contains (boxes_of s) b → (x y : ℕ) → HasPlace b.rect x y → (c : ℕ) × IsCellAt ms b.base x y c
     pub parts : (b : Spot) → Contains (parts_of s) b → (x y : ℕ) → HasPlace b.rect x y → (c : ℕ) × IsCellAt ms b.base x y c × Contains (cells_of s) c
+    pub reads : (c : ℕ) → ReadsNumber config s c → (b : Spot) × Contains (boxes_of s) b × (x : ℕ) × (y : ℕ) × HasPlace b.rect x y × IsCellAt ms b.base x y c
     pub held : (c : ℕ) → Contains (cells_of s) c → (b : Spot) × Contains (parts_of s) b × (x : ℕ) × (y : ℕ) × HasPlace b.rect x y × IsCellAt ms b.base x y c
 
   -- a step is right, and reads what is known or what it makes

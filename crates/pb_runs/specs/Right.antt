@@ -3,6 +3,7 @@ use Rattle.std.specs.Prelude.{◌≡◌, ℕ, ◌-◌, List, map}
 use Rattle.std.specs.List.{Contains}
 use Rattle.pb_program.specs.Configs.{ConfigValue}
 use Rattle.pb_model.specs.Calls.{Outcomes, Plans, cell_equation, cell_reads, no_outcome}
+use Rattle.pb_model.specs.Cells.{Cell}
 use Rattle.pb_walk.specs.declared.stop.Stop.{Stop}
 use Rattle.pb_solution.specs.Solutions.{stop_cell, stops_of}
 use Rattle.pb_runs.specs.Seats.{cell_at}
@@ -28,3 +29,9 @@ module _ (config : ConfigValue) (ms : List Outcomes) where
   IsRight (by_job i job) = (s : Stop) → Contains (stops_of i.found.nodes i.found.order.layers job) s → IsMadeByRule i s
   IsRight (by_copy i c) = (s : Stop) → Contains (copied_stops i c) s → outcome_of ms (stop_number i s) ≡ outcome_of ms (source_number c s)
   IsRight (by_trap f) = (k : ℕ) → Contains (cells_of (by_trap f)) k → outcome_of ms k ≡ f.outcome
+
+-- the cell with this number is read: by a job, for a cell that it makes, as its chosen rule says; by a copy, for a cell that it copies
+abbrev pub ReadsNumber : ConfigValue → Step → ℕ → Type 0
+ReadsNumber config (by_job i job) n = (s : Stop) × Contains (stops_of i.found.nodes i.found.order.layers job) s × (d : Cell) × Contains (cell_reads config no_plans i.number i.transform i.sizes (stop_cell s)) d × (number_at i d ≡ n)
+ReadsNumber config (by_copy i c) n = (s : Stop) × Contains (copied_stops i c) s × (source_number c s ≡ n)
+ReadsNumber config (by_trap f) n = ⊥

@@ -12,7 +12,7 @@ ghost use Rattle.pb_recursion.specs.Depths.{call_at, sides_of_matrix};
 ghost use Rattle.pb_runs.specs.Laws.{IsEntered, IsLinked, IsThere};
 ghost use Rattle.pb_runs.specs.Matrices.{run_matrices};
 ghost use Rattle.pb_runs.specs.Placed.{IsPlaced, SpotCell, greatest_side, total};
-ghost use Rattle.pb_runs.specs.Right.{IsRight};
+ghost use Rattle.pb_runs.specs.Right.{IsRight, ReadsNumber};
 ghost use Rattle.pb_runs.specs.Steps.{Step, boxes_of, cells_in, cells_of, parts_of, places_of};
 ghost use Rattle.pb_runs.specs.Unrolled.{unrolled_run};
 
@@ -37,7 +37,7 @@ pub fn each_cell_of_a_run_is_made_once()
         → (c : ℕ) → Contains (cells_in (unrolled_run p found config grain depth number (map sides_of_matrix ins)).steps) c ↔ ((total ins ≤ c) × (c < total (run_matrices p found config grain depth number ins))) }
 {}
 
-/// A law: each cell of a box that a step reads is given, or made by a step before it, or by the step itself.
+/// A law: each cell of a box of a step is given, or made by a step before it, or by the step itself.
 pub fn what_a_step_reads_is_made_before()
     ensures { (p : List ProgTransform) (found : List AnalysisValue) (config : ConfigValue) (grain depth number : ℕ) (ins : List Outcomes) → IsEntered p found config number ins
         → (k : ℕ) (s : Step) → slice_get (unrolled_run p found config grain depth number (map sides_of_matrix ins)).steps k ≡ Some s → (b : Spot) → Contains (boxes_of s) b
@@ -62,13 +62,20 @@ pub fn the_parts_of_a_step_have_its_cells()
         → (c : ℕ) → Contains (cells_of s) c ↔ ((b : Spot) × Contains (parts_of s) b × SpotCell (run_matrices p found config grain depth number ins) b c) }
 {}
 
-/// A law: a step waits for earlier steps alone. It waits for each other step of which a part meets a box that it reads.
+/// A law: what a step reads lies in its boxes: what the chosen rules of the cells of a job read, and the sources of a copy.
+pub fn what_a_step_reads_lies_in_its_boxes()
+    ensures { (p : List ProgTransform) (found : List AnalysisValue) (config : ConfigValue) (grain depth number : ℕ) (ins : List Outcomes) → IsEntered p found config number ins
+        → (k : ℕ) (s : Step) → slice_get (unrolled_run p found config grain depth number (map sides_of_matrix ins)).steps k ≡ Some s
+        → (c : ℕ) → ReadsNumber config s c → (b : Spot) × Contains (boxes_of s) b × SpotCell (run_matrices p found config grain depth number ins) b c }
+{}
+
+/// A law: a step waits for earlier steps alone, where it waits for each other step of which a part meets one of its boxes.
 pub fn a_step_waits_for_earlier_ones()
     ensures { (p : List ProgTransform) (found : List AnalysisValue) (config : ConfigValue) (grain depth number : ℕ) (ins : List Outcomes) → IsEntered p found config number ins
         → (k u : ℕ) → Contains (predecessors (map places_of (unrolled_run p found config grain depth number (map sides_of_matrix ins)).steps) k) u → u < k }
 {}
 
-/// A law: each cell of a box that a step reads is given, or made by a step for which it waits, or by the step itself.
+/// A law: each cell of a box of a step is given, or made by a step for which it waits, or by the step itself.
 pub fn what_a_step_reads_is_linked()
     ensures { (p : List ProgTransform) (found : List AnalysisValue) (config : ConfigValue) (grain depth number : ℕ) (ins : List Outcomes) → IsEntered p found config number ins
         → (k : ℕ) (s : Step) → slice_get (unrolled_run p found config grain depth number (map sides_of_matrix ins)).steps k ≡ Some s → (b : Spot) → Contains (boxes_of s) b
