@@ -1,0 +1,11 @@
+//! How many calls and cells a run has, and its greatest side, before anything is made.
+//!
+//! In: an accepted program and the sides of matrices. Out: the sides that a plan's matrices have, the sizes that they bind,
+//! whether they fit a transform, and a tally: calls, greatest side and cells, none above `TALLY_TOP`.
+#![tactic(auto)]
+
+mod laws;
+mod tally;
+
+pub use laws::{a_tally_tells_each_limit, tallies_add_up};
+pub use tally::{TALLY_TOP, Tally};
