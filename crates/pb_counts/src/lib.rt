@@ -5,7 +5,9 @@
 #![tactic(auto)]
 
 mod laws;
+mod sides;
 mod tally;
 
 pub use laws::{a_tally_tells_each_limit, tallies_add_up};
+pub use sides::{sides_of_decl, sides_of_slot, sides_of_view};
 pub use tally::{TALLY_TOP, Tally};
