@@ -1,1 +1,4 @@
+pub mod BindingLemmas
+pub mod FittingLemmas
+pub mod RowLemmas
 pub mod SideLemmas

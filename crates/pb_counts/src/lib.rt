@@ -4,10 +4,15 @@
 //! whether they fit a transform, and a tally: calls, greatest side and cells, none above `TALLY_TOP`.
 #![tactic(auto)]
 
+mod binding;
+mod fitting;
 mod laws;
 mod sides;
+mod standing;
 mod tally;
 
+pub use binding::bind;
+pub use fitting::{can_enter, fits};
 pub use laws::{a_tally_tells_each_limit, tallies_add_up};
 pub use sides::{sides_of_decl, sides_of_slot, sides_of_view};
 pub use tally::{TALLY_TOP, Tally};

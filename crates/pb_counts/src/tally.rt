@@ -16,7 +16,7 @@ pub struct Tally {
 }
 
 /// A side, 0 in the place of a negative one.
-fn natural(side: i64) -> u64
+pub(crate) fn natural(side: i64) -> u64
     ensures { result ≡ natural side }
 {
     if side < 0 { 0 } else { side as u64 }
