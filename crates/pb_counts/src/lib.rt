@@ -5,14 +5,18 @@
 #![tactic(auto)]
 
 mod binding;
+mod failed;
 mod fitting;
 mod laws;
+mod matrices;
 mod sides;
 mod standing;
 mod tally;
 
 pub use binding::bind;
+pub use failed::failed_call;
 pub use fitting::{can_enter, fits};
 pub use laws::{a_tally_tells_each_limit, tallies_add_up};
+pub use matrices::{of_decls, of_matrices};
 pub use sides::{sides_of_decl, sides_of_slot, sides_of_view};
 pub use tally::{TALLY_TOP, Tally};
