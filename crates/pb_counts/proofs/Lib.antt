@@ -1,4 +1,5 @@
 pub mod BindingLemmas
+pub mod FittedLemmas
 pub mod FittingLemmas
 pub mod RowLemmas
 pub mod SideLemmas
