@@ -1,0 +1,3 @@
+pub mod Callable
+pub mod Rows
+pub mod Tallies

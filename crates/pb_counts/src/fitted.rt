@@ -1,0 +1,52 @@
+ghost use Rattle.std.specs.Prelude.{◌≡◌, ◌≤◌, IfOk, map};
+ghost use Rattle.std.specs.List.{All};
+ghost use Rattle.pb_linear.specs.Sizes.{sizes_of};
+ghost use Rattle.pb_program.specs.Trees.{bare_prog, bare_rule};
+ghost use Rattle.pb_recursion.specs.Plans.{fits_call, sides_of_slot};
+ghost use Rattle.pb_counts.specs.Callable.{IsCallable};
+
+use crate::fitting::fits;
+use crate::sides::sides_of_slot;
+use pb_linear::{SIZE_TOP, Sizes};
+use pb_program::{PlanCall, Prog, Rule, Slot, Transform};
+use std::alloc::{AllocError, Global};
+
+/// The sides of what some names in a plan name, name by name.
+fn sides_of_slots(
+    alloc: Global,
+    t: &Transform,
+    rule: &Rule,
+    slots: &[Slot],
+    s: &Sizes,
+) -> Result<Vec<(i64, i64)>, AllocError>
+    requires { All (λ size. size ≤ SIZE_TOP) s.now.of }
+    ensures { IfOk result (λ sides. sides.items ≡ map (sides_of_slot t.now.matrices (sizes_of s.now) (bare_rule rule.now)) slots.now) }
+{
+    let mut sides = Vec::new(alloc);
+    for slot in slots {
+        sides.push(sides_of_slot(t, rule, *slot, s))?;
+    }
+    Ok(sides)
+}
+
+/// Whether what a call in a plan of transform `t` gives fits the transform that it calls, and so does what it wants, at sizes of
+/// at most `SIZE_TOP`. A call of a transform that isn't there fits nothing.
+pub fn fits_call(
+    alloc: Global,
+    p: &Prog,
+    t: &Transform,
+    rule: &Rule,
+    call: &PlanCall,
+    s: &Sizes,
+) -> Result<bool, AllocError>
+    requires sizes { All (λ size. size ≤ SIZE_TOP) s.now.of }
+    requires program { All IsCallable (bare_prog p.now) }
+    ensures { IfOk result (λ fits. fits ≡ fits_call t.now.matrices (sizes_of s.now) (bare_prog p.now) (bare_rule rule.now) call.now) }
+{
+    let Some(called) = p.transforms.get(call.transform as usize) else {
+        return Ok(false);
+    };
+    let given = sides_of_slots(alloc, t, rule, &call.arguments, s)?;
+    let wanted = sides_of_slots(alloc, t, rule, &call.targets, s)?;
+    Ok(fits(called, &given, &wanted))
+}
