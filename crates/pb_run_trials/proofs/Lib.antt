@@ -1,3 +1,2 @@
-pub mod PairLemmas
-pub mod PlanLemmas
 pub mod SumsLemmas
+pub mod PlanLemmas
