@@ -1,9 +1,10 @@
 -- Rules: where nothing is wrong with their names, all of each is as a well-formed program has it.
-use Rattle.std.proofs.Common.{◌≡◌, refl, ℕ, Bool, true, false, List, [], map, length, subst, arith}
+use Rattle.std.proofs.Common.{◌≡◌, ◌∙◌, refl, sym, ℕ, Bool, true, false, List, [], map, length, subst, arith}
 use Rattle.std.specs.List.{AllByRecursion, flat_map}
 use Rattle.std.proofs.lemmas.List.{length-map}
 use Rattle.pb_syntax.specs.Trees.{RuleTree}
 use Rattle.pb_syntax.specs.WithinLimits.{RuleWithin}
+use Rattle.pb_syntax.specs.declared.tree.view.UseText.{UseText}
 use Rattle.pb_program.specs.declared.view.Read.{Read}
 use Rattle.pb_program.specs.Stmts.{stmts}
 use Rattle.pb_program.specs.WellFormed.{Around, AreStmts, IsRule, KindFits, around}
@@ -43,6 +44,7 @@ module _ (sizes transforms : ℕ) (ms : Matrices) (matrices : ℕ) (known : AllB
         let there = body_fits a (inner v r) d.1.sees r.body w.body clean.1.1.1 in
         record {
           some_output = (omega (arith, w.outputs.0), omega (arith, w.outputs.0));
+          names = length-map r.outs (λ (u : UseText). u.bound) ∙ sym many_outs;
           few_reads = omega (arith, w.reads.0);
           few_conditions = omega (arith, w.conds.0);
           few_statements = omega (arith, w.few_statements, body_count (inner v r) r.body);

@@ -196,6 +196,7 @@ rule_kept ms v r = rw (
   inner_kept v r,
   cell_kept v r.outs,
   outs_kept ms v r.outs,
+  made_kept unplaced_use unplaced_name (λ (u : UseText). u.bound) (λ (u : UseText). u.bound) (λ u. refl) r.outs,
   seen_after_outs v r.outs,
   reads_kept ms (after_outs v r.outs) r.reads,
   same_kept unplaced_cond (cond_of (inner v r)) (cond_kept (inner v r)) r.conds,

@@ -79,6 +79,7 @@ rule_of ms v r = record {
   priority = priority_of r.mark;
   kind = kind_by (is_plan v r) (is_cell v r.outs);
   outs = outs_of ms v r.outs;
+  names = map (λ (u : UseText). u.bound) r.outs;
   reads = reads_of ms (after_outs v r.outs) r.reads;
   conds = map (cond_of (inner v r)) r.conds;
   body = body_of (inner v r) r.body;

@@ -138,7 +138,7 @@ body_sync = view_sync Inside-body.the_row _ _ _ _ (declared_sync Inside-body.the
 
 rule_sync : IsSync Rule.the_row
 rule_sync = view_sync Inside-rule.the_row _ _ _ _ (declared_sync Inside-rule.the_type
-    (u32, (kind.the_sync, (Vec-sync _ read.the_sync, (Vec-sync _ read.the_sync, (Vec-sync _ cond.the_sync, (body_sync, tt)))))))
+    (u32, (kind.the_sync, (Vec-sync _ read.the_sync, (Vec-sync _ name.the_sync, (Vec-sync _ read.the_sync, (Vec-sync _ cond.the_sync, (body_sync, tt))))))))
 
 pub transform_sync : IsSync Transform.the_row
 transform_sync = view_sync Inside-transform.the_row _ _ _ _ (declared_sync Inside-transform.the_type

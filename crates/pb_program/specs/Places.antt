@@ -74,6 +74,7 @@ unplaced_prog_rule r = record {
   priority = r.priority;
   kind = r.kind;
   outs = map unplaced_read r.outs;
+  names = map unplaced_name r.names;
   reads = map unplaced_read r.reads;
   conds = r.conds;
   body = map unplaced_statement r.body;

@@ -15,6 +15,7 @@ pub record ProgRule : Type 0 where
   pub priority : ℕ
   pub kind : RuleKind
   pub outs : List Read
+  pub names : List NameValue
   pub reads : List Read
   pub conds : List Cond
   pub body : List StmtValue
@@ -34,6 +35,7 @@ bare_rule r = record {
   priority = r.priority;
   kind = r.kind;
   outs = r.outs;
+  names = r.names;
   reads = r.reads;
   conds = r.conds;
   body = map bare_stmt r.body.stmts;

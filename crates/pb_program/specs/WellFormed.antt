@@ -233,6 +233,7 @@ around sizes transforms r =
 
 pub record IsRule (sizes inputs matrices transforms : ℕ) (r : ProgRule) : Type 0 where
   pub some_output : Counts 1 MOST_VIEWS (length r.outs)
+  pub names : length r.names ≡ length r.outs
   pub few_reads : length r.reads ≤ MOST_VIEWS
   pub few_conditions : length r.conds ≤ MOST_CONDITIONS
   pub few_statements : statements_among (s.stmts r.body) ≤ MOST_STATEMENTS

@@ -1,6 +1,7 @@
 use crate::plan::Plan;
 use crate::statement::Stmt;
 use crate::view::{Cond, Read};
+use pb_values::Name;
 use std::marker::Model;
 
 /// The kinds of rules: one that makes a single cell, whose coordinates are its rule variables; one that computes a region
@@ -12,12 +13,14 @@ pub enum RuleKind {
     Plan,
 }
 
-/// A rule: its priority, 0 first; its kind; the views that it writes and reads; its conditions and its body.
+/// A rule: its priority, 0 first; its kind; the views that it writes, with the names that they have in the body, and those that it
+/// reads; its conditions and its body.
 #[derive(Drop)]
 pub struct Rule {
     pub priority: u32,
     pub kind: RuleKind,
     pub outs: Vec<Read>,
+    pub names: Vec<Name>,
     pub reads: Vec<Read>,
     pub conds: Vec<Cond>,
     pub body: Body,
@@ -36,6 +39,7 @@ impl Model for Rule {
       priority = r.priority;
       kind = r.kind;
       outs = r.outs.items;
+      names = r.names.items;
       reads = r.reads.items;
       conds = r.conds.items;
       body = r.body;

@@ -1,6 +1,7 @@
 -- A rule, part by part.
 use Rattle.std.proofs.Common.{◌≡◌, Bool, map, ap, ◌∙◌}
 use Rattle.pb_syntax.specs.Trees.{RuleTree}
+use Rattle.pb_syntax.specs.declared.tree.view.UseText.{UseText}
 use Rattle.pb_program.specs.Plans.{calls_of}
 use Rattle.pb_program.specs.Stmts.{stmts}
 use Rattle.pb_program.specs.Trees.{ProgRule}
@@ -12,6 +13,7 @@ use Rattle.pb_names.specs.Rules.{body_of, inner, is_cell, is_plan, kind_by, loca
 -- what is found of a rule, each part from what was seen before it
 pub record Found (ms : Matrices) (v : Visible) (r : RuleTree) (x : ProgRule) (v1 v2 : Visible) (planned cell : Bool) : Type 0 where
   pub outs : x.outs ≡ outs_of ms v r.outs
+  pub names : x.names ≡ map (λ (u : UseText). u.bound) r.outs
   pub seen_outs : v1 ≡ after_outs v r.outs
   pub reads : x.reads ≡ reads_of ms v1 r.reads
   pub seen_reads : v2 ≡ after_reads v1 r.reads
@@ -33,4 +35,4 @@ rule_is ms v r x v1 v2 planned cell f =
     let kind : x.kind ≡ kind_by (is_plan v r) (is_cell v r.outs) = f.kind ∙ (λ i. kind_by (is i) (f.cell_is i)) in
     let plan : x.plan ≡ plan_by (is_plan v r) (locals_of (inner v r).names r.body) (calls_of (body_of (inner v r) r.body))
     = f.plan ∙ (λ i. plan_by (is i) (locals_of (seen i).names r.body) (calls_of (body i))) in
-    λ i. record { priority = f.priority i; kind = kind i; outs = f.outs i; reads = reads i; conds = conds i; body = body i; plan = plan i }
+    λ i. record { priority = f.priority i; kind = kind i; outs = f.outs i; names = f.names i; reads = reads i; conds = conds i; body = body i; plan = plan i }

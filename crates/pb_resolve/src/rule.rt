@@ -5,6 +5,7 @@ ghost use Rattle.pb_program.specs.Plans.{calls_of};
 ghost use Rattle.pb_program.specs.Trees.{bare_rule as resolved_rule};
 ghost use Rattle.pb_syntax.specs.Stmts.{bare_stmt};
 ghost use Rattle.pb_syntax.specs.Trees.{bare_rule};
+ghost use Rattle.pb_syntax.specs.declared.tree.view.UseText.{UseText};
 ghost use Rattle.pb_syntax.specs.WithinLimits.{MarkWithin, RuleWithin, StmtWithin};
 ghost use Rattle.pb_names.specs.Faults.{Fails};
 ghost use Rattle.pb_names.specs.Rules.{inner, is_single, kind_by, locals_of, plan_by, priority_of, rule_faults, rule_of};
@@ -12,9 +13,10 @@ ghost use Rattle.pb_resolve.specs.RuleWords.{rule_in, rule_faults_in, IsRuleWith
 ghost use Rattle.pb_resolve.specs.Locals.{IsWithin, local_in};
 
 use crate::scope::Scope;
-use pb_names::{Fault, Matrices, calls, is_single, kind_by, priority_of, some_plans};
+use pb_names::{Fault, Matrices, calls, copy_name, is_single, kind_by, priority_of, some_plans};
 use pb_program::{Body, Decl, Plan, Rule, RuleKind, Stmt};
 use pb_syntax::{MarkText, RuleText, StmtText, UseText};
+use pb_values::Name;
 use std::alloc::AllocError;
 
 impl<'t, 'p> Scope<'t, 'p> {
@@ -31,6 +33,17 @@ impl<'t, 'p> Scope<'t, 'p> {
             }
             _ => Ok(()),
         }
+    }
+
+    /// The names that a body has for its outputs.
+    fn bound_names(&self, outs: &[UseText]) -> Result<Vec<Name>, AllocError>
+        ensures { IfOk result (λ names. names.items ≡ map (λ (u : UseText). u.bound) outs.now) }
+    {
+        let mut names = Vec::new(self.alloc);
+        for out in outs {
+            names.push(copy_name(self.alloc, &out.bound)?)?;
+        }
+        Ok(names)
     }
 
     /// The matrices that statements declare.
@@ -78,6 +91,7 @@ impl<'t, 'p> Scope<'t, 'p> {
     {
         let is_cell = self.is_cell(r.outs.as_slice());
         let single = is_single(r.outs.as_slice());
+        let names = self.bound_names(r.outs.as_slice())?;
         let outs = self.outputs(matrices, single, r.outs.as_slice())?;
         let reads = self.reads(matrices, r.reads.as_slice())?;
         let conds = self.conditions(r.conds.as_slice())?;
@@ -88,6 +102,7 @@ impl<'t, 'p> Scope<'t, 'p> {
             priority: priority_of(r.mark),
             kind: kind_by(is_plan, is_cell),
             outs,
+            names,
             reads,
             conds,
             body: Body { stmts, plan },
