@@ -1,3 +1,4 @@
 pub mod ShapeLemmas
 pub mod DepthLemmas
 pub mod OrderedLemmas
+mod EnterLemmas

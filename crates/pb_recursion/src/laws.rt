@@ -27,6 +27,14 @@ pub fn a_fitting_call_is_given()
     ensures given { (t : ProgTransform) (ins : List Outcomes) → t.inputs ≤ length t.matrices → All IsWhole ins → IsTrue (can_enter t (map sides_of_matrix ins)) → AreGiven t (sizes_given t ins) ins }
 {}
 
+/// A law: matrices that are given to a transform of an accepted program for sizes in range can enter it, and bind these sizes.
+pub fn given_matrices_can_enter()
+    ensures enters { (p : List ProgTransform) (number : ℕ) (t : ProgTransform) (sizes : List ℕ) (ins : List Outcomes) → IsWellFormed p → IsSound p → slice_get p number ≡ Some t → InRange (leasts_of t.ranges) sizes → AreGiven t sizes ins
+        → IsTrue (can_enter t (map sides_of_matrix ins)) }
+    ensures sizes { (p : List ProgTransform) (number : ℕ) (t : ProgTransform) (sizes : List ℕ) (ins : List Outcomes) → IsWellFormed p → IsSound p → slice_get p number ≡ Some t → InRange (leasts_of t.ranges) sizes → AreGiven t sizes ins
+        → sizes_given t ins ≡ sizes }
+{}
+
 /// A law: in an accepted program each call of a plan passes on reads, or what an earlier call has made; and each output is made.
 pub fn a_plan_passes_on_what_is_there()
     ensures { (p : List ProgTransform) (number : ℕ) (t : ProgTransform) (rule : ℕ) (r : ProgRule) → IsWellFormed p → IsSound p → slice_get p number ≡ Some t → slice_get t.rules rule ≡ Some r → r.kind ≡ kind.Plan

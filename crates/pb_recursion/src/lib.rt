@@ -10,4 +10,5 @@ mod laws;
 
 pub use laws::{
     a_fitting_call_is_given, a_plan_passes_on_what_is_there, each_cell_is_its_rules_equation,
+    given_matrices_can_enter,
 };
