@@ -61,7 +61,7 @@ and_none P (x ∷ xs) h = (h.0, and_none P xs h.1)
 
 -- a rule with its outputs as its reads
 abbrev turned : ProgRule → ProgRule
-turned r = record { priority = r.priority; kind = r.kind; outs = []; reads = r.outs; conds = []; body = r.body; plan = r.plan }
+turned r = record { priority = r.priority; kind = r.kind; outs = []; names = []; reads = r.outs; conds = []; body = r.body; plan = r.plan }
 
 module _ (p : List ProgTransform) (number : ℕ) (t : ProgTransform) (sizes : List ℕ) (well : IsWellFormed p) (sound : IsSound p) (at : slice_get p number ≡ Some t) where
   view_right : (k : ℕ) (rule : ProgRule) → slice_get t.rules k ≡ Some rule → (r : Read) → Contains rule.reads r → view_broken t.matrices r ≡ []

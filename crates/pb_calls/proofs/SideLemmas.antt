@@ -151,10 +151,10 @@ one_is sizes =
     let none : exact_value n sizes ≡ pos 0 *ℤ exact_value n sizes = exact_value-multiple (pos 0) n sizes in
     omega (arith, ints, exact_value-with_constant (pos 1) n sizes, none, zero-*ℤ (exact_value n sizes))
 
-width_natural : (n : ℕ) (d : DeclValue) (leasts sizes : List ℕ) → HasNoNegative leasts d → InRange leasts sizes → pos 0 ≤ℤ exact_value d.w sizes
+pub width_natural : (n : ℕ) (d : DeclValue) (leasts sizes : List ℕ) → HasNoNegative leasts d → InRange leasts sizes → pos 0 ≤ℤ exact_value d.w sizes
 width_natural n d leasts sizes none range = all_at (IsNeverNegative leasts) (sides d) 0 d.w none.sides refl sizes range
 
-tall : (n : ℕ) (d : DeclValue) (leasts sizes : List ℕ) (flat : Bool) → (d.dims == 1) ≡ flat → IsDecl n d → HasNoNegative leasts d → InRange leasts sizes → pos 0 ≤ℤ exact_value d.h sizes
+pub tall : (n : ℕ) (d : DeclValue) (leasts sizes : List ℕ) (flat : Bool) → (d.dims == 1) ≡ flat → IsDecl n d → HasNoNegative leasts d → InRange leasts sizes → pos 0 ≤ℤ exact_value d.h sizes
 tall n d leasts sizes true e h none range = omega (arith, ints, ap (λ k. exact_value k sizes) (h.flat (eqb-true d.dims 1 e)), one_is sizes)
 tall n d leasts sizes false e h none range = let there : slice_get (sides d) 1 ≡ Some d.h = rw e refl in all_at (IsNeverNegative leasts) (sides d) 1 d.h none.sides there sizes range
 

@@ -4,3 +4,4 @@ pub mod NumberLemmas
 pub mod OnceLemmas
 pub mod ReadyLemmas
 pub mod TaskLemmas
+pub mod LinkedLemmas

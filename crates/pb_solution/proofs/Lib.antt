@@ -3,3 +3,5 @@ pub mod SmallLemmas
 pub mod OrderLemmas
 pub mod MayLemmas
 pub mod PlanLemmas
+pub mod RankLemmas
+pub mod RuleLemmas

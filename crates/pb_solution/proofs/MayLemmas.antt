@@ -7,8 +7,7 @@ use Rattle.std.proofs.lemmas.Int.{ints}
 use Rattle.pb_linear.specs.Numbers.{exact_value}
 use Rattle.pb_values.specs.Views.{cell_of}
 use Rattle.pb_values.specs.declared.view.View.{View}
-use Rattle.pb_graph.specs.Layerings.{steps_at}
-use Rattle.pb_graph.specs.Ranks.{IsBelow, Rank, rank_by, rank_in}
+use Rattle.pb_graph.specs.Ranks.{Rank}
 use Rattle.pb_program.specs.Configs.{ConfigValue}
 use Rattle.pb_program.specs.Trees.{ProgRule, ProgTransform}
 use Rattle.pb_program.specs.WellFormed.{IsTransform}
@@ -25,43 +24,27 @@ use Rattle.pb_calls.proofs.SettledLemmas.{call_settled}
 use Rattle.pb_check.specs.Orders.{AnalysisValue}
 use Rattle.pb_check.specs.Ranked.{HasRank, IsMadeCell, StandsBelow}
 use Rattle.pb_check.proofs.FirstLemmas.{some_same}
-use Rattle.pb_check.proofs.RankedLemmas.{covered_is}
 use Rattle.pb_frame.specs.Choices.{IsInstance}
 use Rattle.pb_frame.specs.Frames.{JobValue}
-use Rattle.pb_frame.proofs.PartLemmas.{held_in}
 use Rattle.pb_taskgraph.specs.Graphs.{TaskValue, before_of, cells_of}
 use Rattle.pb_taskgraph.specs.Plans.{outcome_at}
 use Rattle.pb_taskgraph.specs.Turns.{MayRead}
 use Rattle.pb_tasks.specs.Made.{IsMadeBefore, IsMadeBy, jobs_for}
-use Rattle.pb_tasks.proofs.BeforeLemmas.{own_layer, parts, read_before}
-use Rattle.pb_tasks.proofs.JobLemmas.{IsBlockAt, IsPlaced, IsWideAt, at_map, kind_of, placed}
-use Rattle.pb_tasks.proofs.MadeLemmas.{among, chosen, made_cell}
+use Rattle.pb_tasks.proofs.BeforeLemmas.{read_before}
+use Rattle.pb_tasks.proofs.JobLemmas.{at_map}
+use Rattle.pb_tasks.proofs.MadeLemmas.{chosen}
 use Rattle.pb_views.specs.Windows.{number_in}
-use Rattle.pb_walk.specs.Orders.{IsEarlier, rank_of}
 use Rattle.pb_walk.specs.declared.stop.Stop.{Stop}
-use Rattle.pb_walk.proofs.WalkLemmas.{walk_rises}
 use Rattle.pb_plan.specs.Tasks.{graph_of}
 use Rattle.pb_plan.proofs.GraphLemmas.{before_in, cell_to}
 use Rattle.pb_plan.proofs.NumberLemmas.{before_mono, number_within, view_at}
-use Rattle.pb_solution.specs.Solutions.{IsRun, all_matrices, job_order, outcomes_of, own_order, plan_of, steps_by, stop_cell, stops_of}
-use Rattle.pb_solution.proofs.OrderLemmas.{IsAt, made_stop, number_for, order_at, stop_made}
+use Rattle.pb_solution.specs.Solutions.{IsRun, all_matrices, job_order, outcomes_of, own_order, plan_of, stop_cell, stops_of}
+use Rattle.pb_solution.proofs.OrderLemmas.{IsAt, number_for, order_at}
 use Rattle.pb_solution.proofs.OutcomeLemmas.{outcome_by, sides_are}
-
--- ---- ranks
-both_below : (a b : Rank) → ((a.first <ℤ b.first) ⊎ ((a.first ≡ b.first) × (a.second <ℤ b.second))) → ((b.first <ℤ a.first) ⊎ ((b.first ≡ a.first) × (b.second <ℤ a.second))) → ⊥
-both_below a b (inl x) (inl y) = omega (arith, ints, x, y)
-both_below a b (inl x) (inr y) = omega (arith, ints, x, y.0)
-both_below a b (inr x) (inl y) = omega (arith, ints, x.0, y)
-both_below a b (inr x) (inr y) = omega (arith, ints, x.1, y.1)
-
-never_both : (a b : Rank) → IsBelow a b → IsBelow b a → ⊥
-never_both a b (inl x) (inl y) = omega (arith, x, y)
-never_both a b (inl x) (inr y) = omega (arith, x, y.0)
-never_both a b (inr x) (inl y) = omega (arith, x.0, y)
-never_both a b (inr x) (inr y) = both_below a b x.1 y.1
+use Rattle.pb_solution.proofs.RankLemmas.{of_job as stop_of_job, of_made as stop_of_made, stands_before as stop_before}
 
 -- ---- lists
-taken_at : {A : Type 0} (xs : List A) (n k : ℕ) (x : A) → k < n → slice_get xs k ≡ Some x → slice_get (take n xs) k ≡ Some x
+pub taken_at : {A : Type 0} (xs : List A) (n k : ℕ) (x : A) → k < n → slice_get xs k ≡ Some x → slice_get (take n xs) k ≡ Some x
 taken_at xs zero k x below e = absurd (omega (arith, below))
 taken_at [] (suc n) k x below e = absurd (cc)
 taken_at (y ∷ xs) (suc n) zero x below e = e
@@ -152,69 +135,17 @@ module _ (config : ConfigValue) (plans : Plans) (number : ℕ) (t : ProgTransfor
     abbrev c : Cell
     c = stop_cell s
 
-    abbrev stops : List Stop
-    stops = stops_of a.nodes a.order.layers job
-
     pub of_job : IsMadeBy jobs a.nodes c j s.piece
-    of_job = stop_made config number t a sizes grain i run.valid j job e s (in_at stops k s at)
+    of_job = stop_of_job config number t a sizes grain i run.valid j job e k s at
 
     pub of_made : IsMadeCell t sizes c
-    of_made = made_cell config number t a sizes grain i c j s.piece of_job
+    of_made = stop_of_made config number t a sizes grain i run.valid j job e k s at
 
-    -- the rank of a cell that the job makes, where it makes its cells one by one
-    layer_is : job.rule ≡ None → (placed t a.order grain (parts config number t a sizes grain i run.valid) j job e).layer ≡ job.layer
-    layer_is none = by (placed t a.order grain (parts config number t a sizes grain i run.valid) j job e) (kind_of t a.order grain (parts config number t a sizes grain i run.valid) j job (placed t a.order grain (parts config number t a sizes grain i run.valid) j job e))
-      where
-        by : (p : IsPlaced t a.order grain (parts config number t a sizes grain i run.valid) j job) → ((m : ℕ) × IsWideAt t a.order grain (parts config number t a sizes grain i run.valid) p.layer p.place job m) ⊎ IsBlockAt t a.order grain (parts config number t a sizes grain i run.valid) p.layer p.value p.place job → p.layer ≡ job.layer
-        by p (inl w) = sym (ap (λ (q : JobValue). q.layer) w.1.1)
-        by p (inr b) = sym (ap (λ (q : JobValue). q.layer) b.1)
-
-    rank_is : (d : Cell) (l : ℕ) (m : IsMadeBy jobs a.nodes d j l) → job.rule ≡ None → (piece : ℕ) → rank_in a.order m.part.node (pos d.x) (pos d.y) ≡ rank_of job.layer (steps_by a.order.layers job.layer job.rule) (record { piece = piece; base = d.matrix; x = d.x; y = d.y })
-    rank_is d l m none piece =
-        let same : m.job ≡ job = some_same m.job job (sym m.is ∙ e) in
-        let here : Contains job.parts m.part = subst (λ (q : JobValue). Contains q.parts m.part) same (in_at m.job.parts l m.part m.has) in
-        let layer : slice_index a.order.layer m.part.node ≡ job.layer = own_layer config number t a sizes grain i run.valid j job e m.part here ∙ layer_is none in
-        ap (λ n. rank_by n (steps_at a.order.layers n) (pos d.x) (pos d.y)) layer ∙ ap (λ o. rank_by job.layer (steps_by a.order.layers job.layer o) (pos d.x) (pos d.y)) (sym none)
-
-    has_rank : (d : Cell) (l : ℕ) (m : IsMadeBy jobs a.nodes d j l) → HasRank t a sizes d (rank_in a.order m.part.node (pos d.x) (pos d.y))
-    has_rank d l m = record { segment = m.part.node; holds = held_in config number t a sizes i m.part d (among config number t a sizes grain i d j l m) m.holds; is = refl }
-
-    -- a cell that the job makes, of lower rank, stands before
+    -- a cell that the job makes, of lower rank, is written before
     stands_before : (d : Cell) (l : ℕ) (m : IsMadeBy jobs a.nodes d j l) → job.rule ≡ None → ((rank : Rank) → HasRank t a sizes c rank → StandsBelow t a sizes rank d) → Contains (take k (job_order a.nodes a.order.layers views job)) (number_in views d)
     stands_before d l m none lower =
-        let r : Stop = record { piece = l; base = d.matrix; x = d.x; y = d.y } in
-        let p = at_in stops r (made_stop config number t a sizes grain i run.valid j job e d l m) in
-        ⊎_elim
-        (λ (early : p.0 < k).
-        in_at (take k (job_order a.nodes a.order.layers views job)) p.0 (number_in views d) (taken_at (job_order a.nodes a.order.layers views job) k p.0 (number_in views d) early (at_map (λ (q : Stop). number_in views (stop_cell q)) stops p.0 r p.1)))
-        (λ (late : k ≤ p.0). absurd (never p.0 p.1 late (below_is (lower (rank_in a.order of_job.part.node (pos c.x) (pos c.y)) (has_rank c s.piece of_job)))))
-        (cases_lt p.0 k)
-      where
-        rank_c : Rank
-        rank_c = rank_of job.layer (steps_by a.order.layers job.layer job.rule) s
-
-        rank_d : Rank
-        rank_d = rank_of job.layer (steps_by a.order.layers job.layer job.rule) (record { piece = l; base = d.matrix; x = d.x; y = d.y })
-
-        below_is : StandsBelow t a sizes (rank_in a.order of_job.part.node (pos c.x) (pos c.y)) d → IsBelow rank_d rank_c
-        below_is b =
-            let made = made_cell config number t a sizes grain i d j l m in
-            let one = (covered_is i.program number t sizes i.well_formed i.sound i.there a i.found d made b.has.segment b.has.holds).alone m.part.node (held_in config number t a sizes i m.part d (among config number t a sizes grain i d j l m) m.holds) in
-            let own : b.own ≡ rank_d = b.has.is ∙ ap (λ u. rank_in a.order u (pos d.x) (pos d.y)) (sym one) ∙ rank_is d l m none l in
-            subst (λ q. IsBelow rank_d q) (rank_is c s.piece of_job none s.piece) (subst (λ q. IsBelow q (rank_in a.order of_job.part.node (pos c.x) (pos c.y))) own b.below)
-
-        never : (p : ℕ) → slice_get stops p ≡ Some (record { piece = l; base = d.matrix; x = d.x; y = d.y }) → k ≤ p → IsBelow rank_d rank_c → ⊥
-        never p there late below = ⊎_elim
-            (λ (more : k < p). ⊎_elim
-            (λ (less : IsBelow rank_c rank_d). never_both rank_d rank_c below less)
-            (λ (same : (rank_c ≡ rank_d) × IsEarlier s (record { piece = l; base = d.matrix; x = d.x; y = d.y })). never_both rank_d rank_d (subst (IsBelow rank_d) same.0 below) (subst (IsBelow rank_d) same.0 below))
-            (walk_rises job.layer (steps_by a.order.layers job.layer job.rule) _ k p s (record { piece = l; base = d.matrix; x = d.x; y = d.y }) more at there))
-            (λ (least : p ≤ k).
-            let same : k ≡ p = omega (arith, late, least) in
-            let stop : s ≡ record { piece = l; base = d.matrix; x = d.x; y = d.y } = some_same s (record { piece = l; base = d.matrix; x = d.x; y = d.y }) (sym at ∙ ap (slice_get stops) same ∙ there) in
-            let rank : rank_c ≡ rank_d = ap (rank_of job.layer (steps_by a.order.layers job.layer job.rule)) stop in
-            never_both rank_d rank_d (subst (IsBelow rank_d) rank below) (subst (IsBelow rank_d) rank below))
-            (cases_lt k p)
+        let p = stop_before config number t a sizes grain i run.valid j job e k s at d l m none lower in
+        in_at (take k (job_order a.nodes a.order.layers views job)) p.0 (number_in views d) (taken_at (job_order a.nodes a.order.layers views job) k p.0 (number_in views d) p.1 (at_map (λ (q : Stop). number_in views (stop_cell q)) (stops_of a.nodes a.order.layers job) p.0 (record { piece = l; base = d.matrix; x = d.x; y = d.y }) p.2))
 
     pub may_read : (n : ℕ) → (job.rule ≡ None → n ≡ k) → (shown : Cell) → Contains (cell_reads config plans number t sizes c) shown → MayRead (plan_of config plans number t a sizes grain ins views tasks) j n (number_in views shown)
     unfolding plan_of

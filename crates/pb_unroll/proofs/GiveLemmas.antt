@@ -35,7 +35,7 @@ use Rattle.pb_tasks.proofs.JobLemmas.{at_map}
 use Rattle.pb_views.specs.Layouts.{HasShortSides}
 use Rattle.pb_views.specs.Windows.{number_in}
 use Rattle.pb_views.specs.declared.window.Window.{Window}
-use Rattle.pb_solution.proofs.SmallLemmas.{IsShort, side_small, within_short}
+use Rattle.pb_solution.proofs.RuleLemmas.{IsShort, side_small, within_short}
 use Rattle.pb_unroll.specs.Running.{CanRunRule, IsRunning, RunValue, given_by, of_sizes, of_transform, told_of}
 use Rattle.pb_unroll.specs.Shown.{AreShown, AreWindowsOf, AreWithin, WindowsValue}
 use Rattle.pb_unroll.proofs.IndexLemmas.{zip_both, zip_length}

@@ -57,7 +57,7 @@ use Rattle.pb_frame.specs.Choices.{IsInstance}
 use Rattle.pb_frame.specs.Frames.{JobValue}
 use Rattle.pb_frame.specs.declared.part.FramePart.{FramePart}
 use Rattle.pb_frame.proofs.FoundLemmas.{instance, numbers_of, of_these, said_of}
-use Rattle.pb_solution.proofs.SmallLemmas.{IsShort, side_small, within_short}
+use Rattle.pb_solution.proofs.RuleLemmas.{IsShort, side_small, within_short}
 use Rattle.pb_taskgraph.specs.Plans.{IsSmall}
 use Rattle.pb_taskgraph.specs.declared.limits.TheConstants.{MOST_CELLS}
 use Rattle.pb_tasks.specs.Made.{jobs_for}
