@@ -39,7 +39,7 @@ use Rattle.pb_tasks.proofs.BeforeLemmas.{at_box, at_part, boxed, first_part, hom
 use Rattle.pb_tasks.proofs.JobLemmas.{part_of, placed}
 use Rattle.pb_tasks.proofs.MadeLemmas.{chosen, made_by}
 use Rattle.pb_tasks.proofs.SpreadLemmas.{shown_is}
-use Rattle.pb_tasks.proofs.WideLemmas.{shown_same}
+use Rattle.pb_tasks.proofs.WideLemmas.{applies_same, shown_same}
 use Rattle.pb_runs.specs.Steps.{Instance}
 
 -- an instance of an accepted program, with a valid configuration and sizes in range
@@ -57,7 +57,7 @@ max_le a b c d l ha hb hc hd = two (int_max a b) (int_max c d) (two a b ha hb) (
     two : (x y : ℤ) → x ≤ℤ l → y ≤ℤ l → int_max x y ≤ℤ l
     two x y hx hy = grind (arith, ints)
 
-natural_le : (z w : ℤ) → z ≤ℤ w → natural z ≤ natural w
+pub natural_le : (z w : ℤ) → z ≤ℤ w → natural z ≤ natural w
 natural_le (pos m) (pos n) h = omega (arith, ints, h)
 natural_le (pos m) (negsuc n) h = absurd (omega (arith, ints, h))
 natural_le (negsuc m) w h = omega arith
@@ -83,15 +83,19 @@ module _ (config : ConfigValue) (p : List ProgTransform) (i : Instance) (grain :
   abbrev WithinFor : Read → DeclValue → ℕ → ℕ → Type 0
   WithinFor q d x y = IsWithin (area_of i.sizes (pos x) (pos y) q d) (exact_value d.w i.sizes) (exact_value d.h i.sizes)
 
-  within_at : (part : FramePart) → Contains all_parts part → (r : ProgRule) → slice_get t.rules part.rule ≡ Some r → (q : Read) (d : DeclValue) → Contains r.reads q → slice_get t.matrices q.matrix ≡ Some d → (x y : ℕ) → HasPlace part.rect x y → WithinFor q d x y
-  within_at part own r rule q d declared decl x y place =
+  applies_at : (part : FramePart) → Contains all_parts part → (r : ProgRule) → slice_get t.rules part.rule ≡ Some r → (x y : ℕ) → HasPlace part.rect x y → Applies t.matrices r i.sizes (pos x) (pos y)
+  applies_at part own r rule x y place =
       let f = of_part i.number t i.found i.sizes inst config part own in
       let c : Cell = record { matrix = f.0.matrix; x = x; y = y } in
       let h : HoldsCell i.found.nodes part c = record { node = f.0; there = f.1; matrix = refl; place = place } in
       let law = chosen config i.number t i.found i.sizes grain inst at.valid c (held_made config i.number t i.found i.sizes inst part c own h) in
       let same : law.rule ≡ r = some_same law.rule r (sym law.there ∙ ap (slice_get t.rules) (held_chosen config i.number t i.found i.sizes inst part c own h) ∙ rule) in
+      subst (λ (z : ProgRule). Applies t.matrices z i.sizes (pos x) (pos y)) same law.can.applies
+
+  within_at : (part : FramePart) → Contains all_parts part → (r : ProgRule) → slice_get t.rules part.rule ≡ Some r → (q : Read) (d : DeclValue) → Contains r.reads q → slice_get t.matrices q.matrix ≡ Some d → (x y : ℕ) → HasPlace part.rect x y → WithinFor q d x y
+  within_at part own r rule q d declared decl x y place =
       let j = at_in r.reads q declared in
-      view_within p i.number t i.sizes at.well at.sound at.there part.rule r rule j.0 q d j.1 decl at.range (pos x) (pos y) (subst (λ (z : ProgRule). Applies t.matrices z i.sizes (pos x) (pos y)) same law.can.applies)
+      view_within p i.number t i.sizes at.well at.sound at.there part.rule r rule j.0 q d j.1 decl at.range (pos x) (pos y) (applies_at part own r rule x y place)
 
   -- a box ends within its matrix
   abbrev EndsIn : Spot → Type 0
@@ -107,6 +111,18 @@ module _ (config : ConfigValue) (p : List ProgTransform) (i : Instance) (grain :
       let c01 = corner part.rect.x0 (part.rect.y1 - 1) (record { left = omega arith; right = omega (arith, some.0); low = omega (arith, some.1); high = omega (arith, some.1) }) in
       let c11 = corner (part.rect.x1 - 1) (part.rect.y1 - 1) (record { left = omega (arith, some.0); right = omega (arith, some.0); low = omega (arith, some.1); high = omega (arith, some.1) }) in
       (natural_le _ (exact_value d.w i.sizes) (max_le _ _ _ _ (exact_value d.w i.sizes) c00.x.end c10.x.end c01.x.end c11.x.end), natural_le _ (exact_value d.h i.sizes) (max_le _ _ _ _ (exact_value d.h i.sizes) c00.y.end c10.y.end c01.y.end c11.y.end))
+
+  -- a rule that makes more than a cell applies
+  pub whole_applies : (j : ℕ) (job : JobValue) → slice_get jobs j ≡ Some job → (k : ℕ) → job.rule ≡ Some k → (r : ProgRule) → slice_get t.rules k ≡ Some r → Applies t.matrices r i.sizes (pos 0) (pos 0)
+  whole_applies j job e k some r rule =
+      let part = first_part config i.number t i.found i.sizes grain inst at.valid j job e k some in
+      let of = part_of t i.found.order grain all_parts j job (placed t i.found.order grain all_parts j job e) part.0 part.1 in
+      let same = of.wide k some in
+      let wide : is_wide r.kind ≡ true = sym (ap (λ o. option_map_or (λ (z : ProgRule). is_wide z.kind) o false) rule) ∙ same.1 in
+      let places = some_places config i.number t i.found i.sizes grain inst at.valid part.0 of.among in
+      let x = part.0.rect.x0 in
+      let y = part.0.rect.y0 in
+      applies_same p i.number t at.well at.sound at.there k r rule wide i.sizes (pos x) (pos y) (pos 0) (pos 0) (applies_at part.0 of.among r (ap (slice_get t.rules) same.0 ∙ rule) x y (record { left = omega arith; right = omega (arith, places.0); low = omega arith; high = omega (arith, places.1) }))
 
   -- a view of a rule that makes more than a cell lies within its matrix
   pub whole_within : (j : ℕ) (job : JobValue) → slice_get jobs j ≡ Some job → (k : ℕ) → job.rule ≡ Some k → (r : ProgRule) → slice_get t.rules k ≡ Some r → (q : Read) (d : DeclValue) → Contains r.reads q → slice_get t.matrices q.matrix ≡ Some d

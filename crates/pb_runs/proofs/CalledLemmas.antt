@@ -21,10 +21,12 @@ use Rattle.pb_recursion.specs.Plans.{Names, argument_sides, fits_call, named, si
 use Rattle.pb_recursion.specs.Shapes.{Sides, all_same_sides, are_in_range, can_enter, fits, same_sides, sides_of_decl}
 use Rattle.pb_recursion.proofs.ShapeLemmas.{same_is}
 use Rattle.pb_runs.specs.Matrices.{AllMade, Below, call_below, call_matrices}
-use Rattle.pb_runs.specs.Seats.{Seat, no_seat}
+use Rattle.pb_seats.specs.declared.seat.Seat.{Seat}
+use Rattle.pb_seats.specs.Seats.{no_seat}
 use Rattle.pb_runs.specs.Steps.{Instance, cells_in}
-use Rattle.pb_runs.specs.Unrolled.{Met, Player, Unroll, failed, given_back, own_sides, unrolled_by}
+use Rattle.pb_runs.specs.Unrolled.{Met, Player, Unroll, failed, given_back, own_sides, targets_of, unrolled_by}
 use Rattle.pb_runs.proofs.BaseLemmas.{HaveSides, Stands}
+use Rattle.pb_runs.proofs.OriginLemmas.{IsSmallTrap}
 use Rattle.pb_runs.proofs.FailedLemmas.{failed_deep, failed_tally, filled_sides}
 use Rattle.pb_runs.proofs.FitLemmas.{HaveNatural, fits_enters}
 use Rattle.pb_runs.proofs.NameLemmas.{Answer, AreNamed, named_known, named_placed}
@@ -93,7 +95,7 @@ module _ (config : ConfigValue) (ms : List Outcomes) (p : List ProgTransform) wh
   abbrev pub AreNatural : Type 0
   AreNatural = (number : ℕ) (t : ProgTransform) → slice_get p number ≡ Some t → (sizes : List ℕ) → are_in_range (leasts_of t.ranges) sizes ≡ true → AllByRecursion (IsNatural sizes) (take t.inputs t.matrices)
 
-  module _ (i : Instance) (rule : ℕ) (r : ProgRule) where
+  module _ (i : Instance) (rule : ℕ) (r : ProgRule) (traps : (k : Kind) → IsSmallTrap config ms (trapped_by i.number i.transform i.sizes rule r k)) where
     abbrev sides : Slot → Sides
     sides = sides_of_slot i.transform.matrices i.sizes r
 
@@ -128,19 +130,19 @@ module _ (config : ConfigValue) (ms : List Outcomes) (p : List ProgTransform) wh
     naturals known made ss mm (s ∷ slots) are given = ((are s given.0).width, (are s given.0).height, naturals known made ss mm slots are given.1)
 
     failed_called : (k : Kind) (player : Player) (all make : PlanCallValue → List Outcomes → List Outcomes) (count : PlanCallValue → Counted) (known : Cells) (n : Met) (c : PlanCallValue) (seats : List Seat) (given : List Outcomes)
-        → player c seats n ≡ failed (trapped_by i.number i.transform i.sizes rule r k) (target_sides i.transform.matrices i.sizes r c) n → all c given ≡ targets_filled i.number i.transform i.sizes rule r k c → make c given ≡ targets_filled i.number i.transform i.sizes rule r k c
+        → player c seats n ≡ failed (targets_of r c) (trapped_by i.number i.transform i.sizes rule r k) (target_sides i.transform.matrices i.sizes r c) n → all c given ≡ targets_filled i.number i.transform i.sizes rule r k c → make c given ≡ targets_filled i.number i.transform i.sizes rule r k c
         → count c ≡ failed_count p i.transform i.sizes r c → Stands ms n (all c given) → IsCalled config ms sides player make all count known n c seats given
     failed_called k player all make count known n c seats given is_player is_all is_make is_count stands =
         let o = trapped_by i.number i.transform i.sizes rule r k in
         let wanted = target_sides i.transform.matrices i.sizes r c in
         let mats = map (filled o) wanted in
-        let deep = failed_deep config ms known o wanted n (subst (Stands ms n) is_all stands) in
+        let deep = failed_deep config ms known (targets_of r c) o (traps k) wanted n (subst (Stands ms n) is_all stands) in
         record {
           own = mats;
-          deep = subst (λ u. IsDeep config ms known n u (all c given) mats) (sym is_player) (subst (λ a. IsDeep config ms known n (failed o wanted n) a mats) (sym is_all) deep);
-          tally = subst (λ u. Tallies n u.next (all c given) (count c)) (sym is_player) (subst (λ a. Tallies n (failed o wanted n).next a (count c)) (sym is_all) (subst (Tallies n (failed o wanted n).next mats) (sym is_count) (failed_tally ms o wanted n)));
-          answer = subst (λ u. Answer ms sides (with_cells known (cells_in u.steps)) c.targets u.seats (make c given)) (sym is_player) (subst (λ a. Answer ms sides (with_cells known (cells_in (failed o wanted n).steps)) c.targets (failed o wanted n).seats a) (sym is_make)
-              (filled_answers (with_cells known (cells_in (failed o wanted n).steps)) c.targets (failed o wanted n).seats mats (filled_sides ms o wanted) deep.placed (λ s there cell has. inr (deep_made config ms known n (failed o wanted n) mats mats deep s there cell has))));
+          deep = subst (λ u. IsDeep config ms known n u (all c given) mats) (sym is_player) (subst (λ a. IsDeep config ms known n (failed (targets_of r c) o wanted n) a mats) (sym is_all) deep);
+          tally = subst (λ u. Tallies n u.next (all c given) (count c)) (sym is_player) (subst (λ a. Tallies n (failed (targets_of r c) o wanted n).next a (count c)) (sym is_all) (subst (Tallies n (failed (targets_of r c) o wanted n).next mats) (sym is_count) (failed_tally ms (targets_of r c) o wanted n)));
+          answer = subst (λ u. Answer ms sides (with_cells known (cells_in u.steps)) c.targets u.seats (make c given)) (sym is_player) (subst (λ a. Answer ms sides (with_cells known (cells_in (failed (targets_of r c) o wanted n).steps)) c.targets (failed (targets_of r c) o wanted n).seats a) (sym is_make)
+              (filled_answers (with_cells known (cells_in (failed (targets_of r c) o wanted n).steps)) c.targets (failed (targets_of r c) o wanted n).seats mats (filled_sides ms o wanted) deep.placed (λ s there cell has. inr (deep_made config ms known n (failed (targets_of r c) o wanted n) mats mats deep s there cell has))));
         }
 
     -- a call that fits
@@ -201,7 +203,7 @@ module _ (config : ConfigValue) (ms : List Outcomes) (p : List ProgTransform) wh
               b = h.0
 
               -- as far as whether it fits
-              player_is : player c seats n ≡ (if fits_call i.transform.matrices i.sizes p r c then given_back p c (u c.transform seats n) else failed (trapped_by i.number i.transform i.sizes rule r BadShape) (target_sides i.transform.matrices i.sizes r c) n)
+              player_is : player c seats n ≡ (if fits_call i.transform.matrices i.sizes p r c then given_back p c (u c.transform seats n) else failed (targets_of r c) (trapped_by i.number i.transform i.sizes rule r BadShape) (target_sides i.transform.matrices i.sizes r c) n)
               player_is = ap (λ o. unrolled_by p i rule r o c seats n) e
 
               all_is : all c ins ≡ (if fits_call i.transform.matrices i.sizes p r c then b.all c.transform ins else targets_filled i.number i.transform i.sizes rule r BadShape c)
@@ -215,12 +217,12 @@ module _ (config : ConfigValue) (ms : List Outcomes) (p : List ProgTransform) wh
 
               by_fits : (f : Bool) → fits_call i.transform.matrices i.sizes p r c ≡ f → IsCalled config ms sides player make all count known n c seats ins
               by_fits false fit =
-                  failed_called BadShape player all make count known n c seats ins (player_is ∙ ap (λ f. if f then given_back p c (u c.transform seats n) else failed (trapped_by i.number i.transform i.sizes rule r BadShape) (target_sides i.transform.matrices i.sizes r c) n) fit)
+                  failed_called BadShape player all make count known n c seats ins (player_is ∙ ap (λ f. if f then given_back p c (u c.transform seats n) else failed (targets_of r c) (trapped_by i.number i.transform i.sizes rule r BadShape) (target_sides i.transform.matrices i.sizes r c) n) fit)
                   (all_is ∙ ap (λ f. if f then b.all c.transform ins else targets_filled i.number i.transform i.sizes rule r BadShape c) fit) (make_is ∙ ap (λ f. if f then made_back p c (b.call c.transform ins) else targets_filled i.number i.transform i.sizes rule r BadShape c) fit) (count_is ∙ ap (λ f. if f then h.2 c.transform (argument_sides i.transform.matrices i.sizes r c) else failed_count p i.transform i.sizes r c) fit) stands
               by_fits true fit = by_there (slice_get p c.transform) refl fit
                 where
                   player_fits : player c seats n ≡ given_back p c (u c.transform seats n)
-                  player_fits = player_is ∙ ap (λ f. if f then given_back p c (u c.transform seats n) else failed (trapped_by i.number i.transform i.sizes rule r BadShape) (target_sides i.transform.matrices i.sizes r c) n) fit
+                  player_fits = player_is ∙ ap (λ f. if f then given_back p c (u c.transform seats n) else failed (targets_of r c) (trapped_by i.number i.transform i.sizes rule r BadShape) (target_sides i.transform.matrices i.sizes r c) n) fit
 
                   all_fits : all c ins ≡ b.all c.transform ins
                   all_fits = all_is ∙ ap (λ f. if f then b.all c.transform ins else targets_filled i.number i.transform i.sizes rule r BadShape c) fit

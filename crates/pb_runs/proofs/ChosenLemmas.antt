@@ -29,7 +29,7 @@ use Rattle.pb_plan.proofs.OnceLemmas.{Once, once_flat}
 use Rattle.pb_recursion.specs.Counts.{Counted, Counter, all_of, both as sum, chosen_plans, is_chosen_plan, is_plan_kind, nothing, plan_count}
 use Rattle.pb_runs.specs.Steps.{Instance}
 use Rattle.pb_runs.proofs.BoxLemmas.{IsSituated, inst, jobs}
-use Rattle.pb_runs.proofs.FoldLemmas.{job_tally, rule_tally}
+use Rattle.pb_runs.specs.Tallied.{job_tally, rule_tally}
 use Rattle.pb_runs.proofs.OwnLemmas.{at_dropped, below_side, side_below}
 use Rattle.pb_runs.proofs.TallyLemmas.{all_append, all_same, same_counted}
 

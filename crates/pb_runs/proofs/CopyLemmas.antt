@@ -61,7 +61,8 @@ use Rattle.pb_recursion.specs.Depths.{Call, in_outputs_of, plan_names, plans_ove
 use Rattle.pb_recursion.specs.Plans.{Names, named, no_cell, sides_of_slot, sides_of_view}
 use Rattle.pb_recursion.specs.Shapes.{Sides, sides_of_area, span_length}
 use Rattle.pb_runs.specs.Matrices.{read_matrices}
-use Rattle.pb_runs.specs.Seats.{Seat, across, base_x, base_y, cell_at, down, no_seat, spot_at}
+use Rattle.pb_seats.specs.declared.seat.Seat.{Seat}
+use Rattle.pb_seats.specs.Seats.{across, base_x, base_y, cell_at, down, no_seat, spot_at}
 use Rattle.pb_runs.specs.Steps.{Copied, Instance, by_copy, by_job, cells_in, cells_of, from_corner, number_at, seat_in, stop_number, through}
 use Rattle.pb_runs.specs.Unrolled.{copies_of, copy_step, is_part_of, output_parts, output_rect}
 use Rattle.pb_runs.proofs.BoxLemmas.{IsSituated, box_ends, box_there, inst, jobs}
@@ -493,6 +494,8 @@ module _ (config : ConfigValue) (ms : List Outcomes) (p : List ProgTransform) (i
 
         copy_made : IsMade config ms known (by_copy i copied)
         copy_made = record {
+          from = tt;
+          given = tt;
           reads = λ b h c cell.
               let part = map_in (λ (q : FramePart). spot_at source (from_corner copied.corner q.rect)) (output_parts i job o) b h in
               let held = part_held part.0 part.1 in

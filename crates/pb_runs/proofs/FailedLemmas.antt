@@ -13,12 +13,14 @@ use Rattle.pb_model.specs.Cells.{natural}
 use Rattle.pb_base.proofs.ListLemmas.{filter_in, flat_in, in_cases, in_flat, in_map, in_none, map_in}
 use Rattle.pb_recursion.specs.Depths.{filled}
 use Rattle.pb_recursion.specs.Shapes.{Sides, area}
-use Rattle.pb_runs.specs.Seats.{Seat, across, base_x, base_y, cell_at, down, seat_cells}
-use Rattle.pb_runs.specs.Steps.{by_trap, cells_in, cells_of}
+use Rattle.pb_seats.specs.declared.seat.Seat.{Seat}
+use Rattle.pb_seats.specs.Seats.{across, base_x, base_y, cell_at, down, seat_cells}
+use Rattle.pb_runs.specs.Steps.{Target, by_trap, cells_in, cells_of}
 use Rattle.pb_runs.specs.Unrolled.{Met, after_call, after_matrices, after_matrix, failed, seat_has_cells, seats_from, trap_step, whole_seat}
 use Rattle.pb_runs.proofs.BaseLemmas.{HasSides, HaveSides, Reaches, Stands, reaches_both, stands_right}
 use Rattle.pb_runs.proofs.CountLemmas.{counted, in_row, row_in, row_split}
 use Rattle.pb_runs.proofs.SeatLemmas.{HasCell, whole_has, whole_placed}
+use Rattle.pb_runs.proofs.OriginLemmas.{IsSmallTrap}
 use Rattle.pb_runs.proofs.SoundLemmas.{Cells, IsDeep, IsLaid, Sound}
 use Rattle.pb_runs.proofs.SpotLemmas.{IsCellAt, cell_has, cell_moved}
 use Rattle.pb_runs.proofs.TallyLemmas.{Tallies, tallied}
@@ -153,10 +155,10 @@ module _ (config : ConfigValue) (ms : List Outcomes) where
   filter_from : (ss : List Seat) (s : Seat) → Contains (filter seat_has_cells ss) s → Contains ss s
   filter_from ss s h = (filter_in seat_has_cells ss s h).0
 
-  trap_cells : (call : ℕ) (o : Outcome) (seats : List Seat) → cells_in (trap_step call o seats) ≡ flat_map seat_cells seats
+  trap_cells : (targets : List Target) (first call : ℕ) (o : Outcome) (seats : List Seat) → cells_in (trap_step targets first call o seats) ≡ flat_map seat_cells seats
   unfolding cells_of
-  trap_cells call o [] = refl
-  trap_cells call o (s ∷ seats) = append_none (flat_map seat_cells (s ∷ seats))
+  trap_cells targets first call o [] = refl
+  trap_cells targets first call o (s ∷ seats) = append_none (flat_map seat_cells (s ∷ seats))
     where
       append_none : (xs : List ℕ) → xs ++ [] ≡ xs
       append_none [] = refl
@@ -201,9 +203,9 @@ module _ (config : ConfigValue) (ms : List Outcomes) where
       let tall = ap down w.is in
       record { left = omega (arith, left); right = omega (arith, on_x, right, wide); low = omega (arith, low); high = omega (arith, on_y, high, tall) }
 
-  trap_laid : (call : ℕ) (o : Outcome) (seats : List Seat) → ((s : Seat) → Contains seats s → IsWholeSeat s) → IsLaid config ms (by_trap (record { call = call; outcome = o; seats = seats }))
+  trap_laid : (targets : List Target) (first call : ℕ) (o : Outcome) (seats : List Seat) → ((s : Seat) → Contains seats s → IsWholeSeat s) → IsLaid config ms (by_trap (record { call = call; outcome = o; targets = targets; first = first; seats = seats }))
   unfolding cells_of
-  trap_laid call o seats whole = record {
+  trap_laid targets first call o seats whole = record {
     shown = λ b h u v has. absurd (in_none b h);
     reads = λ c none. absurd none;
     parts = λ b h u v has.
@@ -221,14 +223,14 @@ module _ (config : ConfigValue) (ms : List Outcomes) where
         (record { base = s.base; rect = s.rect }, in_map (λ (z : Seat). record { base = z.base; rect = z.rect }) seats s f.1, c.0, c.1, place, subst (IsCellAt ms s.base c.0 c.1) (sym c.4) (seat_place s (whole s f.1) c.0 c.1 place).2);
   }
 
-  trap_sound : (known : Cells) (call : ℕ) (o : Outcome) (seats : List Seat) → ((s : Seat) → Contains seats s → (c : ℕ) → HasCell s c → outcome_of ms c ≡ o) → IsLaid config ms (by_trap (record { call = call; outcome = o; seats = seats })) → Sound config ms known (trap_step call o seats)
+  trap_sound : (known : Cells) (targets : List Target) (first call : ℕ) (o : Outcome) → IsSmallTrap config ms o → (seats : List Seat) → ((s : Seat) → Contains seats s → (c : ℕ) → HasCell s c → outcome_of ms c ≡ o) → IsLaid config ms (by_trap (record { call = call; outcome = o; targets = targets; first = first; seats = seats })) → Sound config ms known (trap_step targets first call o seats)
   unfolding cells_of
-  trap_sound known call o [] right laid = tt
-  trap_sound known call o (s ∷ seats) right laid =
-      (record { reads = λ b h c cell. absurd (in_none b h); right = λ c h. (let seat = flat_in seat_cells (s ∷ seats) c h in right seat.0 seat.1 c (seat_in_row seat.0 c seat.2)); laid = laid }, tt)
+  trap_sound known targets first call o small [] right laid = tt
+  trap_sound known targets first call o small (s ∷ seats) right laid =
+      (record { from = small; given = tt; reads = λ b h c cell. absurd (in_none b h); right = λ c h. (let seat = flat_in seat_cells (s ∷ seats) c h in right seat.0 seat.1 c (seat_in_row seat.0 c seat.2)); laid = laid }, tt)
 
-  pub failed_deep : (known : Cells) (o : Outcome) (ss : List Sides) (n : Met) → Stands ms n (map (filled o) ss) → IsDeep config ms known n (failed o ss n) (map (filled o) ss) (map (filled o) ss)
-  failed_deep known o ss n stands =
+  pub failed_deep : (known : Cells) (targets : List Target) (o : Outcome) → IsSmallTrap config ms o → (ss : List Sides) (n : Met) → Stands ms n (map (filled o) ss) → IsDeep config ms known n (failed targets o ss n) (map (filled o) ss) (map (filled o) ss)
+  failed_deep known targets o small ss n stands =
       let m = after_call n in
       let sides = filled_sides ms o ss in
       let stands_m : Stands ms m (map (filled o) ss) = record { at = stands.at; cells = stands.cells } in
@@ -238,8 +240,8 @@ module _ (config : ConfigValue) (ms : List Outcomes) where
       record {
         placed = placed;
         within = seats_within ms m ss (map (filled o) ss) sides;
-        sound = trap_sound known n.calls o full (λ s there c has. filled_right o m ss placed s (filter_from (seats_from m ss) s there) c has) (trap_laid n.calls o full (λ s there. whole_in m ss (map (filled o) ss) placed s (filter_from (seats_from m ss) s there)));
-        counts = λ c. ap (counted c) (trap_cells n.calls o full ∙ full_cells m ss ∙ all_cells ms m ss (map (filled o) ss) sides);
+        sound = trap_sound known targets n.matrices n.calls o small full (λ s there c has. filled_right o m ss placed s (filter_from (seats_from m ss) s there) c has) (trap_laid targets n.matrices n.calls o full (λ s there. whole_in m ss (map (filled o) ss) placed s (filter_from (seats_from m ss) s there)));
+        counts = λ c. ap (counted c) (trap_cells targets n.matrices n.calls o full ∙ full_cells m ss ∙ all_cells ms m ss (map (filled o) ss) sides);
         reaches = record { matrices = reach.matrices; cells = reach.cells };
       }
 
@@ -248,8 +250,8 @@ seats_calls : (n : Met) (ss : List Sides) → (after_matrices n ss).calls ≡ n.
 seats_calls n [] = refl
 seats_calls n (s ∷ ss) = seats_calls (after_matrix n s) ss
 
-pub failed_tally : (ms : List Outcomes) (o : Outcome) (ss : List Sides) (n : Met) → Tallies n (failed o ss n).next (map (filled o) ss) (both one_more (all_of (map matrix_of ss)))
-failed_tally ms o ss n =
+pub failed_tally : (ms : List Outcomes) (targets : List Target) (o : Outcome) (ss : List Sides) (n : Met) → Tallies n (failed targets o ss n).next (map (filled o) ss) (both one_more (all_of (map matrix_of ss)))
+failed_tally ms targets o ss n =
     let t = tallied ss (map (filled o) ss) (filled_sides ms o ss) in
     record { calls = omega (arith, seats_calls (after_call n) ss, t.calls); side = omega (arith, t.side); cells = omega (arith, t.cells) }
 

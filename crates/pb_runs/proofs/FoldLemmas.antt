@@ -28,6 +28,7 @@ use Rattle.pb_recursion.specs.Depths.{plans_over}
 use Rattle.pb_recursion.specs.Plans.{calls_of_rule, names_of_reads}
 use Rattle.pb_runs.specs.Matrices.{Below, call_below, calls_matrices, job_matrices, jobs_matrices, read_matrices, rule_matrices}
 use Rattle.pb_runs.specs.Steps.{Instance, by_job, cells_in, cells_of, number_at}
+use Rattle.pb_runs.specs.Tallied.{job_tally, rule_tally}
 use Rattle.pb_runs.specs.Unrolled.{Done, Met, Unroll, job_done, jobs_done, plan_done, rule_done}
 use Rattle.pb_runs.proofs.BaseLemmas.{Stands, reaches_both, stands_left, stands_right, total_append}
 use Rattle.pb_runs.proofs.BoxLemmas.{IsSituated, inst, jobs}
@@ -49,15 +50,6 @@ not_both true h k = let wrong : false ≡ true = h in cc
 not_both false h k = let wrong : false ≡ true = k in cc
 
 -- what the calls of a job count
-module _ (p : List ProgTransform) (t : ProgTransform) (sizes : List ℕ) (counter : Option Counter) where
-  abbrev pub rule_tally : ℕ → Option ProgRule → Counted
-  rule_tally k None = nothing
-  rule_tally k (Some r) = if is_plan_kind r.kind then plan_count p t sizes counter (k, r) else nothing
-
-  abbrev pub job_tally : Option ℕ → Counted
-  job_tally None = nothing
-  job_tally (Some k) = rule_tally k (slice_get t.rules k)
-
 module _ (config : ConfigValue) (ms : List Outcomes) (p : List ProgTransform) (i : Instance) (grain : ℕ) (at : IsSituated config p i) (deeper : Option Unroll) (below : Option Below) (counter : Option Counter) (lm : List Outcomes) (local : IsLocal ms i lm)
     (settled : IsSettled config (plans_over p (call_below below) i.number i.transform i.sizes) i.number i.transform i.sizes lm)
     (once : (c d : Cell) → IsMadeCell i.transform i.sizes c → IsMadeCell i.transform i.sizes d → number_at i c ≡ number_at i d → c ≡ d)
@@ -82,7 +74,7 @@ module _ (config : ConfigValue) (ms : List Outcomes) (p : List ProgTransform) (i
     computed : ((s : Stop) → Contains (stops_of i.found.nodes i.found.order.layers job) s → (r : ProgRule) → rule_of config plans i.number t i.sizes (stop_cell s) ≡ Some r → r.kind ≡ kind.Plan → ⊥) → IsDone config ms known n (record { steps = by_job i job ∷ []; next = n }) (own_cells i job) [] nothing
     unfolding cells_of
     computed other = record {
-      sound = (job_made config ms p i grain at plans lm local settled known j job e k_known other (job_laid config ms p i grain at (call_below below) lm local settled once j job e), tt);
+      sound = (job_made config ms p i grain at plans lm local settled known j job e k_known other once (job_laid config ms p i grain at (call_below below) lm local settled once j job e), tt);
       counts = λ c. ap (counted c) (append_none (own_cells i job)) ∙ omega arith;
       reaches = record { matrices = omega arith; cells = omega arith };
       tally = tallies_none n;

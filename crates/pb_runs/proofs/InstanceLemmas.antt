@@ -27,7 +27,8 @@ use Rattle.pb_recursion.specs.Shapes.{can_enter, sides_of_decl, sizes_from}
 use Rattle.pb_recursion.proofs.DepthLemmas.{call_is, depth_settled, inputs_there}
 use Rattle.pb_recursion.proofs.ShapeLemmas.{entered_given, entered_range}
 use Rattle.pb_runs.specs.Matrices.{Below, below_at, call_below, jobs_matrices, matrices_by}
-use Rattle.pb_runs.specs.Seats.{Seat, no_seat, sides_of_seat}
+use Rattle.pb_seats.specs.declared.seat.Seat.{Seat}
+use Rattle.pb_seats.specs.Seats.{no_seat, sides_of_seat}
 use Rattle.pb_runs.specs.Steps.{Instance, number_at, seat_in, stop_number}
 use Rattle.pb_runs.specs.Unrolled.{Met, Unroll, after_call, after_matrices, instance_of, jobs_done, own_sides, seats_from, unrolled_at}
 use Rattle.pb_runs.proofs.BaseLemmas.{HaveSides, Reaches, Stands, reaches_both, stands_left, stands_right, total_append}
@@ -37,7 +38,8 @@ use Rattle.pb_runs.proofs.CopyLemmas.{own_once as job_once}
 use Rattle.pb_runs.proofs.CountLemmas.{counted, counted_row, counted_same, in_row, row_in, row_once}
 use Rattle.pb_runs.proofs.ChosenLemmas.{plans_tally}
 use Rattle.pb_runs.proofs.FailedLemmas.{seats_placed, seats_reach, seats_tally, seats_within}
-use Rattle.pb_runs.proofs.FoldLemmas.{job_tally, jobs_are_done}
+use Rattle.pb_runs.proofs.FoldLemmas.{jobs_are_done}
+use Rattle.pb_runs.specs.Tallied.{job_tally}
 use Rattle.pb_runs.proofs.JobLemmas.{IsKnown, made_own, own_cells}
 use Rattle.pb_runs.proofs.OwnLemmas.{own_in_row, own_once, row_own, side_below}
 use Rattle.pb_runs.proofs.PlanLemmas.{IsDone}

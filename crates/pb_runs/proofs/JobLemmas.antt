@@ -146,10 +146,13 @@ module _ (config : ConfigValue) (ms : List Outcomes) (p : List ProgTransform) (i
 
     -- a job whose rules compute
     pub job_made : (known : Cells) (j : ℕ) (job : JobValue) → slice_get all_jobs j ≡ Some job → IsKnown known j
-        → ((s : Stop) → Contains (stops_of i.found.nodes i.found.order.layers job) s → (r : ProgRule) → rule_of config plans i.number t i.sizes (stop_cell s) ≡ Some r → r.kind ≡ kind.Plan → ⊥) → IsLaid config ms (by_job i job) → IsMade config ms known (by_job i job)
+        → ((s : Stop) → Contains (stops_of i.found.nodes i.found.order.layers job) s → (r : ProgRule) → rule_of config plans i.number t i.sizes (stop_cell s) ≡ Some r → r.kind ≡ kind.Plan → ⊥)
+        → ((c d : Cell) → IsMadeCell t i.sizes c → IsMadeCell t i.sizes d → number_at i c ≡ number_at i d → c ≡ d) → IsLaid config ms (by_job i job) → IsMade config ms known (by_job i job)
     unfolding cells_of
-    job_made known j job e k other laid = record {
-      reads = λ b h c cell. (let f = map_in (through i) (boxes_by t i.sizes job.rule job.parts) b h in ⊎_elim (λ there. inl there) (λ own. inr own.1) (box_known known j job e k f.0 f.1 c (subst (λ q. SpotCell ms q c) (sym f.2) cell)));
+    job_made known j job e k other once laid = record {
+      from = record { program = p; grain = grain; at = at; matrices = lm; local = local; place = j; there = e; once = once; computes = other };
+      given = k.given;
+      reads = λ b h c cell. (let f = map_in (through i) (boxes_by t i.sizes job.rule job.parts) b h in ⊎_elim (λ there. inl there) (λ own. inr own) (box_known known j job e k f.0 f.1 c (subst (λ q. SpotCell ms q c) (sym f.2) cell)));
       right = λ s h.
           let made = made_cell config i.number t i.found i.sizes grain (inst config p i grain at) (stop_cell s) j s.piece (stop_made config i.number t i.found i.sizes grain (inst config p i grain at) at.valid j job e s h) in
           let r = rule_for (stop_cell s) made in

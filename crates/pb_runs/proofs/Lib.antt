@@ -1,6 +1,7 @@
 pub mod CountLemmas
 pub mod BaseLemmas
 pub mod SeatLemmas
+pub mod OriginLemmas
 pub mod SoundLemmas
 pub mod FailedLemmas
 pub mod NameLemmas
@@ -22,3 +23,4 @@ pub mod ReadLemmas
 pub mod RunLemmas
 pub mod TallyLemmas
 pub mod ChosenLemmas
+pub mod UseLemmas

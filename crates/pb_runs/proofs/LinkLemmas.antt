@@ -50,10 +50,10 @@ boxes_at (r ∷ steps) zero s e b h = subst (λ q. Contains (boxes_of q) b) (sym
 boxes_at (r ∷ steps) (suc u) s e b h = boxes_at steps u s e b h
 
 -- ---- one step makes a cell
-in_steps : (steps : List Step) (u : ℕ) (s : Step) → slice_get steps u ≡ Some s → (c : ℕ) → Contains (cells_of s) c → Contains (cells_in steps) c
+pub in_steps : (steps : List Step) (u : ℕ) (s : Step) → slice_get steps u ≡ Some s → (c : ℕ) → Contains (cells_of s) c → Contains (cells_in steps) c
 in_steps steps u s e c own = in_flat cells_of steps s c (in_at steps u s e) own
 
-one_step : (steps : List Step) (c : ℕ) → counted c (cells_in steps) ≤ 1 → (u v : ℕ) (s r : Step) → slice_get steps u ≡ Some s → slice_get steps v ≡ Some r → Contains (cells_of s) c → Contains (cells_of r) c → u ≡ v
+pub one_step : (steps : List Step) (c : ℕ) → counted c (cells_in steps) ≤ 1 → (u v : ℕ) (s r : Step) → slice_get steps u ≡ Some s → slice_get steps v ≡ Some r → Contains (cells_of s) c → Contains (cells_of r) c → u ≡ v
 one_step [] c few u v s r at_u at_v own_s own_r = absurd (let wrong : None ≡ Some s = at_u in cc)
 one_step (q ∷ steps) c few zero zero s r at_u at_v own_s own_r = refl
 one_step (q ∷ steps) c few zero (suc v) s r at_u at_v own_s own_r =

@@ -16,7 +16,8 @@ use Rattle.pb_check.specs.Ranked.{IsMadeCell}
 use Rattle.pb_solution.proofs.OutcomeLemmas.{get_right, index_at}
 use Rattle.pb_plan.proofs.NumberLemmas.{row_below, row_once}
 use Rattle.pb_recursion.specs.Shapes.{Sides, area, sides_of_decl}
-use Rattle.pb_runs.specs.Seats.{Seat, base_x, base_y, cell_at, no_seat}
+use Rattle.pb_seats.specs.declared.seat.Seat.{Seat}
+use Rattle.pb_seats.specs.Seats.{base_x, base_y, cell_at, no_seat}
 use Rattle.pb_runs.specs.Steps.{Instance, number_at, seat_in}
 use Rattle.pb_runs.specs.Unrolled.{Met, after_matrix, own_sides, seats_from, whole_seat}
 use Rattle.pb_runs.proofs.BaseLemmas.{HaveSides, before_grows, before_next}

@@ -1,13 +1,17 @@
 -- A job of a plan: its calls over what it reads, and its copies.
-use Rattle.std.proofs.Common.{◌≡◌, ◌∙◌, refl, sym, ap, subst, ⊎_elim, ℕ, zero, suc, ◌+◌, ◌-◌, ◌<◌, ◌≤◌, Bool, true, false, List, [], ◌∷◌, ◌++◌, length, map, slice_get, Option, Some, None, arith}
+use Rattle.std.proofs.Common.{◌≡◌, ◌∙◌, refl, sym, ap, subst, ⊎_elim, ℕ, zero, suc, ◌+◌, ◌-◌, ◌<◌, ◌≤◌, ◌^◌, pos, ◌≤ℤ◌, Bool, true, false, List, [], ◌∷◌, ◌++◌, length, map, slice_get, Option, Some, None, arith}
 use Rattle.std.specs.Prelude.{slice_index_or, if◌then◌else◌}
 use Rattle.std.specs.List.{Contains, range_with_len}
 use Rattle.std.specs.Option.{option_map_or}
 use Rattle.std.proofs.lemmas.Bool.{cases_lt}
+use Rattle.std.proofs.lemmas.Int.{ints}
+use Rattle.std.proofs.lemmas.Option.{slice_get_within}
 use Rattle.pb_linear.specs.Numbers.{exact_value}
 use Rattle.pb_values.specs.Views.{HasPlace}
 use Rattle.pb_values.specs.declared.rect.Rect.{Rect}
-use Rattle.pb_program.specs.Areas.{Area}
+use Rattle.pb_values.specs.declared.outcome.Kind.{Kind}
+use Rattle.pb_values.specs.declared.shape.TheConstants.{MOST_SIDE}
+use Rattle.pb_program.specs.Areas.{Area, area_of, from_start}
 use Rattle.pb_program.specs.Configs.{ConfigValue}
 use Rattle.pb_program.specs.Forms.{DeclValue}
 use Rattle.pb_program.specs.Plans.{PlanCallValue}
@@ -15,34 +19,39 @@ use Rattle.pb_program.specs.Trees.{ProgRule, ProgTransform}
 use Rattle.pb_program.specs.WellFormed.{IsRule, IsTransform, IsView, variables}
 use Rattle.pb_program.specs.declared.plan.Slot.{Slot}
 use Rattle.pb_program.specs.declared.plan.Slot.TheVariants as slot
+use Rattle.pb_program.specs.declared.rule.RuleKind.{RuleKind}
 use Rattle.pb_program.specs.declared.rule.RuleKind.TheVariants as kind
 use Rattle.pb_program.specs.declared.view.Read.{Read}
 use Rattle.pb_program.specs.declared.view.ReadView.{ReadView}
 use Rattle.pb_region.specs.Within.{IsWithin}
 use Rattle.pb_region.proofs.SmallLemmas.{at_place}
-use Rattle.pb_base.proofs.ListLemmas.{in_at, in_map, in_none}
+use Rattle.pb_base.proofs.ListLemmas.{at_in, in_at, in_map, in_none}
+use Rattle.pb_calls.proofs.InsideLemmas.{output_within}
 use Rattle.pb_model.specs.Calls.{IsSettled, Outcomes, outcome_in}
 use Rattle.pb_model.specs.Cells.{Cell, cells_of_view, natural, reads}
+use Rattle.pb_model.specs.Equations.{corner, trap_place}
 use Rattle.pb_model.specs.Grids.{no_grid}
 use Rattle.pb_check.specs.Ranked.{IsMadeCell}
 use Rattle.pb_check.proofs.FirstLemmas.{some_at}
 use Rattle.pb_frame.specs.Frames.{JobValue}
 use Rattle.pb_tasks.specs.Boxes.{boxes_by, shown_at, whole_box}
 use Rattle.pb_solution.proofs.OutcomeLemmas.{index_at}
-use Rattle.pb_recursion.specs.Depths.{made_by_call, plan_names, plans_over}
+use Rattle.pb_recursion.specs.Depths.{made_by_call, plan_names, plans_over, trapped_by}
 use Rattle.pb_recursion.specs.Plans.{Names, after_call, calls_of_rule, named, names_of_reads, no_cell, no_sides, sides_of_slot, sides_of_view}
 use Rattle.pb_recursion.specs.Shapes.{Sides}
 use Rattle.pb_recursion.proofs.OrderedLemmas.{plan_ordered}
 use Rattle.pb_runs.specs.Matrices.{Below, call_below, call_matrices, calls_matrices, read_matrices}
-use Rattle.pb_runs.specs.Seats.{Seat, across, cell_at, down, is_turning, no_seat, part_seat}
+use Rattle.pb_seats.specs.declared.seat.Seat.{Seat}
+use Rattle.pb_seats.specs.Seats.{across, cell_at, down, is_turning, no_seat, part_seat}
 use Rattle.pb_runs.specs.Steps.{Instance, cells_in, number_at, seat_in, through}
 use Rattle.pb_runs.specs.Unrolled.{Done, Met, Played, Unroll, copies_of, plan_done, plan_played, unrolled_by, view_seat}
 use Rattle.pb_runs.proofs.BaseLemmas.{Reaches, Stands}
-use Rattle.pb_runs.proofs.BoxLemmas.{IsSituated, jobs, whole_within}
+use Rattle.pb_runs.proofs.BoxLemmas.{IsSituated, jobs, natural_le, whole_applies, whole_within}
 use Rattle.pb_runs.proofs.CalledLemmas.{AreDeeper, AreNatural, calls_called}
 use Rattle.pb_runs.proofs.CopyLemmas.{copies_count, copies_sound}
 use Rattle.pb_runs.proofs.CountLemmas.{counted, counted_append}
 use Rattle.pb_runs.proofs.JobLemmas.{IsKnown, box_known, own_cells}
+use Rattle.pb_runs.proofs.OriginLemmas.{IsSmallTrap}
 use Rattle.pb_runs.proofs.NameLemmas.{AreNamed, IsNamed, name_of_read}
 use Rattle.pb_runs.proofs.PlayedLemmas.{IsPlayed, all_played, of_calls}
 use Rattle.pb_runs.proofs.SeatLemmas.{HasCell, part_across, part_cell, part_down, part_x, part_y}
@@ -51,7 +60,7 @@ use Rattle.pb_runs.proofs.TallyLemmas.{Tallies}
 use Rattle.pb_runs.proofs.SoundLemmas.{Cells, Sound, cells_append, sound_append, with_cells}
 use Rattle.pb_runs.proofs.SpotLemmas.{spot_cell}
 use Rattle.pb_runs.proofs.ViewLemmas.{IsLocal, cut_is, has_matrix, natural_end, one_cut, view_count, view_placed}
-use Rattle.pb_runs.specs.Placed.{SpotCell, total}
+use Rattle.pb_runs.specs.Placed.{SpotCell, greatest_side, total}
 
 -- a cell of what a view shows lies in its rectangle
 part_place : (v : ReadView) (s : Seat) (r : Rect) (c : ℕ) → HasCell (part_seat v s r) c → (x : ℕ) × (y : ℕ) × HasPlace r x y × (c ≡ cell_at s x y)
@@ -171,7 +180,7 @@ module _ (config : ConfigValue) (ms : List Outcomes) (p : List ProgTransform) (i
             let shown = ap (λ l. slice_index_or l m no_grid) matrices_are ∙ index_past (map (λ w. one_cut (sides_of_view t.matrices i.sizes w) (map (outcome_in lm) (cell_list w))) r.reads) m no_grid (omega (arith, high, count_shown)) in
             let its_sides : sides (slot.Read m) ≡ no_sides = ap (λ o. option_map_or (sides_of_view t.matrices i.sizes) o no_sides) (get_past r.reads m high) in
             let made : IsNamed ms sides known (slot.Read m) no_seat no_grid = record {
-              placed = record { width = refl; height = refl; whole = refl; cells = λ x y on_x on_y. absurd (omega (arith, on_x)) };
+              placed = record { width = refl; height = refl; whole = refl; wide = omega arith; tall = omega arith; cells = λ x y on_x on_y. absurd (omega (arith, on_x)) };
               width = ap (λ (s : Sides). natural s.0) (sym its_sides);
               height = ap (λ (s : Sides). natural s.1) (sym its_sides);
               cells = λ c has. absurd (let low = has.2 in omega (arith, low));
@@ -189,10 +198,32 @@ module _ (config : ConfigValue) (ms : List Outcomes) (p : List ProgTransform) (i
     abbrev played : Met → Played
     played n = plan_played p i k r deeper n
 
+    -- where a trap of the plan stands
+    corner_short : greatest_side ms ≤ MOST_SIDE → (outs : List Read) → ((m : ℕ) (o : Read) → slice_get outs m ≡ Some o → Contains r.outs o) → ((corner t.matrices i.sizes no_cell outs).0 < 2 ^ 23) × ((corner t.matrices i.sizes no_cell outs).1 < 2 ^ 23)
+    corner_short short [] same = (omega arith, omega arith)
+    corner_short short (o ∷ rest) same = by (slice_get t.matrices o.matrix) refl
+      where
+        by : (q : Option DeclValue) → slice_get t.matrices o.matrix ≡ q → (natural (option_map_or (area_of i.sizes (pos 0) (pos 0) o) q (record { x = from_start (pos 0); y = from_start (pos 0) })).x.low < 2 ^ 23) × (natural (option_map_or (area_of i.sizes (pos 0) (pos 0) o) q (record { x = from_start (pos 0); y = from_start (pos 0) })).y.low < 2 ^ 23)
+        by None there = (omega arith, omega arith)
+        by (Some d) there =
+            let n = at_in r.outs o (same 0 o refl) in
+            let w = output_within p i.number t i.sizes at.well at.sound at.there k r rule n.0 o d n.1 there at.range (pos 0) (pos 0) (whole_applies config p i grain at j job e k some r rule) in
+            let h = has_matrix ms i lm local o.matrix d there in
+            let left = natural_le (area_of i.sizes (pos 0) (pos 0) o d).x.low (exact_value d.w i.sizes) (omega (arith, ints, w.x.order, w.x.end)) in
+            let low = natural_le (area_of i.sizes (pos 0) (pos 0) o d).y.low (exact_value d.h i.sizes) (omega (arith, ints, w.y.order, w.y.end)) in
+            (omega (arith, left, h.sides.width, h.placed.wide, short), omega (arith, low, h.sides.height, h.placed.tall, short))
+
+    traps : (q : Kind) → IsSmallTrap config ms (trapped_by i.number t i.sizes k r q)
+    traps q short =
+        let fits = at_place (IsTransform (length p)) p i.number t at.well.transforms at.there in
+        let corner_is = corner_short short r.outs (λ m o at_m. in_at r.outs m o at_m) in
+        let place : ((trap_place t.matrices i.sizes no_cell r.kind r.outs).0 < 2 ^ 23) × ((trap_place t.matrices i.sizes no_cell r.kind r.outs).1 < 2 ^ 23) = subst (λ (g : RuleKind). ((trap_place t.matrices i.sizes no_cell g r.outs).0 < 2 ^ 23) × ((trap_place t.matrices i.sizes no_cell g r.outs).1 < 2 ^ 23)) (sym is) corner_is in
+        (omega (arith, at.well.few, slice_get_within p i.number t at.there), omega (arith, fits.few_rules, slice_get_within t.rules k r rule), place.0, place.1)
+
     plan_is_played : AreDeeper config ms p deeper below counter → AreNatural config ms p → (n : Met) → Stands ms n mats
         → IsPlayed config ms sides (unrolled_by p i k r deeper) (made_by_call p i.number t i.sizes k r (call_below below)) (call_matrices p i.number t i.sizes k r below) (call_count p t i.sizes counter r) (length r.outs) known n (played n) (of_calls config ms sides (unrolled_by p i k r deeper) (made_by_call p i.number t i.sizes k r (call_below below)) (call_matrices p i.number t i.sizes k r below) (call_count p t i.sizes counter r) (calls_of_rule r) (names_of_reads (read_matrices t i.sizes r lm))) (plan_names p i.number t i.sizes k r (call_below below) (read_matrices t i.sizes r lm)) (plan_count p t i.sizes counter (k, r))
     plan_is_played are_deeper naturals n stands =
-        all_played config ms sides (unrolled_by p i k r deeper) (made_by_call p i.number t i.sizes k r (call_below below)) (call_matrices p i.number t i.sizes k r below) (call_count p t i.sizes counter r) (calls_called config ms p i k r deeper below counter are_deeper naturals) (length r.outs) (calls_of_rule r) known n []
+        all_played config ms sides (unrolled_by p i k r deeper) (made_by_call p i.number t i.sizes k r (call_below below)) (call_matrices p i.number t i.sizes k r below) (call_count p t i.sizes counter r) (calls_called config ms p i k r traps deeper below counter are_deeper naturals) (length r.outs) (calls_of_rule r) known n []
         (names_of_reads (map (view_seat i) r.reads)) (names_of_reads (read_matrices t i.sizes r lm)) (plan_ordered p i.number t k r at.well at.sound at.there rule is) reads_named (subst (Stands ms n) (calls_same (calls_of_rule r) (names_of_reads (read_matrices t i.sizes r lm))) stands)
 
     -- ---- the job

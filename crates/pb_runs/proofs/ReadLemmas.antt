@@ -31,7 +31,7 @@ use Rattle.pb_walk.specs.declared.stop.Stop.{Stop}
 use Rattle.pb_solution.specs.Solutions.{stop_cell, stops_of}
 use Rattle.pb_solution.proofs.OrderLemmas.{stop_made}
 use Rattle.pb_runs.specs.Right.{no_plans}
-use Rattle.pb_runs.specs.Seats.{base_x, base_y}
+use Rattle.pb_seats.specs.Seats.{base_x, base_y}
 use Rattle.pb_runs.specs.Steps.{Instance, number_at, seat_in, through}
 use Rattle.pb_runs.proofs.BoxLemmas.{IsSituated, inst, jobs}
 use Rattle.pb_runs.proofs.OwnLemmas.{side_below}

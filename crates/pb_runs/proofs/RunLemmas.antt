@@ -1,5 +1,5 @@
 -- Calls at each depth, and whole runs, are unrolled to what they mean.
-use Rattle.std.proofs.Common.{◌≡◌, ◌∙◌, refl, sym, ap, subst, inl, inr, ⊎_elim, ℕ, zero, suc, ◌+◌, ◌<◌, ◌≤◌, List, [], ◌∷◌, ◌++◌, length, map, take, slice_get, Option, Some, None, arith}
+use Rattle.std.proofs.Common.{◌≡◌, ◌∙◌, refl, sym, ap, subst, inl, inr, ◌⊎◌, ⊎_elim, ℕ, zero, suc, ◌+◌, ◌<◌, ◌≤◌, List, [], ◌∷◌, ◌++◌, length, map, take, slice_get, Option, Some, None, arith}
 use Rattle.std.specs.List.{All, AllByRecursion, AllZip, Contains, range_with_len}
 use Rattle.std.specs.Option.{option_map_or}
 use Rattle.pb_linear.specs.Sizes.{leasts_of}
@@ -18,7 +18,8 @@ use Rattle.pb_recursion.specs.Depths.{IsWhole, call_at, sides_of_matrix, sizes_g
 use Rattle.pb_recursion.specs.Shapes.{Sides, sizes_from}
 use Rattle.pb_recursion.proofs.ShapeLemmas.{range_is}
 use Rattle.pb_runs.specs.Matrices.{below_at, matrices_at, matrices_by, matrices_one, run_matrices}
-use Rattle.pb_runs.specs.Seats.{Seat, sides_of_seat}
+use Rattle.pb_seats.specs.declared.seat.Seat.{Seat}
+use Rattle.pb_seats.specs.Seats.{sides_of_seat}
 use Rattle.pb_runs.specs.Steps.{Step, boxes_of, cells_in}
 use Rattle.pb_runs.specs.Unrolled.{Met, Unroll, Unrolled, after_matrices, found_for, nothing_met, own_sides, seats_from, unroll, unroll_one, unrolled_at, unrolled_run}
 use Rattle.pb_runs.proofs.BaseLemmas.{HaveSides, Reaches, Stands, before_first, before_right, total_append}
@@ -28,7 +29,7 @@ use Rattle.pb_runs.proofs.FitLemmas.{sizes_same as bound_same}
 use Rattle.pb_runs.proofs.InstanceLemmas.{instance_deep, instance_tally, own_have, sizes_same}
 use Rattle.pb_runs.proofs.SeatLemmas.{HasCell}
 use Rattle.pb_runs.proofs.CountLemmas.{counted, counted_in, counted_once, in_counted, in_row, row_few, row_in}
-use Rattle.pb_runs.proofs.SoundLemmas.{Cells, IsDeep, IsLaid, sound_at}
+use Rattle.pb_runs.proofs.SoundLemmas.{Cells, IsDeep, IsLaid, IsMade, MadeBefore, sound_at}
 use Rattle.pb_runs.proofs.TallyLemmas.{Tallies, tallies_both}
 use Rattle.pb_plan.proofs.OnceLemmas.{Once}
 use Rattle.pb_links.specs.declared.places.Spot.{Spot}
@@ -118,7 +119,7 @@ module _ (p : List ProgTransform) (found : List AnalysisValue) (config : ConfigV
   abbrev n : Met
   n = after_matrices nothing_met inputs
 
-  abbrev given : Cells
+  abbrev pub given : Cells
   given c = c < total ins
 
   ins_have : (gs : List Outcomes) → AllByRecursion IsWhole gs → HaveSides (map sides_of_matrix gs) gs
@@ -137,7 +138,7 @@ module _ (p : List ProgTransform) (found : List AnalysisValue) (config : ConfigV
   get_second [] ys k = ap (slice_get ys) (omega arith)
   get_second (z ∷ xs) ys k = let here : suc (length xs) + k ≡ suc (length xs + k) = omega arith in ap (slice_get (z ∷ (xs ++ ys))) here ∙ get_second xs ys k
 
-  abbrev made : List Outcomes
+  abbrev pub made : List Outcomes
   made = matrices_at p found config grain depth number ins
 
   stands_ins : Stands ms nothing_met ins
@@ -167,11 +168,14 @@ module _ (p : List ProgTransform) (found : List AnalysisValue) (config : ConfigV
   pub run_placed : AllZip (IsPlaced ms) run.seats (call_at p config depth number ins)
   run_placed = deep.placed
 
+  pub run_made : (k : ℕ) (s : Step) → slice_get run.steps k ≡ Some s → IsMade config ms (λ c. given c ⊎ MadeBefore config ms run.steps k c) s
+  run_made k s e = sound_at config ms given run.steps k s deep.sound e
+
   pub run_right : (k : ℕ) (s : Step) → slice_get run.steps k ≡ Some s → IsRight config ms s
-  run_right k s e = (sound_at config ms given run.steps k s deep.sound e).right
+  run_right k s e = (run_made k s e).right
 
   pub run_laid : (k : ℕ) (s : Step) → slice_get run.steps k ≡ Some s → IsLaid config ms s
-  run_laid k s e = (sound_at config ms given run.steps k s deep.sound e).laid
+  run_laid k s e = (run_made k s e).laid
 
   start : n.cells ≡ total ins
   start = let r = reach.cells in omega (arith, r)
@@ -203,8 +207,8 @@ module _ (p : List ProgTransform) (found : List AnalysisValue) (config : ConfigV
       (⊎_elim
       (λ input. inl input)
       (λ earlier. inr (earlier.0, earlier.1, omega (arith, earlier.2), earlier.3, earlier.4)))
-      (λ own. inr (k, s, omega arith, e, own))
-      ((sound_at config ms given run.steps k s deep.sound e).reads b there c cell)
+      (λ own. inr (k, s, omega arith, e, own.1))
+      ((run_made k s e).reads b there c cell)
 
   pub run_tally : Tallies nothing_met run.next ms (run_count p config depth number inputs)
   run_tally = tallies_both nothing_met n run.next ins made (all_of (map matrix_of inputs)) (count_at p config depth number inputs) (seats_tally nothing_met inputs ins have) called.2

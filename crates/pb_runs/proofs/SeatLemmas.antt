@@ -1,5 +1,5 @@
 -- Where matrices stand among the cells of a run.
-use Rattle.std.proofs.Common.{◌≡◌, ◌∙◌, refl, sym, ap, subst, ℕ, ◌+◌, ◌-◌, ◌*◌, ◌<◌, ◌≤◌, Bool, true, false, List, ◌∷◌, slice_get, Some, arith}
+use Rattle.std.proofs.Common.{◌≡◌, ◌∙◌, refl, sym, ap, subst, ℕ, zero, suc, ◌+◌, ◌-◌, ◌*◌, ◌<◌, ◌≤◌, Bool, true, false, List, [], ◌∷◌, slice_get, Some, None, arith}
 use Rattle.std.specs.Prelude.{if◌then◌else◌, not}
 use Rattle.pb_values.specs.declared.rect.Rect.{Rect}
 use Rattle.pb_program.specs.declared.view.ReadView.{ReadView}
@@ -9,10 +9,11 @@ use Rattle.pb_check.proofs.FirstLemmas.{some_at}
 use Rattle.pb_plan.proofs.NumberLemmas.{row_at, row_below}
 use Rattle.pb_recursion.specs.Depths.{IsWhole}
 use Rattle.pb_recursion.specs.Shapes.{Sides, area}
-use Rattle.pb_runs.specs.Seats.{Seat, across, base_x, base_y, cell_at, down, is_turning, part_seat}
+use Rattle.pb_seats.specs.declared.seat.Seat.{Seat}
+use Rattle.pb_seats.specs.Seats.{across, base_x, base_y, cell_at, down, is_turning, part_seat}
 use Rattle.pb_runs.specs.Unrolled.{Met, whole_seat}
 use Rattle.pb_runs.proofs.BaseLemmas.{Stands, outcome_there}
-use Rattle.pb_runs.specs.Placed.{IsPlaced, before, outcome_of}
+use Rattle.pb_runs.specs.Placed.{IsPlaced, before, greatest_side, outcome_of}
 
 zero_plus : (n : ℕ) → 0 + n ≡ n
 zero_plus n = omega arith
@@ -89,7 +90,17 @@ module _ (v : ReadView) (s : Seat) (r : Rect) where
       by false h l = (omega (arith, h, l, lies.right), omega (arith, h, l, lies.high))
 
 -- ---- placed matrices
+-- no side is longer than the greatest
+greatest_of : (ms : List Outcomes) (k : ℕ) (m : Outcomes) → slice_get ms k ≡ Some m → (m.width ≤ greatest_side ms) × (m.height ≤ greatest_side ms)
+greatest_of [] k m at = absurd (let wrong : None ≡ Some m = at in cc)
+greatest_of (g ∷ ms) zero m at = let is : Some g ≡ Some m = at in let same : g ≡ m = cc in (omega (arith, ap (λ (q : Outcomes). q.width) same), omega (arith, ap (λ (q : Outcomes). q.height) same))
+greatest_of (g ∷ ms) (suc k) m at = let rest = greatest_of ms k m at in (omega (arith, rest.0), omega (arith, rest.1))
+
 module _ (ms : List Outcomes) where
+  -- the next matrix that is met
+  first_there : (n : Met) (m : Outcomes) (rest : List Outcomes) → Stands ms n (m ∷ rest) → slice_get ms n.matrices ≡ Some m
+  first_there n m rest stands = let here : n.matrices + 0 ≡ n.matrices = omega arith in ap (slice_get ms) (sym here) ∙ stands.at 0 m refl
+
   -- a matrix that has cells of its own
   pub whole_placed : (n : Met) (s : Sides) (m : Outcomes) (rest : List Outcomes) → Stands ms n (m ∷ rest) → m.width ≡ natural s.0 → m.height ≡ natural s.1 → IsWhole m → IsPlaced ms (whole_seat n s) m
   unfolding cell_at
@@ -97,10 +108,12 @@ module _ (ms : List Outcomes) where
     width = omega (arith, width);
     height = omega (arith, height);
     whole = whole;
+    wide = (greatest_of ms n.matrices m (first_there n m rest stands)).0;
+    tall = (greatest_of ms n.matrices m (first_there n m rest stands)).1;
     cells = λ x y on_x on_y.
         let below = row_below m.width m.height x y (omega (arith, on_x, width)) (omega (arith, on_y, height)) in
         let o = some_at m.cells (y * m.width + x) (omega (arith, below, whole)) in
-        let there : slice_get ms n.matrices ≡ Some m = (let here : n.matrices + 0 ≡ n.matrices = omega arith in ap (slice_get ms) (sym here) ∙ stands.at 0 m refl) in
+        let there = first_there n m rest stands in
         let number : n.cells + ((0 + y) * natural s.0 + (0 + x)) ≡ before ms n.matrices + (y * m.width + x) = (let plain : (0 + y) * natural s.0 + (0 + x) ≡ y * natural s.0 + x = (λ i. zero_plus y i * natural s.0 + zero_plus x i) in omega (arith, plain, stands.cells, ap (λ w. y * w) width)) in (
           o.0,
           o.1,
@@ -129,6 +142,8 @@ module _ (ms : List Outcomes) where
     width = part.width;
     height = part.height;
     whole = part.whole;
+    wide = (short (is_turning v) (part.width ∙ part_across v s r) (part.height ∙ part_down v s r)).0;
+    tall = (short (is_turning v) (part.width ∙ part_across v s r) (part.height ∙ part_down v s r)).1;
     cells = λ x y on_x on_y.
         let inside = part_inside v s r lies x y on_x on_y in
         let o = placed.cells (part_x v s r x y) (part_y v s r x y) inside.0 inside.1 in
@@ -147,6 +162,10 @@ module _ (ms : List Outcomes) where
           },
         );
   }
+    where
+      short : (b : Bool) → g.width ≡ (if b then r.y1 - r.y0 else r.x1 - r.x0) → g.height ≡ (if b then r.x1 - r.x0 else r.y1 - r.y0) → (g.width ≤ greatest_side ms) × (g.height ≤ greatest_side ms)
+      short true w h = (omega (arith, w, lies.high, placed.height, placed.tall), omega (arith, h, lies.right, placed.width, placed.wide))
+      short false w h = (omega (arith, w, lies.right, placed.width, placed.wide), omega (arith, h, lies.high, placed.height, placed.tall))
 
 -- ---- the cells of a seat
 abbrev pub HasCell : Seat → ℕ → Type 0

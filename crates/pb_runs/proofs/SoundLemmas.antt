@@ -8,10 +8,11 @@ use Rattle.pb_program.specs.Configs.{ConfigValue}
 use Rattle.pb_model.specs.Calls.{Outcomes}
 use Rattle.pb_base.proofs.ListLemmas.{in_none}
 use Rattle.pb_runs.specs.Right.{IsRight, ReadsNumber}
-use Rattle.pb_runs.specs.Seats.{Seat}
+use Rattle.pb_seats.specs.declared.seat.Seat.{Seat}
 use Rattle.pb_runs.specs.Steps.{Step, boxes_of, cells_in, cells_of, parts_of}
 use Rattle.pb_runs.specs.Unrolled.{Met, Unrolled}
 use Rattle.pb_runs.proofs.BaseLemmas.{Reaches}
+use Rattle.pb_runs.proofs.OriginLemmas.{AreGivenKnown, ComesFrom, IsOneByOne, given_more}
 use Rattle.pb_runs.proofs.CountLemmas.{counted, counted_in, in_counted}
 use Rattle.pb_runs.proofs.SeatLemmas.{HasCell}
 use Rattle.pb_runs.proofs.SpotLemmas.{IsCellAt}
@@ -40,9 +41,11 @@ module _ (config : ConfigValue) (ms : List Outcomes) where
     pub reads : (c : ℕ) → ReadsNumber config s c → (b : Spot) × Contains (boxes_of s) b × (x : ℕ) × (y : ℕ) × HasPlace b.rect x y × IsCellAt ms b.base x y c
     pub held : (c : ℕ) → Contains (cells_of s) c → (b : Spot) × Contains (parts_of s) b × (x : ℕ) × (y : ℕ) × HasPlace b.rect x y × IsCellAt ms b.base x y c
 
-  -- a step is right, and reads what is known or what it makes
+  -- a step is right, and reads what is known or, one by one, what it makes
   pub record IsMade (known : Cells) (s : Step) : Type 0 where
-    pub reads : (b : Spot) → Contains (boxes_of s) b → (c : ℕ) → SpotCell ms b c → known c ⊎ Contains (cells_of s) c
+    pub from : ComesFrom config ms s
+    pub given : AreGivenKnown known s
+    pub reads : (b : Spot) → Contains (boxes_of s) b → (c : ℕ) → SpotCell ms b c → known c ⊎ (IsOneByOne s × Contains (cells_of s) c)
     pub right : IsRight config ms s
     pub laid : IsLaid s
 
@@ -52,7 +55,7 @@ module _ (config : ConfigValue) (ms : List Outcomes) where
   Sound known (s ∷ rest) = IsMade known s × Sound (with_cells known (cells_of s)) rest
 
   pub made_more : (known more : Cells) (s : Step) → ((c : ℕ) → known c → more c) → IsMade known s → IsMade more s
-  made_more known more s to h = record { reads = λ b in_boxes c cell. ⊎_elim (λ k. inl (to c k)) (λ own. inr own) (h.reads b in_boxes c cell); right = h.right; laid = h.laid }
+  made_more known more s to h = record { from = h.from; given = given_more known more s to h.given; reads = λ b in_boxes c cell. ⊎_elim (λ k. inl (to c k)) (λ own. inr own) (h.reads b in_boxes c cell); right = h.right; laid = h.laid }
 
   pub sound_more : (known more : Cells) (xs : List Step) → ((c : ℕ) → known c → more c) → Sound known xs → Sound more xs
   sound_more known more [] to h = tt

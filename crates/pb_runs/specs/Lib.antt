@@ -1,7 +1,7 @@
-pub mod Seats
 pub mod Steps
 pub mod Unrolled
 pub mod Matrices
 pub mod Placed
 pub mod Right
 pub mod Laws
+pub mod Tallied

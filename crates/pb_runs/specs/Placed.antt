@@ -1,5 +1,5 @@
 -- The matrices of a run, one after the other, and what stands among their cells.
-use Rattle.std.specs.Prelude.{◌≡◌, ℕ, zero, suc, ◌+◌, ◌*◌, ◌<◌, max, List, [], ◌∷◌, length, Some, slice_get}
+use Rattle.std.specs.Prelude.{◌≡◌, ℕ, zero, suc, ◌+◌, ◌*◌, ◌<◌, ◌≤◌, max, List, [], ◌∷◌, length, Some, slice_get}
 use Rattle.pb_values.specs.Views.{HasPlace}
 use Rattle.pb_values.specs.declared.outcome.Outcome.{Outcome}
 use Rattle.pb_links.specs.declared.places.Spot.{Spot}
@@ -7,7 +7,8 @@ use Rattle.pb_model.specs.Calls.{Outcomes}
 use Rattle.pb_taskgraph.specs.Plans.{outcome_at}
 use Rattle.pb_solution.specs.Solutions.{outcomes_of}
 use Rattle.pb_recursion.specs.Depths.{IsWhole}
-use Rattle.pb_runs.specs.Seats.{Seat, across, base_x, base_y, cell_at, down}
+use Rattle.pb_seats.specs.declared.seat.Seat.{Seat}
+use Rattle.pb_seats.specs.Seats.{across, base_x, base_y, cell_at, down}
 
 -- how many cells there are in all, and before a matrix
 abbrev pub total : List Outcomes → ℕ
@@ -40,11 +41,13 @@ module _ (ms : List Outcomes) where
     pub inside_y : base_y s x y < grid.height
     pub is : outcome_of ms (cell_at s x y) ≡ o
 
-  -- a matrix stands where a seat says, with its outcomes
+  -- a matrix stands where a seat says, with its outcomes, and is no longer than a matrix of the run
   pub record IsPlaced (s : Seat) (m : Outcomes) : Type 0 where
     pub width : m.width ≡ across s
     pub height : m.height ≡ down s
     pub whole : IsWhole m
+    pub wide : m.width ≤ greatest_side ms
+    pub tall : m.height ≤ greatest_side ms
     pub cells : (x y : ℕ) → x < across s → y < down s → (o : Outcome) × (slice_get m.cells (y * m.width + x) ≡ Some o) × IsAt s x y o
 
   -- a spot of a matrix of the run has a cell

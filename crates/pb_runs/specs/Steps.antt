@@ -1,6 +1,7 @@
 -- The instances of a run and the steps of its calls, with what each makes and reads.
 use Rattle.std.specs.Prelude.{ℕ, ◌-◌, Option, List, [], map, slice_index_or}
 use Rattle.std.specs.List.{flat_map}
+use Rattle.pb_values.specs.Name.{NameValue}
 use Rattle.pb_values.specs.declared.outcome.Outcome.{Outcome}
 use Rattle.pb_values.specs.declared.rect.Rect.{Rect}
 use Rattle.pb_links.specs.Spots.{PlacesValue}
@@ -14,7 +15,8 @@ use Rattle.pb_walk.specs.Walks.{walk_of}
 use Rattle.pb_walk.specs.declared.stop.Stop.{Stop}
 use Rattle.pb_solution.specs.Solutions.{stop_cell, stops_of}
 use Rattle.pb_model.specs.Cells.{Cell}
-use Rattle.pb_runs.specs.Seats.{Seat, cell_at, no_seat, seat_cells, spot_at}
+use Rattle.pb_seats.specs.declared.seat.Seat.{Seat}
+use Rattle.pb_seats.specs.Seats.{cell_at, no_seat, seat_cells, spot_at}
 
 -- ---- instances
 -- a transform with its number and what is found of it, in the call with this number, at sizes; and where its matrices stand
@@ -46,10 +48,18 @@ pub record Copied : Type 0 where
   pub corner : ℕ × ℕ
   pub source : Seat
 
--- what a call that can't be made puts into the matrices of its targets
+-- a target of a call: its name as it is written, and how many dimensions it has
+pub record Target : Type 0 where
+  pub name : NameValue
+  pub dims : ℕ
+
+-- what a call that can't be made puts into the matrices of its targets: the first of them has this number among those of the run,
+-- and these have a cell
 pub record Failed : Type 0 where
   pub call : ℕ
   pub outcome : Outcome
+  pub targets : List Target
+  pub first : ℕ
   pub seats : List Seat
 
 -- each makes some cells: those of a job, by computing rules; copies of others; or a trap in each

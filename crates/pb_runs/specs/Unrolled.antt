@@ -1,12 +1,14 @@
 -- A run, unrolled: the steps of a call and of all calls below it, and where its matrices stand.
-use Rattle.std.specs.Prelude.{ℕ, zero, suc, ◌+◌, Bool, ◌&&◌, ◌==◌, false, if◌then◌else◌, List, [], ◌∷◌, ◌++◌, map, drop, filter, Option, Some, None, slice_get}
+use Rattle.std.specs.Prelude.{ℕ, zero, suc, ◌+◌, Bool, ◌&&◌, ◌==◌, false, if◌then◌else◌, List, [], ◌∷◌, ◌++◌, map, drop, filter, Option, Some, None, slice_get, slice_index_or}
 use Rattle.std.specs.List.{zip}
 use Rattle.std.specs.Option.{option_map_or}
 use Rattle.pb_values.specs.declared.outcome.Kind.TheVariants.{BadShape, DepthEnded}
 use Rattle.pb_values.specs.declared.outcome.Outcome.{Outcome}
+use Rattle.pb_program.specs.declared.plan.Slot.{Slot}
 use Rattle.pb_program.specs.declared.plan.Slot.TheVariants as slot
 use Rattle.pb_program.specs.declared.view.Read.{Read}
 use Rattle.pb_program.specs.Configs.{ConfigValue}
+use Rattle.pb_program.specs.Forms.{DeclValue}
 use Rattle.pb_program.specs.Plans.{PlanCallValue}
 use Rattle.pb_program.specs.Trees.{ProgRule, ProgTransform}
 use Rattle.pb_model.specs.Cells.{natural}
@@ -19,10 +21,11 @@ use Rattle.pb_tasks.specs.Boxes.{rect_from, spot_of}
 use Rattle.pb_tasks.specs.Made.{jobs_for}
 use Rattle.pb_recursion.specs.Counts.{is_plan_kind}
 use Rattle.pb_recursion.specs.Depths.{trapped_by}
-use Rattle.pb_recursion.specs.Plans.{Names, calls_of_rule, fits_call, named, names_of_reads, no_cell, target_sides}
+use Rattle.pb_recursion.specs.Plans.{Names, calls_of_rule, fits_call, locals_of_rule, named, names_of_reads, no_cell, target_sides}
 use Rattle.pb_recursion.specs.Shapes.{Sides, area, sides_of_decl, sizes_from}
-use Rattle.pb_runs.specs.Seats.{Seat, no_seat, part_seat, sides_of_seat}
-use Rattle.pb_runs.specs.Steps.{Instance, Step, by_copy, by_job, by_trap, seat_in}
+use Rattle.pb_seats.specs.declared.seat.Seat.{Seat}
+use Rattle.pb_seats.specs.Seats.{no_seat, part_seat, sides_of_seat}
+use Rattle.pb_runs.specs.Steps.{Instance, Step, Target, by_copy, by_job, by_trap, seat_in}
 
 -- how many calls, matrices and cells are met
 pub record Met : Type 0 where
@@ -70,15 +73,15 @@ abbrev pub seat_has_cells : Seat → Bool
 seat_has_cells s = has_place s.rect
 
 -- the step of a call that can't be made, unless it has no cell
-abbrev pub trap_step : ℕ → Outcome → List Seat → List Step
-trap_step call o [] = []
-trap_step call o (s ∷ rest) = by_trap (record { call = call; outcome = o; seats = s ∷ rest }) ∷ []
+abbrev pub trap_step : List Target → ℕ → ℕ → Outcome → List Seat → List Step
+trap_step targets first call o [] = []
+trap_step targets first call o (s ∷ rest) = by_trap (record { call = call; outcome = o; targets = targets; first = first; seats = s ∷ rest }) ∷ []
 
 -- such a call: a matrix for each target
-abbrev pub failed : Outcome → List Sides → Met → Unrolled
-failed o wanted n = record {
+abbrev pub failed : List Target → Outcome → List Sides → Met → Unrolled
+failed targets o wanted n = record {
   seats = seats_from (after_call n) wanted;
-  steps = trap_step n.calls o (filter seat_has_cells (seats_from (after_call n) wanted));
+  steps = trap_step targets n.matrices n.calls o (filter seat_has_cells (seats_from (after_call n) wanted));
   next = after_matrices (after_call n) wanted;
 }
 
@@ -104,14 +107,26 @@ played make (c ∷ rest) names n =
 abbrev pub given_back : List ProgTransform → PlanCallValue → Unrolled → Unrolled
 given_back p c u = record { seats = drop (option_map_or (λ (t : ProgTransform). t.middles) (slice_get p c.transform) 0) u.seats; steps = u.steps; next = u.next }
 
+-- what a name of a plan is called, and how many dimensions it has
+abbrev pub no_target : Target
+no_target = record { name = record { bytes = []; at = 0 }; dims = 0 }
+
+abbrev pub target_of : ProgRule → Slot → Target
+target_of r (slot.Out k) = record { name = slice_index_or r.names k no_target.name; dims = option_map_or (λ (o : Read). o.dims) (slice_get r.outs k) 0 }
+target_of r (slot.Local k) = option_map_or (λ (d : DeclValue). record { name = d.name; dims = d.dims }) (slice_get (locals_of_rule r) k) no_target
+target_of r (slot.Read k) = no_target
+
+abbrev pub targets_of : ProgRule → PlanCallValue → List Target
+targets_of r c = map (target_of r) c.targets
+
 module _ (p : List ProgTransform) (i : Instance) (rule : ℕ) (r : ProgRule) where
   -- at depth 0 no call can be made; else one that doesn't fit; else it is one less deep
   abbrev pub unrolled_by : Option Unroll → Player
-  unrolled_by None c given n = failed (trapped_by i.number i.transform i.sizes rule r DepthEnded) (target_sides i.transform.matrices i.sizes r c) n
+  unrolled_by None c given n = failed (targets_of r c) (trapped_by i.number i.transform i.sizes rule r DepthEnded) (target_sides i.transform.matrices i.sizes r c) n
   unrolled_by (Some deeper) c given n =
       if fits_call i.transform.matrices i.sizes p r c
       then given_back p c (deeper c.transform given n)
-      else failed (trapped_by i.number i.transform i.sizes rule r BadShape) (target_sides i.transform.matrices i.sizes r c) n
+      else failed (targets_of r c) (trapped_by i.number i.transform i.sizes rule r BadShape) (target_sides i.transform.matrices i.sizes r c) n
 
 -- where what a view shows stands
 abbrev pub view_seat : Instance → Read → Seat

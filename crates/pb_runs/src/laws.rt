@@ -1,19 +1,25 @@
-ghost use Rattle.std.specs.Prelude.{◌≡◌, ◌↔◌, ◌<◌, ◌≤◌, ℕ, List, Some, map, slice_get};
-ghost use Rattle.std.specs.List.{AllZip, Contains};
+ghost use Rattle.std.specs.Prelude.{◌≡◌, ◌↔◌, ◌<◌, ◌≤◌, ℕ, List, None, Some, map, slice_get};
+ghost use Rattle.std.specs.List.{All, AllZip, Contains};
 ghost use Rattle.pb_links.specs.Links.{predecessors};
 ghost use Rattle.pb_links.specs.declared.places.Spot.{Spot};
 ghost use Rattle.pb_program.specs.Configs.{ConfigValue};
 ghost use Rattle.pb_program.specs.Trees.{ProgTransform};
-ghost use Rattle.pb_model.specs.Calls.{Outcomes};
+ghost use Rattle.pb_values.specs.declared.shape.TheConstants.{MOST_SIDE};
+ghost use Rattle.pb_model.specs.Calls.{Outcomes, cell_reads};
+ghost use Rattle.pb_model.specs.Cells.{Cell};
 ghost use Rattle.pb_check.specs.Orders.{AnalysisValue};
+ghost use Rattle.pb_frame.specs.Frames.{JobValue};
 ghost use Rattle.pb_taskgraph.specs.Graphs.{EachOnce};
+ghost use Rattle.pb_taskgraph.specs.Plans.{IsSmall};
+ghost use Rattle.pb_walk.specs.declared.stop.Stop.{Stop};
+ghost use Rattle.pb_solution.specs.Solutions.{outcomes_of, stop_cell, stops_of};
 ghost use Rattle.pb_recursion.specs.Counts.{run_count};
 ghost use Rattle.pb_recursion.specs.Depths.{call_at, sides_of_matrix};
-ghost use Rattle.pb_runs.specs.Laws.{IsEntered, IsLinked, IsThere};
+ghost use Rattle.pb_runs.specs.Laws.{IsEntered, IsLinked, IsThere, MayUse};
 ghost use Rattle.pb_runs.specs.Matrices.{run_matrices};
 ghost use Rattle.pb_runs.specs.Placed.{IsPlaced, SpotCell, greatest_side, total};
-ghost use Rattle.pb_runs.specs.Right.{IsRight, ReadsNumber};
-ghost use Rattle.pb_runs.specs.Steps.{Step, boxes_of, cells_in, cells_of, parts_of, places_of};
+ghost use Rattle.pb_runs.specs.Right.{IsRight, ReadsNumber, no_plans, source_number};
+ghost use Rattle.pb_runs.specs.Steps.{Copied, Instance, Step, boxes_of, by_copy, by_job, cells_in, cells_of, copied_stops, number_at, parts_of, places_of};
 ghost use Rattle.pb_runs.specs.Unrolled.{unrolled_run};
 
 /// A law: the matrices that a run gives are those of its first call, and stand where the seats of the unrolled run say.
@@ -80,4 +86,28 @@ pub fn what_a_step_reads_is_linked()
     ensures { (p : List ProgTransform) (found : List AnalysisValue) (config : ConfigValue) (grain depth number : ℕ) (ins : List Outcomes) → IsEntered p found config number ins
         → (k : ℕ) (s : Step) → slice_get (unrolled_run p found config grain depth number (map sides_of_matrix ins)).steps k ≡ Some s → (b : Spot) → Contains (boxes_of s) b
         → (c : ℕ) → SpotCell (run_matrices p found config grain depth number ins) b c → IsLinked ins (unrolled_run p found config grain depth number (map sides_of_matrix ins)).steps k c }
+{}
+
+/// A law: when a step makes a cell, it may read what the cell's chosen rule reads, or the source of a copy; and a step that makes all
+/// cells of a rule at once, or copies, may read that before it makes any.
+pub fn a_step_may_read_what_its_cells_read()
+    ensures one { (p : List ProgTransform) (found : List AnalysisValue) (config : ConfigValue) (grain depth number : ℕ) (ins : List Outcomes) → IsEntered p found config number ins
+        → (k : ℕ) (i : Instance) (job : JobValue) → slice_get (unrolled_run p found config grain depth number (map sides_of_matrix ins)).steps k ≡ Some (by_job i job) → job.rule ≡ None
+        → (n : ℕ) (s : Stop) → slice_get (stops_of i.found.nodes i.found.order.layers job) n ≡ Some s → (d : Cell) → Contains (cell_reads config no_plans i.number i.transform i.sizes (stop_cell s)) d
+        → MayUse ins (unrolled_run p found config grain depth number (map sides_of_matrix ins)).steps k n (number_at i d) }
+    ensures all { (p : List ProgTransform) (found : List AnalysisValue) (config : ConfigValue) (grain depth number : ℕ) (ins : List Outcomes) → IsEntered p found config number ins
+        → (k : ℕ) (i : Instance) (job : JobValue) (rule : ℕ) → slice_get (unrolled_run p found config grain depth number (map sides_of_matrix ins)).steps k ≡ Some (by_job i job) → job.rule ≡ Some rule
+        → (n : ℕ) (s : Stop) → slice_get (stops_of i.found.nodes i.found.order.layers job) n ≡ Some s → (d : Cell) → Contains (cell_reads config no_plans i.number i.transform i.sizes (stop_cell s)) d
+        → MayUse ins (unrolled_run p found config grain depth number (map sides_of_matrix ins)).steps k 0 (number_at i d) }
+    ensures copied { (p : List ProgTransform) (found : List AnalysisValue) (config : ConfigValue) (grain depth number : ℕ) (ins : List Outcomes) → IsEntered p found config number ins
+        → (k : ℕ) (i : Instance) (c : Copied) → slice_get (unrolled_run p found config grain depth number (map sides_of_matrix ins)).steps k ≡ Some (by_copy i c)
+        → (s : Stop) → Contains (copied_stops i c) s → MayUse ins (unrolled_run p found config grain depth number (map sides_of_matrix ins)).steps k 0 (source_number c s) }
+{}
+
+/// A law: where no side passes its limit and what is given is small, each outcome of a run is a number of 64 bits, or the trap of a
+/// transform, a rule and a place within their limits.
+pub fn the_outcomes_of_a_run_are_small()
+    ensures { (p : List ProgTransform) (found : List AnalysisValue) (config : ConfigValue) (grain depth number : ℕ) (ins : List Outcomes) → IsEntered p found config number ins
+        → greatest_side (run_matrices p found config grain depth number ins) ≤ MOST_SIDE → All (λ (m : Outcomes). All IsSmall m.cells) ins
+        → All IsSmall (outcomes_of (run_matrices p found config grain depth number ins)) }
 {}

@@ -16,7 +16,8 @@ mod laws;
 
 pub use laws::{
     a_run_gives_what_its_call_means, a_run_is_counted_from_its_sides,
-    a_step_waits_for_earlier_ones, each_cell_of_a_run_is_made_once, each_step_is_right,
+    a_step_may_read_what_its_cells_read, a_step_waits_for_earlier_ones,
+    each_cell_of_a_run_is_made_once, each_step_is_right, the_outcomes_of_a_run_are_small,
     the_parts_of_a_step_have_its_cells, what_a_step_reads_is_linked,
     what_a_step_reads_is_made_before,
 };

@@ -1,20 +1,12 @@
 -- Where the matrices of an instance stand: rectangles of the matrices of a run, which have cells of their own.
-use Rattle.std.specs.Prelude.{ℕ, ◌+◌, ◌-◌, ◌*◌, Bool, true, false, not, if◌then◌else◌, pos, List, map}
+use Rattle.std.specs.Prelude.{ℕ, ◌+◌, ◌-◌, ◌*◌, ◌^◌, ◌≤◌, ℤ, Bool, true, false, not, if◌then◌else◌, pos, List, map}
 use Rattle.std.specs.List.{flat_map, range_with_len}
 use Rattle.pb_values.specs.declared.rect.Rect.{Rect}
+use Rattle.pb_values.specs.declared.shape.TheConstants.{MOST_SIDE}
 use Rattle.pb_links.specs.declared.places.Spot.{Spot}
 use Rattle.pb_program.specs.declared.view.ReadView.{ReadView}
 use Rattle.pb_program.specs.declared.view.ReadView.TheVariants as view
-use Rattle.pb_recursion.specs.Shapes.{Sides}
-
--- a rectangle of the matrix of a run with this number, whose cells begin at `first` and whose rows have `row` cells each; turned,
--- what lies down in it goes across
-pub record Seat : Type 0 where
-  pub base : ℕ
-  pub first : ℕ
-  pub row : ℕ
-  pub rect : Rect
-  pub turned : Bool
+use Rattle.pb_seats.specs.declared.seat.Seat.{Seat}
 
 abbrev pub no_rect : Rect
 no_rect = record { x0 = 0; y0 = 0; x1 = 0; y1 = 0 }
@@ -29,7 +21,7 @@ across s = if s.turned then s.rect.y1 - s.rect.y0 else s.rect.x1 - s.rect.x0
 abbrev pub down : Seat → ℕ
 down s = if s.turned then s.rect.x1 - s.rect.x0 else s.rect.y1 - s.rect.y0
 
-abbrev pub sides_of_seat : Seat → Sides
+abbrev pub sides_of_seat : Seat → ℤ × ℤ
 sides_of_seat s = (pos (across s), pos (down s))
 
 -- the place of the matrix of the run
@@ -66,3 +58,20 @@ is_turning _ = false
 
 abbrev pub part_seat : ReadView → Seat → Rect → Seat
 part_seat v s r = record { base = s.base; first = s.first; row = s.row; rect = rect_at s r; turned = if is_turning v then not s.turned else s.turned }
+
+-- ---- what the code asks of a seat
+-- its matrix is no larger than one of a run
+pub record IsSmall (s : Seat) : Type 0 where
+  pub first : s.first ≤ 2 ^ 62
+  pub row : s.row ≤ MOST_SIDE
+  pub order_x : s.rect.x0 ≤ s.rect.x1
+  pub order_y : s.rect.y0 ≤ s.rect.y1
+  pub right : s.rect.x1 ≤ MOST_SIDE
+  pub high : s.rect.y1 ≤ MOST_SIDE
+
+-- a rectangle lies in what is seated so
+pub record LiesWithin (s : Seat) (r : Rect) : Type 0 where
+  pub order_x : r.x0 ≤ r.x1
+  pub order_y : r.y0 ≤ r.y1
+  pub right : r.x1 ≤ across s
+  pub high : r.y1 ≤ down s
