@@ -40,7 +40,7 @@ range-end k n past = let none : n - k ≡ 0 = omega arith in ap (range_with_len 
 pub drop-end : {A : Type 0} (xs : List A) (k : ℕ) → length xs ≤ k → drop k xs ≡ []
 drop-end xs k past = drop_of_length-le xs past
 
-row-count : {A : Type 0} (g : ℕ → A) (b n : ℕ) → length (map g (range_with_len b n)) ≡ n
+pub row-count : {A : Type 0} (g : ℕ → A) (b n : ℕ) → length (map g (range_with_len b n)) ≡ n
 row-count g b n = length-map-range_with_len g b n
 
 rows-count : {A : Type 0} (f : ℕ → ℕ → A) (w a h : ℕ) → length (flat_map (λ y. map (λ x. f x y) (range_with_len 0 w)) (range_with_len a h)) ≡ h * w

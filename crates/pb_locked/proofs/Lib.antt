@@ -1,4 +1,9 @@
 pub mod BoardLemmas
 pub mod CompleteLemmas
+pub mod FinishedLemmas
+pub mod HeldLemmas
+pub mod JobLemmas
+pub mod PlaceLemmas
+pub mod ReadyLemmas
 pub mod ScanLemmas
 pub mod TakeLemmas

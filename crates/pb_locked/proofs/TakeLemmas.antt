@@ -2,7 +2,7 @@
 use Rattle.std.proofs.Common.{◌≡◌, ◌∙◌, refl, sym, ap, subst, inl, inr, ◌⊎◌, ℕ, eqb, false, List, [], ◌∷◌, get_or, Option, Some, None, Result, Ok, Err}
 use Rattle.std.proofs.Math.Bool.{cond}
 use Rattle.std.proofs.lemmas.Bool.{eq-eqb}
-use Rattle.pb_taskgraph.specs.Plans.{Plan}
+use Rattle.pb_taskgraph.specs.Plans.{IsPlan, Plan}
 use Rattle.pb_core.specs.declared.event.Event.{Event}
 use Rattle.pb_core.specs.declared.event.Event.TheVariants.{Give, Start}
 use Rattle.pb_core.specs.declared.event.NotEnabled.{NotEnabled}
@@ -10,7 +10,8 @@ use Rattle.pb_core.specs.declared.progress.Progress.{Progress}
 use Rattle.pb_core.specs.States.{Enabled, State, happens}
 use Rattle.pb_core.specs.Events.{AllEnabled, all_happen}
 use Rattle.pb_core.specs.Cores.{CoreValue, Steps, state_of, untouched}
-use Rattle.pb_locked.specs.Boards.{taken_from}
+use Rattle.pb_locked.specs.Boards.{HasBegun, IsBoard, Takes, taken_from}
+use Rattle.pb_locked.proofs.BoardLemmas.{take}
 
 -- an enabled event happens
 pub did : (p : Plan) (old : CoreValue) (e : Event) (result : Result (Unit {0}) NotEnabled) (new : CoreValue) → Steps p old e result new → Enabled p (state_of p old) e → state_of p new ≡ happens p (state_of p old) e
@@ -47,3 +48,7 @@ module _ (p : Plan) (old : CoreValue) (hand t : ℕ) (at : Progress) (is : at �
       are : (at.holder ≡ None) ⊎ (at.holder ≡ Some hand) → taken_from ((state_of p old).holder t) hand t ≡ Start hand t ∷ []
       are (inl none) = ap (λ (o : Option ℕ). taken_from o hand t) (sym held ∙ none)
       are (inr mine) = ap (λ (o : Option ℕ). taken_from o hand t) (sym held ∙ mine) ∙ ap (λ c. cond c (Start hand t ∷ []) (Give hand hand t ∷ (Start hand t ∷ []))) (eq-eqb hand hand refl)
+
+-- a task that was taken is begun
+pub took-begun : (p : Plan) → IsPlan p → (old new : CoreValue) (hand t : ℕ) → IsBoard p (state_of p old) → Takes p old hand (Some t) new → HasBegun (state_of p new) hand t
+took-begun p is old new hand t board takes = subst (λ (s : State). HasBegun s hand t) (sym takes.1) (take p is (state_of p old) board hand t takes.0.0).begun

@@ -3,24 +3,15 @@ ghost use Rattle.pb_taskgraph.specs.Graphs.{cells_of};
 ghost use Rattle.pb_core.specs.States.{first_state};
 ghost use Rattle.pb_core.specs.Events.{AllEnabled, AllFinished, all_happen};
 ghost use Rattle.pb_core.specs.Cores.{state_of};
-ghost use Rattle.pb_locked.specs.Boards.{Completes, FindsBegun, FindsReady, HoldsOther, IsBoard, Takes, outcomes_of, taken_from};
+ghost use Rattle.pb_locked.specs.Boards.{Completes, FindsBegun, HoldsOther, IsBoard, Takes, outcomes_of, taken_from};
 
 use crate::complete::complete_task;
+use crate::ready::{Ready, add_ready, first_ready};
 use pb_core::{Core, Event, NotEnabled, Progress};
 use pb_taskgraph::{NamesWork, Work};
 use pb_values::Outcome;
 use std::alloc::{AllocError, Global};
 use std::marker::Model;
-
-/// Whether a task with this progress is ready.
-fn is_ready(at: Progress) -> bool
-    ensures { IsTrue result ↔ ((at.runner ≡ None) × (at.count ≡ 0)) }
-{
-    if at.runner.is_some() {
-        return false;
-    }
-    at.count == 0
-}
 
 /// The hand that has begun a task with this progress.
 fn begun_by(at: Progress) -> Option<u32>
@@ -77,17 +68,19 @@ fn take_task<W: Work, N: NamesWork>(core: &mut Core<'_, W, N>, hand: u32, task: 
 #[derive(Drop)]
 pub struct Board<'w, W: Work, N: NamesWork> {
     core: Core<'w, W, N>,
+    ready: Ready,
 }
 
 impl<'w, W: Work, N: NamesWork> Model for Board<'w, W, N> {
     ghost use Rattle.pb_core.specs.Cores.{CoreValue, state_of};
     ghost use Rattle.pb_locked.specs.Boards.{IsBoard};
+    ghost use Rattle.pb_locked.specs.Ready.{HoldsReady};
 
     ghost Value = { CoreValue };
 
     ghost view = { λ b. b.core };
 
-    ghost invariant = { λ b. IsBoard N.plan (state_of N.plan b.core) };
+    ghost invariant = { λ b. IsBoard N.plan (state_of N.plan b.core) × HoldsReady N.plan (state_of N.plan b.core) b.ready };
 }
 
 impl<'w, W: Work, N: NamesWork> Board<'w, W, N> {
@@ -98,10 +91,9 @@ impl<'w, W: Work, N: NamesWork> Board<'w, W, N> {
         requires few { hands ≤ 64 }
         ensures { IfOk result (λ board. state_of N.plan board ≡ first_state N.plan hands) }
     {
-        // What is known of a work is told with its graph.
-        let _graph = work.graph();
+        let ready = first_ready(alloc, work.graph())?;
         let core = Core::new(alloc, work, hands)?;
-        Ok(Board { core })
+        Ok(Board { core, ready })
     }
 
     /// The outcome of a cell; None where it isn't written.
@@ -112,23 +104,19 @@ impl<'w, W: Work, N: NamesWork> Board<'w, W, N> {
         self.core.value(cell)
     }
 
-    /// The ready task of least number.
-    fn least_ready(&self) -> Option<u32>
-        ensures { FindsReady N.plan (state_of N.plan self.now) result }
+    /// The finish number of a task; None where it isn't finished.
+    pub(crate) fn number(&self, task: u32) -> Option<u64>
+        requires { task < length N.plan.graph.tasks }
+        ensures { result ≡ (state_of N.plan self.now).number task }
     {
-        for task in 0..self.core.graph().tasks().len() {
-            if is_ready(self.core.progress(task as u32)) {
-                return Some(task as u32);
-            }
-        }
-        None
+        self.core.number(task)
     }
 
     /// The ready task of least number, which this hand has now begun; None where no task is ready.
     pub fn take(&mut self, hand: u32) -> Option<u32>
         ensures { Takes N.plan self.old hand result self.new }
     {
-        let task = match self.least_ready() {
+        let task = match self.ready.take() {
             Some(task) => task,
             None => return None,
         };
@@ -153,6 +141,7 @@ impl<'w, W: Work, N: NamesWork> Board<'w, W, N> {
             return Err(NotEnabled);
         }
         complete_task(&mut self.core, hand, task, links, values);
+        add_ready(&self.core, &mut self.ready, &links.after);
         Ok(())
     }
 

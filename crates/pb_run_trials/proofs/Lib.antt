@@ -1,2 +1,3 @@
 pub mod SumsLemmas
 pub mod PlanLemmas
+pub mod PairLemmas

@@ -2,9 +2,13 @@
 #![tactic(auto)]
 
 #[cfg(test)]
+mod boards;
+#[cfg(test)]
 mod links;
 #[cfg(test)]
 mod machine;
+#[cfg(test)]
+mod pools;
 #[cfg(test)]
 mod serial;
 pub mod sums;

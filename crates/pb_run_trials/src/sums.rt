@@ -1,4 +1,5 @@
-ghost use Rattle.std.specs.Prelude.{◌≡◌, ◌<◌, ◌≤◌, IfOk, length};
+ghost use Rattle.std.specs.Prelude.{◌≡◌, ◌<◌, ◌≤◌, ◌+◌, [], ◌∷◌, IfOk, length};
+ghost use Rattle.pb_taskgraph.specs.Graphs.{cells_of};
 ghost use Rattle.pb_run_trials.specs.Sums.{IsRow, IsStep, sum_of};
 
 use pb_taskgraph::{CellPort, Part, Task, TaskGraph, TaskKind, Work};
@@ -113,6 +114,15 @@ impl Sums {
             first,
             second,
         })
+    }
+
+    /// The first of the two cells of a task.
+    pub fn first_cell(&self, task: u32) -> u64
+        requires { task < length self.now.graph.tasks }
+        ensures { cells_of self.now.graph task ≡ result ∷ (result + 1) ∷ [] }
+    {
+        let _graph = &self.graph;
+        2 * u64::from(task) + 2
     }
 }
 

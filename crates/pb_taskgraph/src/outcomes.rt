@@ -29,7 +29,7 @@ impl Outcomes {
 
     /// So many outcomes, of which each is 0.
     #[tactic(auto, using(crate::proofs::PackedLemmas::length_in))]
-    pub(crate) fn zeros(alloc: Global, cells: u64) -> Result<Outcomes, AllocError>
+    pub fn zeros(alloc: Global, cells: u64) -> Result<Outcomes, AllocError>
         ensures { IfOk result (λ o. length o ≡ cells) }
     {
         Ok(Outcomes {
@@ -73,7 +73,7 @@ impl Outcomes {
 
     /// Puts the outcome of a cell in the place of the one that is there.
     #[inline(always)]
-    pub(crate) fn set(&mut self, cell: u64, outcome: Outcome)
+    pub fn set(&mut self, cell: u64, outcome: Outcome)
         requires below { cell < length self.old }
         requires small { IsSmall outcome }
         ensures { self.new ≡ slice_set self.old cell outcome }

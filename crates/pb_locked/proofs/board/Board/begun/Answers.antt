@@ -13,4 +13,4 @@ loop-task-preserved g c = below_more _ _ c.loop-task.invariant
 pub returns : goal.returns
 returns g c =
     let tasks = ap length (c.tasks-task-end.ensures.tasks ∙ ap (λ (h : GraphValue). h.tasks) c.graph.ensures.graph) in
-    none-begun g.N.NamesWork.plan c.graph.ensures.plan _ c.args.self.now c.self.view_is c.self.invariant (λ k below. c.loop-task.invariant k (omega (arith, tasks, c.loop-task-test.false)))
+    none-begun g.N.NamesWork.plan c.graph.ensures.plan _ c.args.self.now c.self.view_is c.self.invariant.0 (λ k below. c.loop-task.invariant k (omega (arith, tasks, c.loop-task-test.false)))

@@ -1,0 +1,8 @@
+use Rattle.std.proofs.Common.{◌≡◌, map}
+use Rattle.std.specs.List.{range_with_len}
+use Rattle.pb_values.specs.Views.{cell_of}
+use Rattle.pb_locked.specs.Places.{numbered}
+use Rattle.pb_locked.proofs.places.number_row.Given as goal
+
+abbrev pub invariant-loop-x : goal.invariant-loop-x
+invariant-loop-x l = l.places.items ≡ numbered l.initial.places.items (map (λ x. cell_of l.view x l.y) (range_with_len 0 l.x)) l.first
