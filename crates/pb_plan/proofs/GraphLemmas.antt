@@ -28,11 +28,11 @@ use Rattle.pb_links.proofs.LawLemmas.{after-others, before-others, mirrored}
 use Rattle.pb_links.proofs.RisingLemmas.{rising-once, rising-picked}
 use Rattle.pb_taskgraph.specs.Graphs.{EachOnce, GraphValue, IsGraph, IsLinked, IsPartition, TaskValue, after_of, before_of, cells_of, link_count, task_cells}
 use Rattle.pb_taskgraph.specs.declared.task.Part.{Part}
-use Rattle.pb_tasks.specs.Boxes.{places_of}
-use Rattle.pb_tasks.specs.Made.{IsMadeBy, jobs_for}
-use Rattle.pb_tasks.proofs.BeforeLemmas.{stands_before}
-use Rattle.pb_tasks.proofs.JobLemmas.{at_map, map_at}
-use Rattle.pb_tasks.proofs.MadeLemmas.{made_by, made_cell, made_once}
+use Rattle.pb_plan.specs.Boxes.{places_of}
+use Rattle.pb_plan.specs.Made.{IsMadeBy, jobs_for}
+use Rattle.pb_plan.proofs.BeforeLemmas.{stands_before}
+use Rattle.pb_plan.proofs.JobLemmas.{at_map, map_at}
+use Rattle.pb_plan.proofs.MadeLemmas.{made_by, made_cell, made_once}
 use Rattle.pb_views.specs.Layouts.{AreInARow, cell_count, shape_of}
 use Rattle.pb_plan.specs.Tasks.{AreTasks, IsPartFor, IsTaskFor, IsWithinLimits, graph_of}
 use Rattle.pb_plan.proofs.LinkedLemmas.{HasLinksOf, at_zip, before_in as before_listed, in_index, in_view, index_is, is_linked, links_are, once_view, some_at, view_in, zip_at}

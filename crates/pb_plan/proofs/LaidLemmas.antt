@@ -31,9 +31,9 @@ use Rattle.pb_frame.specs.Choices.{IsInstance}
 use Rattle.pb_frame.specs.Frames.{FrameValue, IsFrame, JobValue, in_layer, layer_jobs}
 use Rattle.pb_frame.specs.declared.part.FramePart.{FramePart}
 use Rattle.pb_frame.proofs.FoundLemmas.{instance, numbers_of, said_of}
-use Rattle.pb_tasks.specs.Boxes.{HasNodes, IsJob}
-use Rattle.pb_tasks.proofs.ReadableLemmas.{are_jobs, have_nodes}
-use Rattle.pb_tasks.specs.Made.{jobs_for}
+use Rattle.pb_plan.specs.Boxes.{HasNodes, IsJob}
+use Rattle.pb_plan.proofs.ReadableLemmas.{are_jobs, have_nodes}
+use Rattle.pb_plan.specs.Made.{jobs_for}
 use Rattle.pb_views.specs.Layouts.{AreInARow}
 use Rattle.pb_views.specs.Windows.{AreLaid}
 use Rattle.pb_plan.specs.Laid.{HasRoom}

@@ -1,3 +1,13 @@
+pub mod BeforeLemmas
+pub mod BoxLemmas
+pub mod FlatLemmas
+pub mod JobLemmas
+pub mod MadeLemmas
+pub mod ReadableLemmas
+pub mod ReadingLemmas
+pub mod RiseLemmas
+pub mod SpreadLemmas
+pub mod WideLemmas
 pub mod GraphLemmas
 pub mod LaidLemmas
 pub mod NumberLemmas

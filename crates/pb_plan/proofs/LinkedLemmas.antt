@@ -14,7 +14,7 @@ use Rattle.pb_links.specs.Spots.{PlacesValue}
 use Rattle.pb_links.proofs.LawLemmas.{after-others, before-others, mirrored}
 use Rattle.pb_links.proofs.RisingLemmas.{rising-once, rising-picked}
 use Rattle.pb_taskgraph.specs.Graphs.{EachOnce, GraphValue, IsLinked, TaskValue, after_of, before_of, link_count}
-use Rattle.pb_tasks.proofs.JobLemmas.{at_map, map_at}
+use Rattle.pb_plan.proofs.JobLemmas.{at_map, map_at}
 use Rattle.pb_plan.proofs.OnceLemmas.{Once, once_flat, once_map, once_range}
 
 -- ---- the cells of a view

@@ -4,9 +4,9 @@ use Rattle.std.specs.List.{Contains, flat_map, range_with_len}
 use Rattle.std.proofs.lemmas.Option.{slice_get-get_or}
 use Rattle.pb_base.proofs.ListLemmas.{in_at}
 use Rattle.pb_taskgraph.specs.Graphs.{EachOnce}
-use Rattle.pb_tasks.proofs.FlatLemmas.{at_flat, start}
-use Rattle.pb_tasks.proofs.JobLemmas.{map_at}
-use Rattle.pb_tasks.proofs.RiseLemmas.{rises_one, rises_range}
+use Rattle.pb_plan.proofs.FlatLemmas.{at_flat, start}
+use Rattle.pb_plan.proofs.JobLemmas.{map_at}
+use Rattle.pb_plan.proofs.RiseLemmas.{rises_one, rises_range}
 
 -- by elements
 abbrev pub Once : {A : Type 0} → List A → Type 0

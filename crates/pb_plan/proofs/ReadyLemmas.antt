@@ -29,11 +29,11 @@ use Rattle.pb_frame.proofs.PartLemmas.{of_part, top_of}
 use Rattle.pb_links.specs.Spots.{AllWithin, IsWithin, PlacesValue}
 use Rattle.pb_links.specs.declared.places.Spot.{Spot}
 use Rattle.pb_taskgraph.specs.Graphs.{GraphValue}
-use Rattle.pb_tasks.specs.Boxes.{HasRule, IsBoxed, IsJob, boxes_by, part_box, part_boxes, places_of, spot_of, whole_box}
-use Rattle.pb_tasks.specs.Made.{IsMadeBy, jobs_for}
-use Rattle.pb_tasks.proofs.BeforeLemmas.{home, some_places}
-use Rattle.pb_tasks.proofs.MadeLemmas.{made_cell}
-use Rattle.pb_tasks.proofs.ReadableLemmas.{are_jobs}
+use Rattle.pb_plan.specs.Boxes.{HasRule, IsBoxed, IsJob, boxes_by, part_box, part_boxes, places_of, spot_of, whole_box}
+use Rattle.pb_plan.specs.Made.{IsMadeBy, jobs_for}
+use Rattle.pb_plan.proofs.BeforeLemmas.{home, some_places}
+use Rattle.pb_plan.proofs.MadeLemmas.{made_cell}
+use Rattle.pb_plan.proofs.ReadableLemmas.{are_jobs}
 use Rattle.pb_views.specs.Layouts.{AreInARow, HasShortSides}
 use Rattle.pb_plan.specs.Laid.{HasRoom, IsLaid, LaidValue}
 use Rattle.pb_plan.specs.Planned.{IsPlanned, IsReady, IsTooLarge, IsTooMany}

@@ -20,8 +20,8 @@ use Rattle.pb_links.specs.Links.{all_predecessors, all_successors, predecessors,
 use Rattle.pb_links.specs.Spots.{PlacesValue}
 use Rattle.pb_taskgraph.specs.Graphs.{TaskValue}
 use Rattle.pb_taskgraph.specs.declared.task.Part.{Part}
-use Rattle.pb_tasks.specs.Boxes.{places_of}
-use Rattle.pb_tasks.proofs.JobLemmas.{map_at}
+use Rattle.pb_plan.specs.Boxes.{places_of}
+use Rattle.pb_plan.proofs.JobLemmas.{map_at}
 use Rattle.pb_plan.specs.Tasks.{AreTasks, IsPartFor, IsTaskFor, LiesInView, kind_for}
 
 -- ---- two lists side by side, and one more of each

@@ -10,7 +10,7 @@ use Rattle.pb_check.specs.Orders.{AnalysisValue}
 use Rattle.pb_frame.specs.Frames.{FrameValue, IsFrame}
 use Rattle.pb_links.specs.Spots.{PlacesValue}
 use Rattle.pb_taskgraph.specs.declared.limits.TheConstants.{MOST_CELLS}
-use Rattle.pb_tasks.specs.Boxes.{places_of}
+use Rattle.pb_plan.specs.Boxes.{places_of}
 use Rattle.pb_views.specs.Layouts.{AreInARow, HasShortSides, cell_count}
 
 pub record LaidValue : Type 0 where

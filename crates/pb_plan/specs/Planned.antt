@@ -17,8 +17,8 @@ use Rattle.pb_links.specs.declared.refusal.LinksRefusal.{LinksRefusal}
 use Rattle.pb_links.specs.declared.refusal.LinksRefusal.TheVariants as links
 use Rattle.pb_taskgraph.specs.Graphs.{GraphValue, IsGraph, TaskValue}
 use Rattle.pb_taskgraph.specs.declared.limits.TheConstants.{MOST_LINKS, MOST_TASKS}
-use Rattle.pb_tasks.specs.Boxes.{places_of}
-use Rattle.pb_tasks.specs.Made.{jobs_for}
+use Rattle.pb_plan.specs.Boxes.{places_of}
+use Rattle.pb_plan.specs.Made.{jobs_for}
 use Rattle.pb_plan.specs.Laid.{HasRoom, IsLaid, LaidValue}
 use Rattle.pb_plan.specs.Tasks.{AreTasks, IsWithinLimits, LiesInView, graph_of}
 use Rattle.pb_plan.specs.declared.refusal.PlanRefusal.{PlanRefusal}

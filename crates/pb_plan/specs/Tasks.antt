@@ -14,7 +14,7 @@ use Rattle.pb_taskgraph.specs.declared.limits.TheConstants.{MOST_CELLS, MOST_LIN
 use Rattle.pb_taskgraph.specs.declared.task.Part.{Part}
 use Rattle.pb_taskgraph.specs.declared.task.TaskKind.{TaskKind}
 use Rattle.pb_taskgraph.specs.declared.task.TaskKind.TheVariants.{Block, Wide}
-use Rattle.pb_tasks.specs.Boxes.{places_of}
+use Rattle.pb_plan.specs.Boxes.{places_of}
 use Rattle.pb_views.specs.Layouts.{cell_count}
 
 -- the segment of a part is there, and its matrix, as one of these views; and the part lies in it

@@ -10,7 +10,7 @@ use pb_frame::{FrameTasks, frame};
 use pb_linear::Sizes;
 use pb_links::Places;
 use pb_program::Config;
-use pb_tasks::places;
+use crate::jobs::places;
 use pb_values::View;
 use pb_views::lay_out;
 use std::alloc::{AllocError, Global};

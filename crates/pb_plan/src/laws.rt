@@ -5,7 +5,7 @@ ghost use Rattle.pb_program.specs.Trees.{ProgTransform};
 ghost use Rattle.pb_check.specs.Orders.{AnalysisValue};
 ghost use Rattle.pb_frame.specs.Choices.{IsInstance};
 ghost use Rattle.pb_taskgraph.specs.Graphs.{IsGraph, TaskValue};
-ghost use Rattle.pb_tasks.specs.Made.{jobs_for};
+ghost use Rattle.pb_plan.specs.Made.{jobs_for};
 ghost use Rattle.pb_views.specs.Layouts.{AreInARow};
 ghost use Rattle.pb_plan.specs.Tasks.{AreTasks, IsWithinLimits, graph_of};
 

@@ -4,8 +4,8 @@ use Rattle.std.specs.List.{Contains, flat_map}
 use Rattle.std.proofs.lemmas.Bool.{cases_order}
 use Rattle.pb_base.proofs.ListLemmas.{at_in}
 use Rattle.pb_plan.proofs.OnceLemmas.{Once}
-use Rattle.pb_tasks.proofs.FlatLemmas.{flat_at, start, start_before, within}
-use Rattle.pb_tasks.proofs.JobLemmas.{at_map}
+use Rattle.pb_plan.proofs.FlatLemmas.{flat_at, start, start_before, within}
+use Rattle.pb_plan.proofs.JobLemmas.{at_map}
 
 module _ {A B : Type 0} (f : A → List B) (xs : List A) (once : Once (flat_map f xs)) where
   pub once_part : (k : ℕ) (x : A) → slice_get xs k ≡ Some x → Once (f x)

@@ -11,16 +11,16 @@ use Rattle.pb_frame.specs.declared.part.FramePart.{FramePart}
 use Rattle.pb_links.specs.declared.places.Spot.{Spot}
 use Rattle.pb_taskgraph.specs.Graphs.{TaskValue, task_cells}
 use Rattle.pb_taskgraph.specs.declared.task.Part.{Part}
-use Rattle.pb_tasks.specs.Boxes.{spot_of}
-use Rattle.pb_tasks.proofs.JobLemmas.{at_map, map_at}
+use Rattle.pb_plan.specs.Boxes.{spot_of}
+use Rattle.pb_plan.proofs.JobLemmas.{at_map, map_at}
 use Rattle.pb_walk.specs.Walks.{walk_of}
 use Rattle.pb_walk.specs.declared.stop.Stop.{Stop}
 use Rattle.pb_walk.proofs.WalkLemmas.{in_walk, walk_in}
 use Rattle.pb_plan.proofs.LinkedLemmas.{at_zip, in_view, once_view, view_in, zip_at}
 use Rattle.pb_plan.proofs.OnceLemmas.{Once, once_flat, once_range}
 use Rattle.pb_solution.specs.Solutions.{stop_cell, stops_of, steps_by}
-use Rattle.pb_seats.specs.declared.seat.Seat.{Seat}
-use Rattle.pb_seats.specs.Seats.{across, cell_at, down, seat_cells}
+use Rattle.pb_views.specs.declared.seat.Seat.{Seat}
+use Rattle.pb_views.specs.Seats.{across, cell_at, down, seat_cells}
 use Rattle.pb_runs.specs.Steps.{Copied, Failed, Instance, Step, by_copy, by_job, by_trap, cells_of, seat_in, stop_number}
 use Rattle.pb_run_plan.specs.RunTasks.{IsPartOf, IsTaskOf, Piece, piece_of, pieces_of, trapped_piece}
 use Rattle.pb_run_plan.proofs.OnceLemmas.{once_apart, once_mapped, once_part}

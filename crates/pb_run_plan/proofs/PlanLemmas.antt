@@ -15,7 +15,7 @@ use Rattle.pb_check.specs.Orders.{AnalysisValue}
 use Rattle.pb_taskgraph.specs.Graphs.{EachOnce, GraphValue, IsGraph, IsPartition, TaskValue, cells_of as graph_cells, task_cells}
 use Rattle.pb_taskgraph.specs.Plans.{IsPlan, IsSmall, Plan}
 use Rattle.pb_taskgraph.specs.Turns.{MayRead}
-use Rattle.pb_tasks.proofs.JobLemmas.{at_map, map_at}
+use Rattle.pb_plan.proofs.JobLemmas.{at_map, map_at}
 use Rattle.pb_plan.proofs.LinkedLemmas.{HasLinksOf, before_in, in_index, index_is, is_linked, links_are, some_at}
 use Rattle.pb_plan.proofs.OnceLemmas.{Once, once_each}
 use Rattle.pb_recursion.specs.Depths.{sides_of_matrix}

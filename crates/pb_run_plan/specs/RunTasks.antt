@@ -16,12 +16,12 @@ use Rattle.pb_taskgraph.specs.declared.limits.TheConstants.{MOST_CELLS, MOST_LIN
 use Rattle.pb_taskgraph.specs.declared.task.Part.{Part}
 use Rattle.pb_taskgraph.specs.declared.task.TaskKind.{TaskKind}
 use Rattle.pb_taskgraph.specs.declared.task.TaskKind.TheVariants.{Copy, Trap}
-use Rattle.pb_tasks.specs.Boxes.{spot_of}
+use Rattle.pb_plan.specs.Boxes.{spot_of}
 use Rattle.pb_plan.specs.Tasks.{kind_for}
 use Rattle.pb_solution.specs.Solutions.{outcomes_of}
 use Rattle.pb_runs.specs.Placed.{greatest_side, total}
-use Rattle.pb_seats.specs.declared.seat.Seat.{Seat}
-use Rattle.pb_seats.specs.Seats.{across, cell_at, down}
+use Rattle.pb_views.specs.declared.seat.Seat.{Seat}
+use Rattle.pb_views.specs.Seats.{across, cell_at, down}
 use Rattle.pb_runs.specs.Steps.{Failed, Instance, Step, Target, by_copy, by_job, by_trap, cells_of, places_of, seat_in}
 use Rattle.pb_runs.specs.Unrolled.{no_target}
 

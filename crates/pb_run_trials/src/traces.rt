@@ -3,8 +3,7 @@ ghost use Rattle.std.specs.Prelude.{◌<◌, IsTrue};
 ghost use Rattle.std.specs.List.{All};
 
 use crate::sums::Sums;
-use pb_taskgraph::{TaskGraph, Work};
-use pb_trace::trace;
+use pb_taskgraph::{TaskGraph, Work, trace};
 use std::alloc::{AllocError, Global};
 use std::test::Fail;
 

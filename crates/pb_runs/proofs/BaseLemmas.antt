@@ -4,7 +4,7 @@ use Rattle.std.specs.List.{flat_map}
 use Rattle.pb_values.specs.declared.outcome.Outcome.{Outcome}
 use Rattle.pb_model.specs.Calls.{Outcomes, no_outcome}
 use Rattle.pb_taskgraph.specs.Plans.{outcome_at}
-use Rattle.pb_tasks.proofs.FlatLemmas.{flat_at, start}
+use Rattle.pb_plan.proofs.FlatLemmas.{flat_at, start}
 use Rattle.pb_solution.proofs.OutcomeLemmas.{index_at}
 use Rattle.pb_solution.specs.Solutions.{outcomes_of}
 use Rattle.pb_model.specs.Cells.{natural}

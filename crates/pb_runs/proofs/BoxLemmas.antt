@@ -33,13 +33,13 @@ use Rattle.pb_frame.proofs.PartLemmas.{held_area, held_chosen, held_made, of_par
 use Rattle.pb_graph.specs.Nodes.{NodeValue}
 use Rattle.pb_links.specs.declared.places.Spot.{Spot}
 use Rattle.pb_links.proofs.LawLemmas.{before-shares}
-use Rattle.pb_tasks.specs.Boxes.{boxes_by, part_area, part_box, part_boxes, shown_at, spot_of, whole_box}
-use Rattle.pb_tasks.specs.Made.{IsMadeBy, jobs_for}
-use Rattle.pb_tasks.proofs.BeforeLemmas.{at_box, at_part, boxed, first_part, home, lower_or_same, own_layer, parts, places, some_places, stands_before}
-use Rattle.pb_tasks.proofs.JobLemmas.{part_of, placed}
-use Rattle.pb_tasks.proofs.MadeLemmas.{chosen, made_by}
-use Rattle.pb_tasks.proofs.SpreadLemmas.{shown_is}
-use Rattle.pb_tasks.proofs.WideLemmas.{applies_same, shown_same}
+use Rattle.pb_plan.specs.Boxes.{boxes_by, part_area, part_box, part_boxes, shown_at, spot_of, whole_box}
+use Rattle.pb_plan.specs.Made.{IsMadeBy, jobs_for}
+use Rattle.pb_plan.proofs.BeforeLemmas.{at_box, at_part, boxed, first_part, home, lower_or_same, own_layer, parts, places, some_places, stands_before}
+use Rattle.pb_plan.proofs.JobLemmas.{part_of, placed}
+use Rattle.pb_plan.proofs.MadeLemmas.{chosen, made_by}
+use Rattle.pb_plan.proofs.SpreadLemmas.{shown_is}
+use Rattle.pb_plan.proofs.WideLemmas.{applies_same, shown_same}
 use Rattle.pb_runs.specs.Steps.{Instance}
 
 -- an instance of an accepted program, with a valid configuration and sizes in range

@@ -21,8 +21,8 @@ use Rattle.pb_recursion.specs.Plans.{Names, argument_sides, fits_call, named, si
 use Rattle.pb_recursion.specs.Shapes.{Sides, all_same_sides, are_in_range, can_enter, fits, same_sides, sides_of_decl}
 use Rattle.pb_recursion.proofs.ShapeLemmas.{same_is}
 use Rattle.pb_runs.specs.Matrices.{AllMade, Below, call_below, call_matrices}
-use Rattle.pb_seats.specs.declared.seat.Seat.{Seat}
-use Rattle.pb_seats.specs.Seats.{no_seat}
+use Rattle.pb_views.specs.declared.seat.Seat.{Seat}
+use Rattle.pb_views.specs.Seats.{no_seat}
 use Rattle.pb_runs.specs.Steps.{Instance, cells_in}
 use Rattle.pb_runs.specs.Unrolled.{Met, Player, Unroll, failed, given_back, own_sides, targets_of, unrolled_by}
 use Rattle.pb_runs.proofs.BaseLemmas.{HaveSides, Stands}

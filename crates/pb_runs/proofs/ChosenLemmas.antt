@@ -21,10 +21,10 @@ use Rattle.pb_check.proofs.LawfulLemmas.{at_numbered, both, numbered_at}
 use Rattle.pb_frame.specs.Frames.{JobValue, chosen_wides, corner_of, in_layer, is_cell_rule, is_wide_rule}
 use Rattle.pb_frame.specs.declared.part.FramePart.{FramePart}
 use Rattle.pb_frame.proofs.PartLemmas.{corner_made, of_part}
-use Rattle.pb_tasks.proofs.BeforeLemmas.{among_rules, first_part, own_layer, parts}
-use Rattle.pb_tasks.proofs.JobLemmas.{IsBlockAt, IsPlaced, IsWideAt, kind_of, part_of, placed, same_place}
-use Rattle.pb_tasks.proofs.MadeLemmas.{made_by, made_rule}
-use Rattle.pb_tasks.proofs.RiseLemmas.{rises_filter, rises_numbered, rises_one, rises_range}
+use Rattle.pb_plan.proofs.BeforeLemmas.{among_rules, first_part, own_layer, parts}
+use Rattle.pb_plan.proofs.JobLemmas.{IsBlockAt, IsPlaced, IsWideAt, kind_of, part_of, placed, same_place}
+use Rattle.pb_plan.proofs.MadeLemmas.{made_by, made_rule}
+use Rattle.pb_plan.proofs.RiseLemmas.{rises_filter, rises_numbered, rises_one, rises_range}
 use Rattle.pb_plan.proofs.OnceLemmas.{Once, once_flat}
 use Rattle.pb_recursion.specs.Counts.{Counted, Counter, all_of, both as sum, chosen_plans, is_chosen_plan, is_plan_kind, nothing, plan_count}
 use Rattle.pb_runs.specs.Steps.{Instance}

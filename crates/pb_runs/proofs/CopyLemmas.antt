@@ -43,14 +43,14 @@ use Rattle.pb_frame.specs.Frames.{HoldsCell, JobValue, cut_by, has_cell, has_pla
 use Rattle.pb_frame.specs.declared.part.FramePart.{FramePart}
 use Rattle.pb_frame.proofs.PartLemmas.{of_part, one_part}
 use Rattle.pb_links.specs.declared.places.Spot.{Spot}
-use Rattle.pb_tasks.specs.Boxes.{boxes_by, spot_of}
-use Rattle.pb_tasks.specs.Made.{IsMadeBy}
-use Rattle.pb_tasks.proofs.BeforeLemmas.{home, parts}
-use Rattle.pb_tasks.proofs.JobLemmas.{at_map, map_at, part_of, placed, rising_parts}
-use Rattle.pb_tasks.proofs.MadeLemmas.{chosen, made_cell, made_rule}
-use Rattle.pb_tasks.proofs.RiseLemmas.{Rises, rises_filter, rises_map, rises_numbered, rises_one}
-use Rattle.pb_tasks.proofs.SpreadLemmas.{in_rect, rect_in}
-use Rattle.pb_tasks.proofs.WideLemmas.{applies_same, shown_same}
+use Rattle.pb_plan.specs.Boxes.{boxes_by, spot_of}
+use Rattle.pb_plan.specs.Made.{IsMadeBy}
+use Rattle.pb_plan.proofs.BeforeLemmas.{home, parts}
+use Rattle.pb_plan.proofs.JobLemmas.{at_map, map_at, part_of, placed, rising_parts}
+use Rattle.pb_plan.proofs.MadeLemmas.{chosen, made_cell, made_rule}
+use Rattle.pb_plan.proofs.RiseLemmas.{Rises, rises_filter, rises_map, rises_numbered, rises_one}
+use Rattle.pb_plan.proofs.SpreadLemmas.{in_rect, rect_in}
+use Rattle.pb_plan.proofs.WideLemmas.{applies_same, shown_same}
 use Rattle.pb_walk.specs.Walks.{walk_of}
 use Rattle.pb_walk.specs.declared.stop.Stop.{Stop}
 use Rattle.pb_walk.proofs.WalkLemmas.{in_walk, walk_in, walked_once}
@@ -61,8 +61,8 @@ use Rattle.pb_recursion.specs.Depths.{Call, in_outputs_of, plan_names, plans_ove
 use Rattle.pb_recursion.specs.Plans.{Names, named, no_cell, sides_of_slot, sides_of_view}
 use Rattle.pb_recursion.specs.Shapes.{Sides, sides_of_area, span_length}
 use Rattle.pb_runs.specs.Matrices.{read_matrices}
-use Rattle.pb_seats.specs.declared.seat.Seat.{Seat}
-use Rattle.pb_seats.specs.Seats.{across, base_x, base_y, cell_at, down, no_seat, spot_at}
+use Rattle.pb_views.specs.declared.seat.Seat.{Seat}
+use Rattle.pb_views.specs.Seats.{across, base_x, base_y, cell_at, down, no_seat, spot_at}
 use Rattle.pb_runs.specs.Steps.{Copied, Instance, by_copy, by_job, cells_in, cells_of, from_corner, number_at, seat_in, stop_number, through}
 use Rattle.pb_runs.specs.Unrolled.{copies_of, copy_step, is_part_of, output_parts, output_rect}
 use Rattle.pb_runs.proofs.BoxLemmas.{IsSituated, box_ends, box_there, inst, jobs}

@@ -13,8 +13,8 @@ use Rattle.pb_model.specs.Cells.{natural}
 use Rattle.pb_base.proofs.ListLemmas.{filter_in, flat_in, in_cases, in_flat, in_map, in_none, map_in}
 use Rattle.pb_recursion.specs.Depths.{filled}
 use Rattle.pb_recursion.specs.Shapes.{Sides, area}
-use Rattle.pb_seats.specs.declared.seat.Seat.{Seat}
-use Rattle.pb_seats.specs.Seats.{across, base_x, base_y, cell_at, down, seat_cells}
+use Rattle.pb_views.specs.declared.seat.Seat.{Seat}
+use Rattle.pb_views.specs.Seats.{across, base_x, base_y, cell_at, down, seat_cells}
 use Rattle.pb_runs.specs.Steps.{Target, by_trap, cells_in, cells_of}
 use Rattle.pb_runs.specs.Unrolled.{Met, after_call, after_matrices, after_matrix, failed, seat_has_cells, seats_from, trap_step, whole_seat}
 use Rattle.pb_runs.proofs.BaseLemmas.{HasSides, HaveSides, Reaches, Stands, reaches_both, stands_right}

@@ -16,9 +16,9 @@ use Rattle.pb_model.specs.Chosen.{chosen_rule}
 use Rattle.pb_check.specs.Ranked.{IsMadeCell}
 use Rattle.pb_frame.specs.Frames.{JobValue}
 use Rattle.pb_frame.specs.declared.part.FramePart.{FramePart}
-use Rattle.pb_tasks.proofs.BeforeLemmas.{parts}
-use Rattle.pb_tasks.proofs.JobLemmas.{part_of, placed}
-use Rattle.pb_tasks.proofs.MadeLemmas.{made_rule}
+use Rattle.pb_plan.proofs.BeforeLemmas.{parts}
+use Rattle.pb_plan.proofs.JobLemmas.{part_of, placed}
+use Rattle.pb_plan.proofs.MadeLemmas.{made_rule}
 use Rattle.pb_walk.specs.declared.stop.Stop.{Stop}
 use Rattle.pb_solution.specs.Solutions.{stop_cell, stops_of}
 use Rattle.pb_solution.proofs.OrderLemmas.{stop_made}

@@ -15,8 +15,8 @@ use Rattle.pb_check.specs.Orders.{AnalysisValue, IsAnalysis}
 use Rattle.pb_check.specs.Phases.{IsSound}
 use Rattle.pb_check.specs.Ranked.{IsMadeCell}
 use Rattle.pb_frame.specs.Frames.{JobValue}
-use Rattle.pb_tasks.specs.Made.{IsMadeBy}
-use Rattle.pb_tasks.proofs.MadeLemmas.{made_by, made_cell, made_once}
+use Rattle.pb_plan.specs.Made.{IsMadeBy}
+use Rattle.pb_plan.proofs.MadeLemmas.{made_by, made_cell, made_once}
 use Rattle.pb_plan.proofs.OnceLemmas.{Once, once_flat}
 use Rattle.pb_solution.specs.Solutions.{stop_cell, stops_of}
 use Rattle.pb_solution.proofs.OrderLemmas.{stop_made}
@@ -27,8 +27,8 @@ use Rattle.pb_recursion.specs.Shapes.{can_enter, sides_of_decl, sizes_from}
 use Rattle.pb_recursion.proofs.DepthLemmas.{call_is, depth_settled, inputs_there}
 use Rattle.pb_recursion.proofs.ShapeLemmas.{entered_given, entered_range}
 use Rattle.pb_runs.specs.Matrices.{Below, below_at, call_below, jobs_matrices, matrices_by}
-use Rattle.pb_seats.specs.declared.seat.Seat.{Seat}
-use Rattle.pb_seats.specs.Seats.{no_seat, sides_of_seat}
+use Rattle.pb_views.specs.declared.seat.Seat.{Seat}
+use Rattle.pb_views.specs.Seats.{no_seat, sides_of_seat}
 use Rattle.pb_runs.specs.Steps.{Instance, number_at, seat_in, stop_number}
 use Rattle.pb_runs.specs.Unrolled.{Met, Unroll, after_call, after_matrices, instance_of, jobs_done, own_sides, seats_from, unrolled_at}
 use Rattle.pb_runs.proofs.BaseLemmas.{HaveSides, Reaches, Stands, reaches_both, stands_left, stands_right, total_append}

@@ -20,9 +20,9 @@ use Rattle.pb_calls.proofs.InsideLemmas.{reads_inside}
 use Rattle.pb_check.specs.Ranked.{IsMadeCell}
 use Rattle.pb_frame.specs.Frames.{JobValue}
 use Rattle.pb_links.specs.declared.places.Spot.{Spot}
-use Rattle.pb_tasks.specs.Boxes.{boxes_by}
-use Rattle.pb_tasks.specs.Made.{IsMadeBy}
-use Rattle.pb_tasks.proofs.MadeLemmas.{chosen, made_cell}
+use Rattle.pb_plan.specs.Boxes.{boxes_by}
+use Rattle.pb_plan.specs.Made.{IsMadeBy}
+use Rattle.pb_plan.proofs.MadeLemmas.{chosen, made_cell}
 use Rattle.pb_walk.specs.declared.stop.Stop.{Stop}
 use Rattle.pb_solution.specs.Solutions.{stop_cell, stops_of}
 use Rattle.pb_solution.proofs.MayLemmas.{map_same}

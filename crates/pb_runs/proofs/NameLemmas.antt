@@ -12,8 +12,8 @@ use Rattle.pb_model.specs.Grids.{no_grid}
 use Rattle.pb_recursion.specs.Ordered.{IsGiven}
 use Rattle.pb_recursion.specs.Plans.{Names, named, names_of_reads, same_slot}
 use Rattle.pb_recursion.specs.Shapes.{Sides}
-use Rattle.pb_seats.specs.declared.seat.Seat.{Seat}
-use Rattle.pb_seats.specs.Seats.{no_seat}
+use Rattle.pb_views.specs.declared.seat.Seat.{Seat}
+use Rattle.pb_views.specs.Seats.{no_seat}
 use Rattle.pb_runs.proofs.SeatLemmas.{HasCell}
 use Rattle.pb_runs.proofs.SoundLemmas.{Cells}
 use Rattle.pb_runs.specs.Placed.{IsPlaced}

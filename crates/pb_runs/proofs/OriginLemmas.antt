@@ -11,7 +11,7 @@ use Rattle.pb_model.specs.Cells.{Cell, IsCell}
 use Rattle.pb_check.specs.Ranked.{IsMadeCell}
 use Rattle.pb_frame.specs.Frames.{JobValue}
 use Rattle.pb_taskgraph.specs.Plans.{IsSmall}
-use Rattle.pb_tasks.specs.Made.{jobs_for}
+use Rattle.pb_plan.specs.Made.{jobs_for}
 use Rattle.pb_walk.specs.declared.stop.Stop.{Stop}
 use Rattle.pb_solution.specs.Solutions.{stop_cell, stops_of}
 use Rattle.pb_runs.specs.Placed.{greatest_side}

@@ -16,8 +16,8 @@ use Rattle.pb_check.specs.Ranked.{IsMadeCell}
 use Rattle.pb_solution.proofs.OutcomeLemmas.{get_right, index_at}
 use Rattle.pb_plan.proofs.NumberLemmas.{row_below, row_once}
 use Rattle.pb_recursion.specs.Shapes.{Sides, area, sides_of_decl}
-use Rattle.pb_seats.specs.declared.seat.Seat.{Seat}
-use Rattle.pb_seats.specs.Seats.{base_x, base_y, cell_at, no_seat}
+use Rattle.pb_views.specs.declared.seat.Seat.{Seat}
+use Rattle.pb_views.specs.Seats.{base_x, base_y, cell_at, no_seat}
 use Rattle.pb_runs.specs.Steps.{Instance, number_at, seat_in}
 use Rattle.pb_runs.specs.Unrolled.{Met, after_matrix, own_sides, seats_from, whole_seat}
 use Rattle.pb_runs.proofs.BaseLemmas.{HaveSides, before_grows, before_next}
@@ -25,7 +25,7 @@ use Rattle.pb_runs.proofs.FailedLemmas.{seats_within}
 use Rattle.pb_runs.proofs.SeatLemmas.{HasCell, has_whole}
 use Rattle.pb_runs.proofs.ViewLemmas.{IsLocal, has_matrix, matrix_at}
 use Rattle.pb_runs.specs.Placed.{IsAt, before, total}
-use Rattle.pb_tasks.proofs.JobLemmas.{at_map, map_at}
+use Rattle.pb_plan.proofs.JobLemmas.{at_map, map_at}
 
 -- ---- numbers in the matrices of a run
 module _ (ms : List Outcomes) where

@@ -34,15 +34,15 @@ use Rattle.pb_model.specs.Grids.{no_grid}
 use Rattle.pb_check.specs.Ranked.{IsMadeCell}
 use Rattle.pb_check.proofs.FirstLemmas.{some_at}
 use Rattle.pb_frame.specs.Frames.{JobValue}
-use Rattle.pb_tasks.specs.Boxes.{boxes_by, shown_at, whole_box}
+use Rattle.pb_plan.specs.Boxes.{boxes_by, shown_at, whole_box}
 use Rattle.pb_solution.proofs.OutcomeLemmas.{index_at}
 use Rattle.pb_recursion.specs.Depths.{made_by_call, plan_names, plans_over, trapped_by}
 use Rattle.pb_recursion.specs.Plans.{Names, after_call, calls_of_rule, named, names_of_reads, no_cell, no_sides, sides_of_slot, sides_of_view}
 use Rattle.pb_recursion.specs.Shapes.{Sides}
 use Rattle.pb_recursion.proofs.OrderedLemmas.{plan_ordered}
 use Rattle.pb_runs.specs.Matrices.{Below, call_below, call_matrices, calls_matrices, read_matrices}
-use Rattle.pb_seats.specs.declared.seat.Seat.{Seat}
-use Rattle.pb_seats.specs.Seats.{across, cell_at, down, is_turning, no_seat, part_seat}
+use Rattle.pb_views.specs.declared.seat.Seat.{Seat}
+use Rattle.pb_views.specs.Seats.{across, cell_at, down, is_turning, no_seat, part_seat}
 use Rattle.pb_runs.specs.Steps.{Instance, cells_in, number_at, seat_in, through}
 use Rattle.pb_runs.specs.Unrolled.{Done, Met, Played, Unroll, copies_of, plan_done, plan_played, unrolled_by, view_seat}
 use Rattle.pb_runs.proofs.BaseLemmas.{Reaches, Stands}

@@ -11,8 +11,8 @@ use Rattle.pb_model.specs.Grids.{no_grid}
 use Rattle.pb_recursion.specs.Ordered.{AreOrdered, IsGiven}
 use Rattle.pb_recursion.specs.Plans.{Names, after_call, after_calls, named}
 use Rattle.pb_recursion.specs.Shapes.{Sides}
-use Rattle.pb_seats.specs.declared.seat.Seat.{Seat}
-use Rattle.pb_seats.specs.Seats.{no_seat}
+use Rattle.pb_views.specs.declared.seat.Seat.{Seat}
+use Rattle.pb_views.specs.Seats.{no_seat}
 use Rattle.pb_runs.specs.Steps.{Step, cells_in}
 use Rattle.pb_runs.specs.Unrolled.{Met, Played, Player, played}
 use Rattle.pb_runs.proofs.BaseLemmas.{Reaches, Stands, reaches_both, stands_left, stands_right, total_append}

@@ -20,18 +20,18 @@ use Rattle.pb_calls.proofs.InsideLemmas.{reads_inside}
 use Rattle.pb_frame.specs.Frames.{JobValue}
 use Rattle.pb_frame.specs.declared.part.FramePart.{FramePart}
 use Rattle.pb_links.specs.declared.places.Spot.{Spot}
-use Rattle.pb_tasks.specs.Boxes.{boxes_by, part_area, part_box, part_boxes, shown_at, whole_box}
-use Rattle.pb_tasks.specs.Made.{IsMadeBy}
-use Rattle.pb_tasks.proofs.BeforeLemmas.{parts}
-use Rattle.pb_tasks.proofs.JobLemmas.{part_of, placed}
-use Rattle.pb_tasks.proofs.MadeLemmas.{chosen, made_cell, made_rule}
-use Rattle.pb_tasks.proofs.SpreadLemmas.{covers, in_rect, shown_is}
-use Rattle.pb_tasks.proofs.WideLemmas.{shown_same}
+use Rattle.pb_plan.specs.Boxes.{boxes_by, part_area, part_box, part_boxes, shown_at, whole_box}
+use Rattle.pb_plan.specs.Made.{IsMadeBy}
+use Rattle.pb_plan.proofs.BeforeLemmas.{parts}
+use Rattle.pb_plan.proofs.JobLemmas.{part_of, placed}
+use Rattle.pb_plan.proofs.MadeLemmas.{chosen, made_cell, made_rule}
+use Rattle.pb_plan.proofs.SpreadLemmas.{covers, in_rect, shown_is}
+use Rattle.pb_plan.proofs.WideLemmas.{shown_same}
 use Rattle.pb_walk.specs.declared.stop.Stop.{Stop}
 use Rattle.pb_solution.specs.Solutions.{stop_cell, stops_of}
 use Rattle.pb_solution.proofs.OrderLemmas.{stop_made}
 use Rattle.pb_runs.specs.Right.{no_plans}
-use Rattle.pb_seats.specs.Seats.{base_x, base_y}
+use Rattle.pb_views.specs.Seats.{base_x, base_y}
 use Rattle.pb_runs.specs.Steps.{Instance, number_at, seat_in, through}
 use Rattle.pb_runs.proofs.BoxLemmas.{IsSituated, inst, jobs}
 use Rattle.pb_runs.proofs.OwnLemmas.{side_below}

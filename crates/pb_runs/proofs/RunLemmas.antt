@@ -18,8 +18,8 @@ use Rattle.pb_recursion.specs.Depths.{IsWhole, call_at, sides_of_matrix, sizes_g
 use Rattle.pb_recursion.specs.Shapes.{Sides, sizes_from}
 use Rattle.pb_recursion.proofs.ShapeLemmas.{range_is}
 use Rattle.pb_runs.specs.Matrices.{below_at, matrices_at, matrices_by, matrices_one, run_matrices}
-use Rattle.pb_seats.specs.declared.seat.Seat.{Seat}
-use Rattle.pb_seats.specs.Seats.{sides_of_seat}
+use Rattle.pb_views.specs.declared.seat.Seat.{Seat}
+use Rattle.pb_views.specs.Seats.{sides_of_seat}
 use Rattle.pb_runs.specs.Steps.{Step, boxes_of, cells_in}
 use Rattle.pb_runs.specs.Unrolled.{Met, Unroll, Unrolled, after_matrices, found_for, nothing_met, own_sides, seats_from, unroll, unroll_one, unrolled_at, unrolled_run}
 use Rattle.pb_runs.proofs.BaseLemmas.{HaveSides, Reaches, Stands, before_first, before_right, total_append}

@@ -9,8 +9,8 @@ use Rattle.pb_check.proofs.FirstLemmas.{some_at}
 use Rattle.pb_plan.proofs.NumberLemmas.{row_at, row_below}
 use Rattle.pb_recursion.specs.Depths.{IsWhole}
 use Rattle.pb_recursion.specs.Shapes.{Sides, area}
-use Rattle.pb_seats.specs.declared.seat.Seat.{Seat}
-use Rattle.pb_seats.specs.Seats.{across, base_x, base_y, cell_at, down, is_turning, part_seat}
+use Rattle.pb_views.specs.declared.seat.Seat.{Seat}
+use Rattle.pb_views.specs.Seats.{across, base_x, base_y, cell_at, down, is_turning, part_seat}
 use Rattle.pb_runs.specs.Unrolled.{Met, whole_seat}
 use Rattle.pb_runs.proofs.BaseLemmas.{Stands, outcome_there}
 use Rattle.pb_runs.specs.Placed.{IsPlaced, before, greatest_side, outcome_of}

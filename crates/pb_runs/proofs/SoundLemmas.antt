@@ -8,7 +8,7 @@ use Rattle.pb_program.specs.Configs.{ConfigValue}
 use Rattle.pb_model.specs.Calls.{Outcomes}
 use Rattle.pb_base.proofs.ListLemmas.{in_none}
 use Rattle.pb_runs.specs.Right.{IsRight, ReadsNumber}
-use Rattle.pb_seats.specs.declared.seat.Seat.{Seat}
+use Rattle.pb_views.specs.declared.seat.Seat.{Seat}
 use Rattle.pb_runs.specs.Steps.{Step, boxes_of, cells_in, cells_of, parts_of}
 use Rattle.pb_runs.specs.Unrolled.{Met, Unrolled}
 use Rattle.pb_runs.proofs.BaseLemmas.{Reaches}

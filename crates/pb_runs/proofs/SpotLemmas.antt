@@ -6,8 +6,8 @@ use Rattle.pb_values.specs.declared.rect.Rect.{Rect}
 use Rattle.pb_model.specs.Calls.{Outcomes}
 use Rattle.pb_check.proofs.FirstLemmas.{some_same}
 use Rattle.pb_recursion.specs.Depths.{IsWhole}
-use Rattle.pb_seats.specs.declared.seat.Seat.{Seat}
-use Rattle.pb_seats.specs.Seats.{across, base_x, base_y, cell_at, down, rect_at, spot_at}
+use Rattle.pb_views.specs.declared.seat.Seat.{Seat}
+use Rattle.pb_views.specs.Seats.{across, base_x, base_y, cell_at, down, rect_at, spot_at}
 use Rattle.pb_runs.specs.Placed.{IsPlaced, SpotCell, before}
 
 -- a rectangle in the matrix of the run

@@ -27,9 +27,9 @@ use Rattle.pb_check.proofs.WaitLemmas.{chosen_falls}
 use Rattle.pb_frame.specs.Choices.{IsInstance}
 use Rattle.pb_frame.specs.Frames.{JobValue}
 use Rattle.pb_taskgraph.specs.Plans.{IsSmall, outcome_at}
-use Rattle.pb_tasks.specs.Made.{IsMadeBy, jobs_for}
-use Rattle.pb_tasks.proofs.JobLemmas.{at_map, map_at}
-use Rattle.pb_tasks.proofs.MadeLemmas.{chosen, made_cell}
+use Rattle.pb_plan.specs.Made.{IsMadeBy, jobs_for}
+use Rattle.pb_plan.proofs.JobLemmas.{at_map, map_at}
+use Rattle.pb_plan.proofs.MadeLemmas.{chosen, made_cell}
 use Rattle.pb_views.specs.Layouts.{HasShortSides}
 use Rattle.pb_walk.specs.declared.stop.Stop.{Stop}
 use Rattle.pb_solution.specs.Solutions.{outcomes_of, stop_cell, stops_of}

@@ -22,14 +22,14 @@ use Rattle.pb_model.proofs.GridLemmas.{range_at, row_at}
 use Rattle.pb_calls.specs.Given.{HasSides}
 use Rattle.pb_check.proofs.FirstLemmas.{some_at, some_same}
 use Rattle.pb_views.proofs.CellLemmas.{numbers_are}
-use Rattle.pb_tasks.specs.Boxes.{rect_from}
-use Rattle.pb_tasks.proofs.JobLemmas.{at_map}
+use Rattle.pb_plan.specs.Boxes.{rect_from}
+use Rattle.pb_plan.proofs.JobLemmas.{at_map}
 use Rattle.pb_solution.proofs.OutcomeLemmas.{index_at}
 use Rattle.pb_recursion.specs.Depths.{cut_into}
 use Rattle.pb_recursion.specs.Plans.{no_cell, sides_of_view}
 use Rattle.pb_recursion.specs.Shapes.{Sides, area, sides_of_area, span_length}
-use Rattle.pb_seats.specs.declared.seat.Seat.{Seat}
-use Rattle.pb_seats.specs.Seats.{across, down, is_turning, no_seat, part_seat}
+use Rattle.pb_views.specs.declared.seat.Seat.{Seat}
+use Rattle.pb_views.specs.Seats.{across, down, is_turning, no_seat, part_seat}
 use Rattle.pb_runs.specs.Steps.{Instance, number_at, seat_in}
 use Rattle.pb_runs.specs.Unrolled.{view_seat}
 use Rattle.pb_runs.proofs.SeatLemmas.{HasCell, IsPart, LiesIn, part_across, part_down, part_has, part_placed, part_x, part_y}

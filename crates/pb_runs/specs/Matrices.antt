@@ -11,7 +11,7 @@ use Rattle.pb_model.specs.Cells.{reads}
 use Rattle.pb_model.specs.Grids.{no_grid}
 use Rattle.pb_check.specs.Orders.{AnalysisValue}
 use Rattle.pb_frame.specs.Frames.{JobValue}
-use Rattle.pb_tasks.specs.Made.{jobs_for}
+use Rattle.pb_plan.specs.Made.{jobs_for}
 use Rattle.pb_recursion.specs.Counts.{is_plan_kind}
 use Rattle.pb_recursion.specs.Depths.{Call, call_at, cut_into, made_by_call, sizes_given, targets_filled}
 use Rattle.pb_recursion.specs.Plans.{Names, after_call, calls_of_rule, fits_call, named, names_of_reads, no_cell, sides_of_view}

@@ -7,8 +7,8 @@ use Rattle.pb_model.specs.Calls.{Outcomes}
 use Rattle.pb_taskgraph.specs.Plans.{outcome_at}
 use Rattle.pb_solution.specs.Solutions.{outcomes_of}
 use Rattle.pb_recursion.specs.Depths.{IsWhole}
-use Rattle.pb_seats.specs.declared.seat.Seat.{Seat}
-use Rattle.pb_seats.specs.Seats.{across, base_x, base_y, cell_at, down}
+use Rattle.pb_views.specs.declared.seat.Seat.{Seat}
+use Rattle.pb_views.specs.Seats.{across, base_x, base_y, cell_at, down}
 
 -- how many cells there are in all, and before a matrix
 abbrev pub total : List Outcomes → ℕ

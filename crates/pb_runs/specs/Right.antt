@@ -6,7 +6,7 @@ use Rattle.pb_model.specs.Calls.{Outcomes, Plans, cell_equation, cell_reads, no_
 use Rattle.pb_model.specs.Cells.{Cell}
 use Rattle.pb_walk.specs.declared.stop.Stop.{Stop}
 use Rattle.pb_solution.specs.Solutions.{stop_cell, stops_of}
-use Rattle.pb_seats.specs.Seats.{cell_at}
+use Rattle.pb_views.specs.Seats.{cell_at}
 use Rattle.pb_runs.specs.Steps.{Copied, Instance, Step, by_copy, by_job, by_trap, cells_of, copied_stops, number_at, stop_number}
 use Rattle.pb_runs.specs.Placed.{outcome_of}
 

@@ -10,13 +10,13 @@ use Rattle.pb_program.specs.Trees.{ProgTransform}
 use Rattle.pb_check.specs.Orders.{AnalysisValue}
 use Rattle.pb_frame.specs.Frames.{JobValue}
 use Rattle.pb_frame.specs.declared.part.FramePart.{FramePart}
-use Rattle.pb_tasks.specs.Boxes.{boxes_by, spot_of}
+use Rattle.pb_plan.specs.Boxes.{boxes_by, spot_of}
 use Rattle.pb_walk.specs.Walks.{walk_of}
 use Rattle.pb_walk.specs.declared.stop.Stop.{Stop}
 use Rattle.pb_solution.specs.Solutions.{stop_cell, stops_of}
 use Rattle.pb_model.specs.Cells.{Cell}
-use Rattle.pb_seats.specs.declared.seat.Seat.{Seat}
-use Rattle.pb_seats.specs.Seats.{cell_at, no_seat, seat_cells, spot_at}
+use Rattle.pb_views.specs.declared.seat.Seat.{Seat}
+use Rattle.pb_views.specs.Seats.{cell_at, no_seat, seat_cells, spot_at}
 
 -- ---- instances
 -- a transform with its number and what is found of it, in the call with this number, at sizes; and where its matrices stand

@@ -17,14 +17,14 @@ use Rattle.pb_check.specs.Orders.{AnalysisValue}
 use Rattle.pb_values.specs.declared.rect.Rect.{Rect}
 use Rattle.pb_frame.specs.Frames.{JobValue, cut_by, has_place, within}
 use Rattle.pb_frame.specs.declared.part.FramePart.{FramePart}
-use Rattle.pb_tasks.specs.Boxes.{rect_from, spot_of}
-use Rattle.pb_tasks.specs.Made.{jobs_for}
+use Rattle.pb_plan.specs.Boxes.{rect_from, spot_of}
+use Rattle.pb_plan.specs.Made.{jobs_for}
 use Rattle.pb_recursion.specs.Counts.{is_plan_kind}
 use Rattle.pb_recursion.specs.Depths.{trapped_by}
 use Rattle.pb_recursion.specs.Plans.{Names, calls_of_rule, fits_call, locals_of_rule, named, names_of_reads, no_cell, target_sides}
 use Rattle.pb_recursion.specs.Shapes.{Sides, area, sides_of_decl, sizes_from}
-use Rattle.pb_seats.specs.declared.seat.Seat.{Seat}
-use Rattle.pb_seats.specs.Seats.{no_seat, part_seat, sides_of_seat}
+use Rattle.pb_views.specs.declared.seat.Seat.{Seat}
+use Rattle.pb_views.specs.Seats.{no_seat, part_seat, sides_of_seat}
 use Rattle.pb_runs.specs.Steps.{Instance, Step, Target, by_copy, by_job, by_trap, seat_in}
 
 -- how many calls, matrices and cells are met

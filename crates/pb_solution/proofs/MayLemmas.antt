@@ -29,10 +29,10 @@ use Rattle.pb_frame.specs.Frames.{JobValue}
 use Rattle.pb_taskgraph.specs.Graphs.{TaskValue, before_of, cells_of}
 use Rattle.pb_taskgraph.specs.Plans.{outcome_at}
 use Rattle.pb_taskgraph.specs.Turns.{MayRead}
-use Rattle.pb_tasks.specs.Made.{IsMadeBefore, IsMadeBy, jobs_for}
-use Rattle.pb_tasks.proofs.BeforeLemmas.{read_before}
-use Rattle.pb_tasks.proofs.JobLemmas.{at_map}
-use Rattle.pb_tasks.proofs.MadeLemmas.{chosen}
+use Rattle.pb_plan.specs.Made.{IsMadeBefore, IsMadeBy, jobs_for}
+use Rattle.pb_plan.proofs.BeforeLemmas.{read_before}
+use Rattle.pb_plan.proofs.JobLemmas.{at_map}
+use Rattle.pb_plan.proofs.MadeLemmas.{chosen}
 use Rattle.pb_views.specs.Windows.{number_in}
 use Rattle.pb_walk.specs.declared.stop.Stop.{Stop}
 use Rattle.pb_plan.specs.Tasks.{graph_of}

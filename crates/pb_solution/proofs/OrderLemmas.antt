@@ -19,11 +19,11 @@ use Rattle.pb_frame.specs.declared.part.FramePart.{FramePart}
 use Rattle.pb_frame.proofs.PartLemmas.{of_part}
 use Rattle.pb_links.specs.declared.places.Spot.{Spot}
 use Rattle.pb_taskgraph.specs.Graphs.{TaskValue, cells_of}
-use Rattle.pb_tasks.specs.Boxes.{spot_of}
-use Rattle.pb_tasks.specs.Made.{IsMadeBy, jobs_for}
-use Rattle.pb_tasks.proofs.BeforeLemmas.{home}
-use Rattle.pb_tasks.proofs.JobLemmas.{at_map, map_at}
-use Rattle.pb_tasks.proofs.MadeLemmas.{made_cell, made_once}
+use Rattle.pb_plan.specs.Boxes.{spot_of}
+use Rattle.pb_plan.specs.Made.{IsMadeBy, jobs_for}
+use Rattle.pb_plan.proofs.BeforeLemmas.{home}
+use Rattle.pb_plan.proofs.JobLemmas.{at_map, map_at}
+use Rattle.pb_plan.proofs.MadeLemmas.{made_cell, made_once}
 use Rattle.pb_views.specs.Layouts.{AreInARow}
 use Rattle.pb_views.specs.Windows.{number_in}
 use Rattle.pb_walk.specs.declared.stop.Stop.{Stop}

@@ -19,7 +19,7 @@ use Rattle.pb_model.specs.Cells.{Cell, cells_of, natural, numbers_of}
 use Rattle.pb_model.specs.Grids.{at_place, no_grid}
 use Rattle.pb_calls.specs.Given.{AreGiven, HasSides}
 use Rattle.pb_check.proofs.FirstLemmas.{some_at, some_same}
-use Rattle.pb_tasks.proofs.FlatLemmas.{flat_at, start}
+use Rattle.pb_plan.proofs.FlatLemmas.{flat_at, start}
 use Rattle.pb_taskgraph.specs.Plans.{outcome_at}
 use Rattle.pb_views.specs.Layouts.{AreInARow, area_at, cell_count, shape_of}
 use Rattle.pb_views.specs.Windows.{number_in}

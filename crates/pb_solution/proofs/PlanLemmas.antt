@@ -13,7 +13,7 @@ use Rattle.pb_frame.specs.Choices.{IsInstance}
 use Rattle.pb_frame.specs.Frames.{JobValue}
 use Rattle.pb_taskgraph.specs.Graphs.{EachOnce, TaskValue}
 use Rattle.pb_taskgraph.specs.Plans.{IsPlan}
-use Rattle.pb_tasks.specs.Made.{jobs_for}
+use Rattle.pb_plan.specs.Made.{jobs_for}
 use Rattle.pb_plan.proofs.GraphLemmas.{is_graph}
 use Rattle.pb_plan.proofs.OnceLemmas.{once_each}
 use Rattle.pb_solution.specs.Solutions.{IsRun, all_matrices, job_order, plan_of}

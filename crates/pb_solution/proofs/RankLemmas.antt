@@ -16,10 +16,10 @@ use Rattle.pb_check.proofs.RankedLemmas.{covered_is}
 use Rattle.pb_frame.specs.Choices.{IsInstance}
 use Rattle.pb_frame.specs.Frames.{JobValue}
 use Rattle.pb_frame.proofs.PartLemmas.{held_in}
-use Rattle.pb_tasks.specs.Made.{IsMadeBy, jobs_for}
-use Rattle.pb_tasks.proofs.BeforeLemmas.{own_layer, parts}
-use Rattle.pb_tasks.proofs.JobLemmas.{IsBlockAt, IsPlaced, IsWideAt, kind_of, placed}
-use Rattle.pb_tasks.proofs.MadeLemmas.{among, made_cell}
+use Rattle.pb_plan.specs.Made.{IsMadeBy, jobs_for}
+use Rattle.pb_plan.proofs.BeforeLemmas.{own_layer, parts}
+use Rattle.pb_plan.proofs.JobLemmas.{IsBlockAt, IsPlaced, IsWideAt, kind_of, placed}
+use Rattle.pb_plan.proofs.MadeLemmas.{among, made_cell}
 use Rattle.pb_walk.specs.Orders.{IsEarlier, rank_of}
 use Rattle.pb_walk.specs.declared.stop.Stop.{Stop}
 use Rattle.pb_walk.proofs.WalkLemmas.{walk_rises}

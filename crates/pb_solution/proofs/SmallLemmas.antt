@@ -48,7 +48,7 @@ use Rattle.pb_check.proofs.FirstLemmas.{all_at, some_at, some_same}
 use Rattle.pb_frame.specs.Choices.{IsInstance}
 use Rattle.pb_taskgraph.specs.Graphs.{TaskValue}
 use Rattle.pb_taskgraph.specs.Plans.{IsSmall}
-use Rattle.pb_tasks.proofs.MadeLemmas.{chosen}
+use Rattle.pb_plan.proofs.MadeLemmas.{chosen}
 use Rattle.pb_views.specs.Layouts.{HasShortSides}
 use Rattle.pb_solution.specs.Solutions.{IsRun, all_matrices, outcomes_of}
 use Rattle.pb_solution.proofs.MayLemmas.{read_inside}

@@ -18,8 +18,8 @@ use Rattle.pb_frame.specs.Choices.{IsInstance}
 use Rattle.pb_frame.specs.Frames.{JobValue}
 use Rattle.pb_taskgraph.specs.Graphs.{TaskValue}
 use Rattle.pb_taskgraph.specs.Plans.{IsSmall, Plan}
-use Rattle.pb_tasks.specs.Boxes.{spot_of}
-use Rattle.pb_tasks.specs.Made.{jobs_for}
+use Rattle.pb_plan.specs.Boxes.{spot_of}
+use Rattle.pb_plan.specs.Made.{jobs_for}
 use Rattle.pb_views.specs.Layouts.{AreInARow}
 use Rattle.pb_views.specs.Windows.{number_in}
 use Rattle.pb_walk.specs.Walks.{walk_of}

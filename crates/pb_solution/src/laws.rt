@@ -12,7 +12,7 @@ ghost use Rattle.pb_frame.specs.Frames.{JobValue};
 ghost use Rattle.pb_taskgraph.specs.Graphs.{TaskValue};
 ghost use Rattle.pb_taskgraph.specs.Plans.{IsPlan, outcome_at};
 ghost use Rattle.pb_taskgraph.specs.Turns.{MayRead};
-ghost use Rattle.pb_tasks.specs.Made.{jobs_for};
+ghost use Rattle.pb_plan.specs.Made.{jobs_for};
 ghost use Rattle.pb_views.specs.Windows.{number_in};
 ghost use Rattle.pb_walk.specs.declared.stop.Stop.{Stop};
 ghost use Rattle.pb_solution.specs.Solutions.{IsRun, plan_of, stop_cell, stops_of};

@@ -1,3 +1,5 @@
+pub mod LineLemmas
+mod TraceExample
 pub mod GraphLemmas
 pub mod OwnerLemmas
 pub mod TableLemmas

@@ -1,3 +1,4 @@
+pub mod Trace
 pub mod Graphs
 pub mod Known
 pub mod Orders

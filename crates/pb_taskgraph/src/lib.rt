@@ -1,8 +1,10 @@
 //! In: the tasks of a run, each with its cells, its predecessors and its successors; and a work, which says how a task makes
-//! its cells. Out: the graph of the tasks; the outcomes of all cells, and the order in which the tasks were run.
+//! its cells. Out: the graph of the tasks; the outcomes of all cells, and the order in which the tasks were run; and the bytes
+//! of the run's trace.
 //!
 //! The theorem is `run_serial`: tasks that are run by number give the work's solution. `Work` is the contract that all ways
-//! of running tasks share. The law `a_run_in_lawful_order_gives_the_solution` says the same of any lawful order.
+//! of running tasks share. The law `a_run_in_lawful_order_gives_the_solution` says the same of any lawful order. `trace` gives just
+//! the bytes of its definition.
 #![tactic(auto)]
 
 mod gate;
@@ -16,6 +18,8 @@ mod packed;
 mod port;
 mod serial;
 mod task;
+mod trace;
+mod trace_part;
 mod work;
 
 pub use gate::{Gate, OpenGate};
@@ -30,4 +34,5 @@ pub use outcomes::Outcomes;
 pub use port::CellPort;
 pub use serial::{Finished, run_serial};
 pub use task::{Part, Task, TaskKind};
+pub use trace::trace;
 pub use work::Work;

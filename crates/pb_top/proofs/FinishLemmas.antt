@@ -18,8 +18,8 @@ use Rattle.pb_plan.specs.Tasks.{graph_of}
 use Rattle.pb_solution.specs.Solutions.{plan_of}
 use Rattle.pb_unroll.specs.Running.{IsRunning, RunValue, of_sizes, of_transform, run_plan}
 use Rattle.pb_unroll.specs.Unrolled.{IsTooLarge, IsUnrolled}
-use Rattle.pb_answer.specs.Answers.{matrices_text, results_in, trapped_in, unless_trapped}
-use Rattle.pb_trace.specs.Trace.{trace_text}
+use Rattle.pb_unroll.specs.Answers.{matrices_text, results_in, trapped_in, unless_trapped}
+use Rattle.pb_taskgraph.specs.Trace.{trace_text}
 use Rattle.pb_run_lines.specs.RunLines.{run_line}
 use Rattle.pb_top.specs.Reply.{Reply, done_reply, refusal_reply}
 use Rattle.pb_top.specs.Runs.{AfterFit, AfterInputs, Fitting, IsTraceOf, RunWrites, TailAfter, answer_reply, run_answer}

@@ -42,8 +42,8 @@ use Rattle.pb_links.specs.Links.{link_count}
 use Rattle.pb_plan.specs.Laid.{HasRoom}
 use Rattle.pb_plan.specs.Tasks.{IsWithinLimits}
 use Rattle.pb_taskgraph.specs.declared.limits.TheConstants.{MOST_CELLS, MOST_LINKS, MOST_TASKS}
-use Rattle.pb_tasks.specs.Boxes.{places_of}
-use Rattle.pb_tasks.specs.Made.{jobs_for}
+use Rattle.pb_plan.specs.Boxes.{places_of}
+use Rattle.pb_plan.specs.Made.{jobs_for}
 use Rattle.pb_unroll.specs.Unrolled.{IsTooLarge}
 use Rattle.pb_views.specs.Layouts.{HasShortSides, cell_count, shape_of}
 use Rattle.pb_run_lines.specs.RunLines.{config_line, run_line}

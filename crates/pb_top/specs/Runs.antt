@@ -18,15 +18,15 @@ use Rattle.pb_entry.specs.Entering.{CannotEnter, Enters}
 use Rattle.pb_entry.specs.Fitting.{AreBound, AreUnfit}
 use Rattle.pb_entry.specs.declared.refusal.RunRefusal.{RunRefusal}
 use Rattle.pb_taskgraph.specs.Graphs.{TaskValue}
-use Rattle.pb_tasks.specs.Made.{jobs_for}
+use Rattle.pb_plan.specs.Made.{jobs_for}
 use Rattle.pb_views.specs.Layouts.{AreInARow}
 use Rattle.pb_plan.specs.Laid.{HasRoom}
 use Rattle.pb_plan.specs.Tasks.{AreTasks, IsWithinLimits, graph_of}
 use Rattle.pb_solution.specs.Solutions.{all_matrices}
 use Rattle.pb_unroll.specs.Running.{given_as, no_plans}
 use Rattle.pb_unroll.specs.Unrolled.{IsTooLarge}
-use Rattle.pb_answer.specs.Answers.{answer_of, matrices_text}
-use Rattle.pb_trace.specs.Trace.{trace_text}
+use Rattle.pb_unroll.specs.Answers.{answer_of, matrices_text}
+use Rattle.pb_taskgraph.specs.Trace.{trace_text}
 use Rattle.pb_run_lines.specs.RunLines.{config_line, run_line, trap_line}
 use Rattle.pb_top.specs.Reply.{Reply, IsFaultyInput, done_reply, not_built, refusal_reply}
 use Rattle.pb_top.specs.Steps.{AfterProgram, Each, Then}

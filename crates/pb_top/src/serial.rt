@@ -15,15 +15,13 @@ ghost use Rattle.pb_top.specs.Working.{IsTailFor, IsTrapped, StopsWith, Writes, 
 use crate::phases::{accept, read, resolve_names};
 use crate::reply::{Status, Stop};
 use crate::steps::{begin_run, check_built, configure, find_transform, read_inputs};
-use pb_answer::{TrappedCell, first_trapped, results_text};
 use pb_check::Accepted;
 use pb_matrix::Matrix;
 use pb_prog::Text;
 use pb_program::{Config, Prog};
 use pb_run_lines::trap_line;
-use pb_taskgraph::run_serial;
-use pb_trace::trace;
-use pb_unroll::Run;
+use pb_taskgraph::{run_serial, trace};
+use pb_unroll::{Run, TrappedCell, first_trapped, results_text};
 use pb_values::Kind;
 use std::alloc::{AllocError, Global};
 

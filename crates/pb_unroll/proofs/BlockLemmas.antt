@@ -24,8 +24,8 @@ use Rattle.pb_frame.specs.Frames.{JobValue, is_cell_rule, parts_of}
 use Rattle.pb_frame.specs.declared.part.FramePart.{FramePart}
 use Rattle.pb_taskgraph.specs.Turns.{Begins, after_all, after_some, after_write}
 use Rattle.pb_taskgraph.proofs.TurnLemmas.{all-written, may-write, slice_get-drop, some-none, written}
-use Rattle.pb_tasks.specs.Made.{jobs_for}
-use Rattle.pb_tasks.proofs.JobLemmas.{IsBlockAt, IsPlaced, IsWideAt, at_map, kind_of, part_of, placed}
+use Rattle.pb_plan.specs.Made.{jobs_for}
+use Rattle.pb_plan.proofs.JobLemmas.{IsBlockAt, IsPlaced, IsWideAt, at_map, kind_of, part_of, placed}
 use Rattle.pb_views.specs.Layouts.{HasShortSides}
 use Rattle.pb_views.specs.Windows.{number_in}
 use Rattle.pb_walk.specs.declared.stop.Stop.{Stop}

@@ -31,7 +31,7 @@ use Rattle.pb_eval.specs.Running.{Gives}
 use Rattle.pb_eval.specs.Shown.{outcome_of, seen_by}
 use Rattle.pb_eval.specs.declared.scratch.Scratch.{Scratch}
 use Rattle.pb_frame.proofs.PartLemmas.{top_of}
-use Rattle.pb_tasks.proofs.JobLemmas.{at_map}
+use Rattle.pb_plan.proofs.JobLemmas.{at_map}
 use Rattle.pb_views.specs.Layouts.{HasShortSides}
 use Rattle.pb_views.specs.Windows.{number_in}
 use Rattle.pb_views.specs.declared.window.Window.{Window}

@@ -1,3 +1,7 @@
+pub mod PlaceLemmas
+pub mod TrapLemmas
+pub mod TextLemmas
+pub mod AnswerLemmas
 pub mod IndexLemmas
 pub mod ShownLemmas
 pub mod RunLemmas

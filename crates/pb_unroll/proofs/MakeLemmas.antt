@@ -36,12 +36,12 @@ use Rattle.pb_solution.proofs.OrderLemmas.{made_stop, order_at}
 use Rattle.pb_taskgraph.specs.Plans.{outcome_at}
 use Rattle.pb_taskgraph.specs.Turns.{Begins, after_all, after_some, after_write}
 use Rattle.pb_taskgraph.proofs.TurnLemmas.{all-written, may-write, slice_get-drop, some-none, written}
-use Rattle.pb_tasks.specs.Boxes.{spot_of}
-use Rattle.pb_tasks.specs.Made.{IsMadeBy, jobs_for}
-use Rattle.pb_tasks.proofs.BeforeLemmas.{first_part, home, parts, some_places}
-use Rattle.pb_tasks.proofs.JobLemmas.{at_map, part_of, placed}
-use Rattle.pb_tasks.proofs.MadeLemmas.{chosen}
-use Rattle.pb_tasks.proofs.WideLemmas.{applies_same}
+use Rattle.pb_plan.specs.Boxes.{spot_of}
+use Rattle.pb_plan.specs.Made.{IsMadeBy, jobs_for}
+use Rattle.pb_plan.proofs.BeforeLemmas.{first_part, home, parts, some_places}
+use Rattle.pb_plan.proofs.JobLemmas.{at_map, part_of, placed}
+use Rattle.pb_plan.proofs.MadeLemmas.{chosen}
+use Rattle.pb_plan.proofs.WideLemmas.{applies_same}
 use Rattle.pb_views.specs.Windows.{number_in}
 use Rattle.pb_walk.specs.Walks.{WalkValue, walk_of}
 use Rattle.pb_walk.specs.declared.stop.Stop.{Stop}

@@ -31,8 +31,8 @@ use Rattle.pb_eval.specs.Outputs.{numbers_in}
 use Rattle.pb_eval.specs.Running.{AreLeft, numbers_of}
 use Rattle.pb_eval.specs.declared.scratch.Scratch.{Scratch}
 use Rattle.pb_eval.proofs.RegionLemmas.{outs_are_free, shown_same}
-use Rattle.pb_tasks.specs.Boxes.{rect_from, whole_box}
-use Rattle.pb_tasks.proofs.SpreadLemmas.{in_rect, rect_in}
+use Rattle.pb_plan.specs.Boxes.{rect_from, whole_box}
+use Rattle.pb_plan.proofs.SpreadLemmas.{in_rect, rect_in}
 use Rattle.pb_views.specs.Layouts.{HasShortSides}
 use Rattle.pb_unroll.specs.Running.{IsRunning, RunValue, of_sizes, of_transform}
 use Rattle.pb_unroll.specs.Wholes.{CanGive}

@@ -16,7 +16,7 @@ use Rattle.pb_frame.specs.Choices.{IsInstance}
 use Rattle.pb_frame.specs.Frames.{in_layer, layer_jobs}
 use Rattle.pb_frame.specs.declared.part.FramePart.{FramePart}
 use Rattle.pb_plan.proofs.LaidLemmas.{laid}
-use Rattle.pb_tasks.specs.Made.{jobs_for}
+use Rattle.pb_plan.specs.Made.{jobs_for}
 use Rattle.pb_values.specs.declared.view.View.{View}
 use Rattle.pb_views.specs.Layouts.{AreInARow, area_at}
 use Rattle.pb_views.specs.Windows.{AreLaid}

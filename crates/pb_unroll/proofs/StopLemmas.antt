@@ -33,8 +33,8 @@ use Rattle.pb_plan.proofs.NumberLemmas.{IsNumbered, whole_at}
 use Rattle.pb_taskgraph.specs.Plans.{outcome_at}
 use Rattle.pb_taskgraph.specs.Turns.{Begins, MayRead, after_some}
 use Rattle.pb_taskgraph.proofs.TurnLemmas.{may-read, may-read_some}
-use Rattle.pb_tasks.specs.Made.{IsMadeBy, jobs_for}
-use Rattle.pb_tasks.proofs.MadeLemmas.{chosen, made_rule}
+use Rattle.pb_plan.specs.Made.{IsMadeBy, jobs_for}
+use Rattle.pb_plan.proofs.MadeLemmas.{chosen, made_rule}
 use Rattle.pb_views.specs.Layouts.{shape_of}
 use Rattle.pb_views.specs.Windows.{number_in}
 use Rattle.pb_walk.specs.declared.stop.Stop.{Stop}

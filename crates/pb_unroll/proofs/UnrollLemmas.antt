@@ -60,11 +60,11 @@ use Rattle.pb_frame.proofs.FoundLemmas.{instance, numbers_of, of_these, said_of}
 use Rattle.pb_solution.proofs.RuleLemmas.{IsShort, side_small, within_short}
 use Rattle.pb_taskgraph.specs.Plans.{IsSmall}
 use Rattle.pb_taskgraph.specs.declared.limits.TheConstants.{MOST_CELLS}
-use Rattle.pb_tasks.specs.Made.{jobs_for}
-use Rattle.pb_tasks.proofs.BeforeLemmas.{home, parts, some_places}
-use Rattle.pb_tasks.proofs.BoxLemmas.{steady}
-use Rattle.pb_tasks.proofs.JobLemmas.{at_map, map_at}
-use Rattle.pb_tasks.proofs.ReadableLemmas.{rule_at}
+use Rattle.pb_plan.specs.Made.{jobs_for}
+use Rattle.pb_plan.proofs.BeforeLemmas.{home, parts, some_places}
+use Rattle.pb_plan.proofs.BoxLemmas.{steady}
+use Rattle.pb_plan.proofs.JobLemmas.{at_map, map_at}
+use Rattle.pb_plan.proofs.ReadableLemmas.{rule_at}
 use Rattle.pb_views.specs.Layouts.{HasShortSides, cell_count}
 use Rattle.pb_views.specs.Windows.{AreSteady}
 use Rattle.pb_plan.specs.Laid.{HasRoom}

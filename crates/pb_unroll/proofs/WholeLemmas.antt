@@ -20,8 +20,8 @@ use Rattle.pb_model.specs.Equations.{in_outputs, shown_area, view_sides}
 use Rattle.pb_check.proofs.FirstLemmas.{some_same}
 use Rattle.pb_eval.specs.CanRun.{at_variables, outs_needed}
 use Rattle.pb_eval.specs.Outputs.{numbers_in}
-use Rattle.pb_tasks.specs.Boxes.{rect_from, whole_box}
-use Rattle.pb_tasks.proofs.JobLemmas.{at_map}
+use Rattle.pb_plan.specs.Boxes.{rect_from, whole_box}
+use Rattle.pb_plan.proofs.JobLemmas.{at_map}
 use Rattle.pb_views.specs.Windows.{IsRect, IsWindow, shown_by}
 use Rattle.pb_views.specs.declared.window.Window.{Window}
 use Rattle.pb_views.proofs.WindowLemmas.{shown_is}

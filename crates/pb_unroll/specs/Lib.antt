@@ -1,3 +1,5 @@
+pub mod Answers
+pub mod ShownCells
 pub mod Rooms
 pub mod Running
 pub mod Shown

@@ -1,7 +1,7 @@
 ghost use Rattle.std.specs.Prelude.{◌≡◌, ◌<◌, ◌+◌, Some, drop, length, map, slice_get};
 ghost use Rattle.pb_frame.specs.Frames.{JobValue};
 ghost use Rattle.pb_graph.specs.Layerings.{steps_at};
-ghost use Rattle.pb_tasks.specs.Boxes.{spot_of};
+ghost use Rattle.pb_plan.specs.Boxes.{spot_of};
 ghost use Rattle.pb_unroll.specs.Running.{IsRunning};
 
 use crate::run::Run;

@@ -8,7 +8,7 @@ ghost use Rattle.pb_eval.specs.CanRun.{at_variables, outs_needed};
 ghost use Rattle.pb_eval.specs.Running.{AreLeft, Gives};
 ghost use Rattle.pb_solution.specs.Solutions.{stop_cell};
 ghost use Rattle.pb_taskgraph.specs.Turns.{Begins, after_all};
-ghost use Rattle.pb_tasks.specs.Boxes.{whole_box};
+ghost use Rattle.pb_plan.specs.Boxes.{whole_box};
 ghost use Rattle.pb_unroll.specs.Running.{IsRunning, IsTaskBy, fits_run, of_sizes, of_transform, run_plan};
 ghost use Rattle.pb_unroll.specs.Wholes.{CanGive};
 

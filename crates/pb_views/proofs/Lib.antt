@@ -1,3 +1,4 @@
+pub mod SeatLemmas
 pub mod CellLemmas
 pub mod HullLemmas
 pub mod LayoutLemmas

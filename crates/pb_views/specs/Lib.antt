@@ -1,3 +1,4 @@
+pub mod Seats
 pub mod Hulls
 pub mod Layouts
 pub mod Lines

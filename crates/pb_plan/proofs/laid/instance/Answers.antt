@@ -9,7 +9,7 @@ use Rattle.pb_program.specs.Trees.{bare_transform}
 use Rattle.pb_frame.proofs.FoundLemmas.{of_these, said_of}
 use Rattle.pb_frame.proofs.PartLemmas.{top_of}
 use Rattle.pb_frame.specs.Frames.{FrameValue, IsFrame, JobValue}
-use Rattle.pb_tasks.specs.Boxes.{HasNodes, IsJob, places_of}
+use Rattle.pb_plan.specs.Boxes.{HasNodes, IsJob, places_of}
 use Rattle.pb_views.specs.Layouts.{AreInARow, HasShortSides, cell_count}
 use Rattle.pb_views.specs.Windows.{AreLaid}
 use Rattle.pb_plan.specs.Laid.{IsLaid}

@@ -2,7 +2,7 @@ use Rattle.std.proofs.Common.{◌≡◌, ◌∙◌, ap, sym, length, slice_get, 
 use Rattle.pb_check.proofs.FirstLemmas.{some_same}
 use Rattle.pb_program.specs.Rules.{RuleValue}
 use Rattle.pb_program.specs.Trees.{ProgRule}
-use Rattle.pb_tasks.specs.Boxes.{whole_box}
+use Rattle.pb_plan.specs.Boxes.{whole_box}
 use Rattle.pb_unroll.specs.Running.{of_sizes, of_transform}
 use Rattle.pb_unroll.specs.Shown.{WindowsValue}
 use Rattle.pb_unroll.proofs.WholeLemmas.{box_is, item_at, matrix_there, outs_there, own_outs, same_rule, window_within, windows_there}

@@ -8,7 +8,7 @@ use Rattle.pb_values.specs.declared.view.View.{View}
 use Rattle.pb_check.proofs.FirstLemmas.{some_same}
 use Rattle.pb_frame.specs.Frames.{JobValue}
 use Rattle.pb_graph.specs.Layerings.{steps_at}
-use Rattle.pb_tasks.specs.Boxes.{spot_of}
+use Rattle.pb_plan.specs.Boxes.{spot_of}
 use Rattle.pb_walk.specs.Walks.{WalkValue, walk_of}
 use Rattle.pb_solution.specs.Solutions.{steps_by, stops_of}
 use Rattle.pb_unroll.proofs.BlockLemmas as block

@@ -2,7 +2,7 @@ use Rattle.std.proofs.Common.{◌∙◌, refl, ap, sym, subst, length, arith}
 use Rattle.std.proofs.lemmas.List.{length-map}
 use Rattle.std.proofs.lemmas.Option.{slice_get_within}
 use Rattle.pb_eval.specs.Running.{Gives}
-use Rattle.pb_tasks.specs.Boxes.{spot_of}
+use Rattle.pb_plan.specs.Boxes.{spot_of}
 use Rattle.pb_walk.specs.Walks.{WalkValue}
 use Rattle.pb_unroll.specs.Running.{given_by}
 use Rattle.pb_unroll.proofs.MakeLemmas.{begun, can_give, can_run, cell_is, further, given_count, inside_view, is_there, job_room, may_make, next_stop, no_stop, rule0, there0}

@@ -1,4 +1,0 @@
-pub mod PlaceLemmas
-pub mod TrapLemmas
-pub mod TextLemmas
-pub mod AnswerLemmas

@@ -1,6 +1,0 @@
-use Rattle.std.proofs.Common.{◌≡◌, map, take}
-use Rattle.pb_tasks.specs.Boxes.{spot_of}
-use Rattle.pb_tasks.proofs.jobs.spots_of.Given as goal
-
-abbrev pub invariant-loop-part : goal.invariant-loop-part
-invariant-loop-part l = l.spots.items ≡ map (spot_of l.nodes) (take l.part-index l.parts)

@@ -1,5 +1,0 @@
-use Rattle.pb_tasks.proofs.BeforeLemmas.{read_before}
-use Rattle.pb_tasks.proofs.laws.what_is_read_is_made_before.Goals as goal
-
-pub returns : goal.returns
-returns c = λ config number t a sizes grain i valid. read_before config number t a sizes grain i valid

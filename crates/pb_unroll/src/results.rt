@@ -1,0 +1,21 @@
+ghost use Rattle.std.specs.Prelude.{◌≡◌, IfOk};
+ghost use Rattle.pb_unroll.specs.Answers.{matrices_text, results_in};
+ghost use Rattle.pb_unroll.specs.Running.{run_plan};
+
+use crate::texts::texts_in;
+use pb_taskgraph::Outcomes;
+use crate::run::Run;
+use std::alloc::{AllocError, Global};
+
+/// The texts of the matrices that a run with these outcomes gives, those after `to`, in declared order. A trap among them
+/// is written as 0.
+pub fn results_text(
+    alloc: Global,
+    run: &Run<'_>,
+    outcomes: &Outcomes,
+) -> Result<Vec<u8>, AllocError>
+    requires { outcomes.now ≡ (run_plan run.now).solution }
+    ensures { IfOk result (λ text. text.items ≡ matrices_text (results_in run.now)) }
+{
+    texts_in(alloc, run.outputs(), outcomes)
+}
