@@ -18,8 +18,8 @@ mod packed;
 mod port;
 mod serial;
 mod task;
-mod trace;
 mod trace_part;
+mod traces;
 mod work;
 
 pub use gate::{Gate, OpenGate};
@@ -34,5 +34,5 @@ pub use outcomes::Outcomes;
 pub use port::CellPort;
 pub use serial::{Finished, run_serial};
 pub use task::{Part, Task, TaskKind};
-pub use trace::trace;
+pub use traces::trace;
 pub use work::Work;

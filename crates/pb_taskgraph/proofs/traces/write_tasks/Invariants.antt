@@ -1,7 +1,7 @@
 use Rattle.std.proofs.Common.{◌≡◌, ◌++◌, drop}
 use Rattle.std.specs.List.{flat_map}
 use Rattle.pb_taskgraph.specs.Trace.{task_line_at}
-use Rattle.pb_taskgraph.proofs.trace.write_tasks.Given as goal
+use Rattle.pb_taskgraph.proofs.traces.write_tasks.Given as goal
 
 abbrev pub invariant-loop-number : goal.invariant-loop-number
 invariant-loop-number l =

@@ -1,7 +1,7 @@
 use Rattle.std.proofs.Common.{get_or}
 use Rattle.pb_taskgraph.specs.Trace.{task_line, task_line_at}
 use Rattle.pb_taskgraph.proofs.LineLemmas.{line_at, line_more}
-use Rattle.pb_taskgraph.proofs.trace.write_tasks.Goals as goal
+use Rattle.pb_taskgraph.proofs.traces.write_tasks.Goals as goal
 
 pub loop-number-preserved : goal.loop-number-preserved
 loop-number-preserved c =
