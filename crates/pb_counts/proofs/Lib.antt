@@ -4,3 +4,10 @@ pub mod FittingLemmas
 pub mod RowLemmas
 pub mod SideLemmas
 pub mod TallyLemmas
+pub mod AddLemmas
+pub mod CallLemmas
+pub mod PlaceLemmas
+pub mod DepthLemmas
+pub mod TellLemmas
+pub mod MemoLemmas
+pub mod RunLemmas

@@ -1,3 +1,9 @@
 pub mod Callable
+pub mod Entered
 pub mod Rows
 pub mod Tallies
+pub mod Sized
+pub mod Gathered
+pub mod Told
+pub mod Memos
+pub mod Limits

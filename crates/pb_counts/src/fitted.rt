@@ -1,10 +1,13 @@
 ghost use Rattle.std.specs.Prelude.{◌≡◌, ◌≤◌, IfOk, map};
 ghost use Rattle.std.specs.List.{All};
+ghost use Rattle.std.specs.Option.{option_map};
 ghost use Rattle.pb_linear.specs.Sizes.{sizes_of};
 ghost use Rattle.pb_program.specs.Trees.{bare_prog, bare_rule};
-ghost use Rattle.pb_recursion.specs.Plans.{fits_call, sides_of_slot};
+ghost use Rattle.pb_recursion.specs.Plans.{sides_of_slot};
 ghost use Rattle.pb_counts.specs.Callable.{IsCallable};
+ghost use Rattle.pb_counts.specs.Entered.{sizes_of_call};
 
+use crate::binding::bind;
 use crate::fitting::fits;
 use crate::sides::sides_of_slot;
 use pb_linear::{SIZE_TOP, Sizes};
@@ -29,24 +32,27 @@ fn sides_of_slots(
     Ok(sides)
 }
 
-/// Whether what a call in a plan of transform `t` gives fits the transform that it calls, and so does what it wants, at sizes of
-/// at most `SIZE_TOP`. A call of a transform that isn't there fits nothing.
-pub fn fits_call(
+/// The sizes at which a call in a plan of transform `t` enters the transform that it calls, at sizes of at most `SIZE_TOP`. None where
+/// what it gives doesn't fit that transform, or what it wants doesn't, or where there is no such transform.
+pub fn sizes_of_call(
     alloc: Global,
     p: &Prog,
     t: &Transform,
     rule: &Rule,
     call: &PlanCall,
     s: &Sizes,
-) -> Result<bool, AllocError>
+) -> Result<Option<Sizes>, AllocError>
     requires sizes { All (λ size. size ≤ SIZE_TOP) s.now.of }
     requires program { All IsCallable (bare_prog p.now) }
-    ensures { IfOk result (λ fits. fits ≡ fits_call t.now.matrices (sizes_of s.now) (bare_prog p.now) (bare_rule rule.now) call.now) }
+    ensures { IfOk result (λ entered. option_map sizes_of entered ≡ sizes_of_call t.now.matrices (sizes_of s.now) (bare_prog p.now) (bare_rule rule.now) call.now) }
 {
     let Some(called) = p.transforms.get(call.transform as usize) else {
-        return Ok(false);
+        return Ok(None);
     };
     let given = sides_of_slots(alloc, t, rule, &call.arguments, s)?;
     let wanted = sides_of_slots(alloc, t, rule, &call.targets, s)?;
-    Ok(fits(called, &given, &wanted))
+    if !fits(called, &given, &wanted) {
+        return Ok(None);
+    }
+    Ok(Some(bind(called, &given)))
 }

@@ -5,6 +5,8 @@
 #[cfg(test)]
 mod bodies;
 #[cfg(test)]
+mod counts;
+#[cfg(test)]
 mod entering;
 #[cfg(test)]
 mod frames;
