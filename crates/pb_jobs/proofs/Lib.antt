@@ -1,0 +1,10 @@
+pub mod ListLemmas
+pub mod WindowLemmas
+pub mod ShownLemmas
+pub mod RoomLemmas
+pub mod PlaceLemmas
+pub mod SpanLemmas
+pub mod InstanceLemmas
+pub mod GiveLemmas
+pub mod OutLemmas
+pub mod CellLemmas

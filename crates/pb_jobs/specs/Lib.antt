@@ -1,0 +1,5 @@
+pub mod Shown
+pub mod Instances
+pub mod Rooms
+pub mod Outputs
+pub mod Jobs
