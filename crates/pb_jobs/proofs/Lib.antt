@@ -8,3 +8,5 @@ pub mod InstanceLemmas
 pub mod GiveLemmas
 pub mod OutLemmas
 pub mod CellLemmas
+pub mod StepLemmas
+pub mod BlockLemmas

@@ -1,4 +1,4 @@
-ghost use Rattle.std.specs.Prelude.{◌≡◌, ◌≤◌, length};
+ghost use Rattle.std.specs.Prelude.{◌≡◌, ◌≤◌, ◌<◌, Some, length, slice_get};
 ghost use Rattle.std.specs.List.{All};
 ghost use Rattle.pb_program.specs.Trees.{bare_prog};
 ghost use Rattle.pb_taskgraph.specs.Turns.{after_all};
@@ -12,6 +12,14 @@ use crate::scratch::RunScratch;
 use pb_linear::Step;
 use pb_links::Spot;
 use pb_taskgraph::CellPort;
+
+/// The rule of the rectangle with this number.
+fn rule_of(rules: &[u32], piece: usize) -> u32
+    requires { piece < length rules.now }
+    ensures { slice_get rules.now piece ≡ Some result }
+{
+    rules[piece]
+}
 
 impl<'a> Instance<'a> {
     /// Makes the cells of rectangles one by one, each by its rectangle's rule, in the order of the steps.
@@ -33,7 +41,7 @@ impl<'a> Instance<'a> {
         let views = self.views();
         scratch.walk.begin(steps, parts);
         while let Some(stop) = scratch.walk.next() {
-            let rule = rules[stop.piece];
+            let rule = rule_of(rules, stop.piece);
             let outcome = self.cell(rule, stop.x, stop.y, port, &mut scratch.rule);
             let cell = views[stop.base as usize].place(stop.x, stop.y);
             port.write(cell, outcome);

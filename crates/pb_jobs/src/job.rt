@@ -33,12 +33,7 @@ impl<'a> Model for Job<'a> {
 
 /// Makes all cells of a job that can be made, where there is room for it. What is told of other cells doesn't change. It takes
 /// no memory.
-pub fn run_job<C: CellPort>(
-    instance: &Instance,
-    job: &Job,
-    port: &mut C,
-    scratch: &mut RunScratch,
-)
+pub fn run_job<C: CellPort>(instance: &Instance, job: &Job, port: &mut C, scratch: &mut RunScratch)
     requires ready { IsReady instance.now }
     requires can { CanBeMade instance.now job.now (C.turn port.old) }
     requires room { HasRoomForJob (bare_prog instance.now.program) instance.now.number (of_sizes instance.now) (rooms_of scratch.old) job.now }

@@ -50,11 +50,7 @@ fn windows_for(alloc: Global, rule: &Rule, s: &Sizes) -> Result<Windows, AllocEr
 }
 
 /// The views of each rule at fixed sizes.
-pub fn rule_windows(
-    alloc: Global,
-    rules: &[Rule],
-    s: &Sizes,
-) -> Result<Vec<Windows>, AllocError>
+pub fn rule_windows(alloc: Global, rules: &[Rule], s: &Sizes) -> Result<Vec<Windows>, AllocError>
     requires sizes { All (λ size. size ≤ SIZE_TOP) s.now.of }
     requires steady { All HasSteadyViews rules.now }
     ensures { IfOk result (λ windows. AreRuleWindows (sizes_of s.now) (map bare_rule rules.now) windows.items) }
