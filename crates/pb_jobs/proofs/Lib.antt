@@ -10,3 +10,6 @@ pub mod OutLemmas
 pub mod CellLemmas
 pub mod StepLemmas
 pub mod BlockLemmas
+pub mod OutputLemmas
+pub mod PickLemmas
+pub mod WholeLemmas
