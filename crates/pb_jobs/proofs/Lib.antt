@@ -13,3 +13,4 @@ pub mod BlockLemmas
 pub mod OutputLemmas
 pub mod PickLemmas
 pub mod WholeLemmas
+pub mod JobLemmas
