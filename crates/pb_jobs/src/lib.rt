@@ -11,6 +11,7 @@
 mod block;
 mod instance;
 mod job;
+mod laws;
 mod making;
 mod outputs;
 mod room;
@@ -21,6 +22,7 @@ mod windows;
 
 pub use instance::Instance;
 pub use job::{Job, run_job};
+pub use laws::a_job_has_room_where_there_is_more;
 pub use room::{Rooms, job_rooms};
 pub use scratch::RunScratch;
 pub use windows::{Windows, rule_windows};

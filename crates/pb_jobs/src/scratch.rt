@@ -9,7 +9,7 @@ use std::alloc::{AllocError, Global};
 
 /// Room that rules use, one after another: for the views of a rule's reads, and for its locals and outputs.
 #[derive(Drop)]
-pub struct RuleScratch {
+pub(crate) struct RuleScratch {
     pub(crate) shown: Shown,
     pub(crate) body: Scratch,
 }

@@ -14,8 +14,8 @@ use std::marker::Model;
 /// The views of a rule's reads and outputs at fixed sizes, in their order.
 #[derive(Drop)]
 pub struct Windows {
-    pub reads: Vec<Window>,
-    pub outs: Vec<Window>,
+    pub(crate) reads: Vec<Window>,
+    pub(crate) outs: Vec<Window>,
 }
 
 impl Model for Windows {
