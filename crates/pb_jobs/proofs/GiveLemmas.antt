@@ -1,5 +1,5 @@
 -- What a rule gives, over what its reads show.
-use Rattle.std.proofs.Common.{◌≡◌, ◌∙◌, refl, sym, ap, subst, ℕ, ◌<◌, ◌≤◌, ◌^◌, pos, List, length, map, slice_get, Some, arith}
+use Rattle.std.proofs.Common.{◌≡◌, ◌∙◌, sym, ap, subst, ℕ, ◌<◌, ◌≤◌, pos, List, length, map, slice_get, Some, arith}
 use Rattle.std.specs.Prelude.{IsTrue, Result, is_some}
 use Rattle.std.specs.List.{All, Contains, flat_map}
 use Rattle.std.specs.Option.{option_map_or}
@@ -21,7 +21,7 @@ use Rattle.pb_program.specs.Transforms.{ProgValue}
 use Rattle.pb_program.specs.Trees.{ProgRule, ProgTransform, bare_prog, bare_rule}
 use Rattle.pb_program.specs.declared.view.Read.{Read}
 use Rattle.pb_model.specs.Cells.{reads as cells_read}
-use Rattle.pb_model.specs.Equations.{rule_gives, shown_area, sides_by, view_sides}
+use Rattle.pb_model.specs.Equations.{rule_gives, shown_area, sides_by}
 use Rattle.pb_eval.specs.CanRun.{AreReads, IsRunnable, OfRule, at_variables, locals_needed, outs_needed}
 use Rattle.pb_eval.specs.Running.{Gives, locals_of, outs_of}
 use Rattle.pb_eval.specs.Shown.{outcome_of, seen_by}

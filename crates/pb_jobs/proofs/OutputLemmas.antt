@@ -1,5 +1,5 @@
 -- The outputs of a rule that makes all its cells at once: where they lie, and how many numbers they have.
-use Rattle.std.proofs.Common.{◌≡◌, ◌∙◌, ◌≢◌, refl, sym, ap, subst, ◌↔◌, ℕ, ◌+◌, ◌-◌, ◌*◌, ◌^◌, ◌<◌, ◌≤◌, ℤ, pos, ◌≤ℤ◌, ◌<ℤ◌, Bool, true, false, ◌&&◌, List, [], ◌∷◌, length, map, slice_get, Option, Some, arith}
+use Rattle.std.proofs.Common.{◌≡◌, ◌∙◌, ◌≢◌, refl, sym, ap, subst, ◌↔◌, ℕ, ◌-◌, ◌*◌, ◌^◌, ◌<◌, ◌≤◌, ℤ, pos, ◌≤ℤ◌, ◌<ℤ◌, Bool, true, false, ◌&&◌, List, [], ◌∷◌, length, map, slice_get, Option, Some, arith}
 use Rattle.std.specs.Prelude.{◌==◌, int_le, int_lt, slice_index_or}
 use Rattle.std.specs.List.{Contains}
 use Rattle.std.specs.Option.{option_map_or}
@@ -38,7 +38,7 @@ use Rattle.pb_jobs.specs.Shown.{AreWindows}
 use Rattle.pb_jobs.proofs.InstanceLemmas.{out_declared, rule_fits}
 use Rattle.pb_jobs.proofs.ListLemmas.{all_at, item_at, some_same, zip_both, zip_length}
 use Rattle.pb_jobs.proofs.PlaceLemmas.{times_most}
-use Rattle.pb_jobs.proofs.SpanLemmas.{along_end, along_extent, along_order, sides_short}
+use Rattle.pb_jobs.proofs.SpanLemmas.{along_extent, along_order, sides_short}
 
 -- ---- a place of a rectangle, and of the area that it is
 has_in : (a : Area) (x y : ℤ) → (has a x y ≡ true) ↔ IsIn a x y

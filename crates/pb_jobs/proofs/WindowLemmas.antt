@@ -1,6 +1,5 @@
 -- The windows of views, one more.
-use Rattle.std.proofs.Common.{◌≡◌, ◌∙◌, refl, sym, ap, subst, ℕ, ◌+◌, ◌<◌, List, [], ◌∷◌, ◌++◌, length, map, take, get_or}
-use Rattle.std.specs.List.{AllZip}
+use Rattle.std.proofs.Common.{◌≡◌, refl, sym, ap, subst, ℕ, ◌+◌, ◌<◌, List, [], ◌∷◌, ◌++◌, length, map, take, get_or}
 use Rattle.pb_program.specs.declared.view.Read.{Read}
 use Rattle.pb_views.specs.Windows.{IsWindow}
 use Rattle.pb_views.specs.declared.window.Window.{Window}

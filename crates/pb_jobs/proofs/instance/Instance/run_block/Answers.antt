@@ -1,4 +1,4 @@
-use Rattle.std.proofs.Common.{◌≡◌, ◌∙◌, refl, sym, ap, subst, slice_get}
+use Rattle.std.proofs.Common.{◌∙◌, refl, sym, ap, subst, slice_get}
 use Rattle.pb_values.specs.Cells.{Turn}
 use Rattle.pb_program.specs.Trees.{bare_prog}
 use Rattle.pb_taskgraph.specs.Turns.{after_write}

@@ -1,4 +1,4 @@
-use Rattle.std.proofs.Common.{◌≡◌, ◌∙◌, [], refl, sym, ap, subst, slice_get}
+use Rattle.std.proofs.Common.{◌∙◌, [], refl, sym, ap, subst}
 use Rattle.pb_program.specs.Trees.{bare_prog}
 use Rattle.pb_eval.specs.Running.{Gives}
 use Rattle.pb_walk.specs.Walks.{WalkValue, walk_of}
