@@ -14,3 +14,4 @@ pub mod OutputLemmas
 pub mod PickLemmas
 pub mod WholeLemmas
 pub mod JobLemmas
+pub mod TaskLemmas

@@ -36,16 +36,16 @@ module _ {stops : List Stop} {start turn : Turn} {ahead : List Stop} (a : IsAmon
   pub stop_at : (s : Stop) → Some s ≡ slice_get ahead 0 → slice_get stops a.n ≡ Some s
   stop_at s first = first_left stops ahead a.n s a.left (sym first)
 
-  -- the next that may be written, and then one cell more is
-  module _ (cell : ℕ) (o : Outcome) (entry : slice_get start.left a.n ≡ Some (cell, o)) where
-    pub may : slice_get turn.left 0 ≡ Some (cell, o)
-    may = ap (λ (u : Turn). slice_get u.left 0) a.now ∙ next_left a.n start ∙ entry
+  -- the next that may be written, whatever was read before, and then one cell more is
+  module _ (cell : ℕ) (o : Outcome) (entry : slice_get start.left a.n ≡ Some (cell, o)) (read : Turn) (stays : read ≡ turn) where
+    pub may : slice_get read.left 0 ≡ Some (cell, o)
+    may = ap (λ (u : Turn). slice_get u.left 0) (stays ∙ a.now) ∙ next_left a.n start ∙ entry
 
-    pub more : (new : Turn) (rest : List Stop) → new ≡ after_write turn cell o → rest ≡ drop 1 ahead → IsAmong stops start new rest
+    pub more : (new : Turn) (rest : List Stop) → new ≡ after_write read cell o → rest ≡ drop 1 ahead → IsAmong stops start new rest
     more new rest wrote e = record {
       n = a.n + 1;
       left = e ∙ ap (drop 1) a.left ∙ drop-drop 1 a.n stops;
-      now = wrote ∙ ap (λ (u : Turn). after_write u cell o) a.now ∙ sym (some-more start a.n (cell, o) entry);
+      now = wrote ∙ ap (λ (u : Turn). after_write u cell o) (stays ∙ a.now) ∙ sym (some-more start a.n (cell, o) entry);
     }
 
 -- ---- the cell at a stop

@@ -3,3 +3,4 @@ pub mod Instances
 pub mod Rooms
 pub mod Outputs
 pub mod Jobs
+pub mod Tasks

@@ -31,8 +31,7 @@ impl<'a> Model for Job<'a> {
     ghost view = { λ j. record { parts = j.parts.now; rule = j.rule; rules = j.rules.now; steps = j.steps.now } };
 }
 
-/// Makes all cells of a job that can be made, where there is room for it. What is told of other cells doesn't change. It takes
-/// no memory.
+/// Makes the cells of a job that can be made, one after another, where there is room for it. It takes no memory.
 pub fn run_job<C: CellPort>(instance: &Instance, job: &Job, port: &mut C, scratch: &mut RunScratch)
     requires ready { IsReady instance.now }
     requires can { CanBeMade instance.now job.now (C.turn port.old) }

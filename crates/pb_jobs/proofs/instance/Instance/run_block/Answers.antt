@@ -1,7 +1,5 @@
-use Rattle.std.proofs.Common.{◌∙◌, refl, sym, ap, subst, slice_get}
-use Rattle.pb_values.specs.Cells.{Turn}
+use Rattle.std.proofs.Common.{◌∙◌, refl, sym, ap, subst}
 use Rattle.pb_program.specs.Trees.{bare_prog}
-use Rattle.pb_taskgraph.specs.Turns.{after_write}
 use Rattle.pb_walk.specs.Walks.{WalkValue, walk_of}
 use Rattle.pb_jobs.specs.Instances.{of_sizes}
 use Rattle.pb_jobs.specs.Rooms.{HasRoomFor, rooms_of}
@@ -42,14 +40,14 @@ pub write-requires : goal.write-requires
 write-requires g c =
     let is = next c.requires.block c.loop-stop.invariant.among c.in-Some.stop c.in-Some.ensures.first c.rule_of-rule.result c.rule_of-rule.ensures c.cell-outcome.result c.cell-outcome.ensures.outcome in
     let at = entry is c.views-views.result.now c.views-views.ensures c.index-views-stop.result c.index-views-stop.is c.place-cell.result c.place-cell.ensures in
-    ap (λ (u : Turn). slice_get u.left 0) c.cell-outcome.ensures.stays ∙ may c.loop-stop.invariant.among c.place-cell.result c.cell-outcome.result at
+    may c.loop-stop.invariant.among c.place-cell.result c.cell-outcome.result at (g.C.CellReader.turn c.cell-outcome.new.port) c.cell-outcome.ensures.stays
 
 pub loop-stop-preserved : goal.loop-stop-preserved
 loop-stop-preserved g c =
     let is = next c.requires.block c.loop-stop.invariant.among c.in-Some.stop c.in-Some.ensures.first c.rule_of-rule.result c.rule_of-rule.ensures c.cell-outcome.result c.cell-outcome.ensures.outcome in
     let at = entry is c.views-views.result.now c.views-views.ensures c.index-views-stop.result c.index-views-stop.is c.place-cell.result c.place-cell.ensures in
     record {
-      among = more c.loop-stop.invariant.among c.place-cell.result c.cell-outcome.result at (g.C.CellReader.turn c.write.new.self) c.next.new.self.left (c.write.ensures ∙ ap (λ (u : Turn). after_write u c.place-cell.result c.cell-outcome.result) c.cell-outcome.ensures.stays) (ap (λ (w : WalkValue). w.left) c.next.ensures.rest);
+      among = more c.loop-stop.invariant.among c.place-cell.result c.cell-outcome.result at (g.C.CellReader.turn c.cell-outcome.new.port) c.cell-outcome.ensures.stays (g.C.CellReader.turn c.write.new.self) c.next.new.self.left c.write.ensures (ap (λ (w : WalkValue). w.left) c.next.ensures.rest);
       room = same_rooms c.loop-stop.scratch (record { walk = c.next.new.self; rule = c.cell-outcome.new.scratch }) c.cell-outcome.ensures.room (ap (λ (w : WalkValue). w.room) c.next.ensures.rest) ∙ c.loop-stop.invariant.room;
     }
 

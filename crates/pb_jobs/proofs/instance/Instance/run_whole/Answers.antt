@@ -39,7 +39,7 @@ write-requires g c =
     let start = g.C.CellReader.turn c.args.port.now in
     let gives = subst (Gives (given_by c.args.self.now c.args.rule w.rule 0 0 start) c.gives-gave.result) (sym c.loop-stop.invariant.body) (c.gives-gave.ensures.found w.rule w.there) in
     let is = next w c.loop-stop.invariant.among c.in-Some.stop c.in-Some.ensures.first c.outcome-outcome.result (c.outcome-outcome.ensures w.rule (given_by c.args.self.now c.args.rule w.rule 0 0 start) w.there gives (counted w)) in
-    may c.loop-stop.invariant.among c.place-cell.result c.outcome-outcome.result (entry is c.views-views.result.now c.views-views.ensures c.index-views-stop.result c.index-views-stop.is c.place-cell.result c.place-cell.ensures)
+    may c.loop-stop.invariant.among c.place-cell.result c.outcome-outcome.result (entry is c.views-views.result.now c.views-views.ensures c.index-views-stop.result c.index-views-stop.is c.place-cell.result c.place-cell.ensures) (g.C.CellReader.turn c.loop-stop.port) refl
 
 pub loop-stop-preserved : goal.loop-stop-preserved
 loop-stop-preserved g c =
@@ -48,7 +48,7 @@ loop-stop-preserved g c =
     let gives = subst (Gives (given_by c.args.self.now c.args.rule w.rule 0 0 start) c.gives-gave.result) (sym c.loop-stop.invariant.body) (c.gives-gave.ensures.found w.rule w.there) in
     let is = next w c.loop-stop.invariant.among c.in-Some.stop c.in-Some.ensures.first c.outcome-outcome.result (c.outcome-outcome.ensures w.rule (given_by c.args.self.now c.args.rule w.rule 0 0 start) w.there gives (counted w)) in
     record {
-      among = more c.loop-stop.invariant.among c.place-cell.result c.outcome-outcome.result (entry is c.views-views.result.now c.views-views.ensures c.index-views-stop.result c.index-views-stop.is c.place-cell.result c.place-cell.ensures)
+      among = more c.loop-stop.invariant.among c.place-cell.result c.outcome-outcome.result (entry is c.views-views.result.now c.views-views.ensures c.index-views-stop.result c.index-views-stop.is c.place-cell.result c.place-cell.ensures) (g.C.CellReader.turn c.loop-stop.port) refl
           (g.C.CellReader.turn c.write.new.self) c.next.new.self.left c.write.ensures (ap (λ (q : WalkValue). q.left) c.next.ensures.rest);
       room = same_rooms c.loop-stop.scratch (record { walk = c.next.new.self; rule = c.loop-stop.scratch.rule }) (itself c.loop-stop.scratch.rule.body) (ap (λ (q : WalkValue). q.room) c.next.ensures.rest) ∙ c.loop-stop.invariant.room;
       body = c.loop-stop.invariant.body;
