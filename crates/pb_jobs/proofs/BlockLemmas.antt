@@ -17,7 +17,7 @@ use Rattle.pb_jobs.specs.Shown.{CanRun}
 use Rattle.pb_jobs.proofs.ListLemmas.{some_same}
 use Rattle.pb_jobs.proofs.StepLemmas.{IsAmong, stop_at}
 
-single : (g : RuleKind) → g ≡ kind.Cell → g ≢ kind.Plan
+pub single : (g : RuleKind) → g ≡ kind.Cell → g ≢ kind.Plan
 single g e plan = let wrong : kind.Cell ≡ kind.Plan = sym e ∙ plan in cc
 
 module _ {v : InstanceValue} {rules : List ℕ} {stops : List Stop} {start : Turn} (b : IsBlock v rules stops start) {turn : Turn} {ahead : List Stop} (a : IsAmong stops start turn ahead) (s : Stop) (first : Some s ≡ slice_get ahead 0) where

@@ -44,6 +44,26 @@ one_side sizes x y r d view.Column e = absurd (cc)
 one_side sizes x y r d view.Region e = absurd (cc)
 one_side sizes x y r d view.Whole e = absurd (cc)
 
+-- it has one output of one cell
+module _ (v : InstanceValue) (is : IsReady v) (k x y : ℕ) (rule : ProgRule) (there : slice_get (of_transform v).rules k ≡ Some rule) (single : rule.kind ≡ kind.Cell) where
+  abbrev matrices : List DeclValue
+  matrices = (of_transform v).matrices
+
+  abbrev at : List ℕ
+  at = of_sizes v
+
+  by_outs : (outs : List Read) → ((q : Read) → Contains outs q → (d : DeclValue) × (slice_get matrices q.matrix ≡ Some d)) → KindFits kind.Cell outs → numbers_in (map (view_sides matrices at (at_variables x y)) outs) ≡ 1
+  by_outs [] declared h = absurd h
+  by_outs (o ∷ p ∷ rest) declared h = absurd h
+  by_outs (o ∷ []) declared h =
+      let d = declared o (in_head o []) in
+      let area : shown_area matrices at (at_variables x y) o ≡ area_of at (pos x) (pos y) o d.0 = ap (λ q. option_map_or (area_of at (pos x) (pos y) o) q (record { x = from_start (pos 0); y = from_start (pos 0) })) d.1 in
+      let sides : ◌≡◌ {A = ℕ × ℕ} (view_sides matrices at (at_variables x y) o) (1, 1) = ap (sides_by o.view) area ∙ one_side at (pos x) (pos y) o d.0 o.view h.cell in
+      ap (λ (s : ℕ × ℕ). s.1 * s.0 + 0) sides
+
+  pub one_needed : outs_needed matrices at (at_variables x y) rule ≡ 1
+  one_needed = by_outs rule.outs (out_declared v is k rule there) (subst (λ g. KindFits g rule.outs) single (rule_fits v is k rule there).kind)
+
 module _ (v : InstanceValue) (is : IsReady v) (k x y : ℕ) (turn : Turn) (can : CanRunRule v k x y turn) (single : (r : ProgRule) → slice_get (of_transform v).rules k ≡ Some r → r.kind ≡ kind.Cell) (z : Scratch) where
   abbrev t : ProgTransform
   t = of_transform v
@@ -54,20 +74,8 @@ module _ (v : InstanceValue) (is : IsReady v) (k x y : ℕ) (turn : Turn) (can :
   abbrev rule : ProgRule
   rule = can.rule
 
-  one_needed : outs_needed t.matrices sizes (at_variables x y) rule ≡ 1
-  one_needed = by rule.outs (out_declared v is k rule can.there) (subst (λ g. KindFits g rule.outs) (single rule can.there) (rule_fits v is k rule can.there).kind)
-    where
-      by : (outs : List Read) → ((q : Read) → Contains outs q → (d : DeclValue) × (slice_get t.matrices q.matrix ≡ Some d)) → KindFits kind.Cell outs → numbers_in (map (view_sides t.matrices sizes (at_variables x y)) outs) ≡ 1
-      by [] declared h = absurd h
-      by (o ∷ p ∷ rest) declared h = absurd h
-      by (o ∷ []) declared h =
-          let d = declared o (in_head o []) in
-          let area : shown_area t.matrices sizes (at_variables x y) o ≡ area_of sizes (pos x) (pos y) o d.0 = ap (λ q. option_map_or (area_of sizes (pos x) (pos y) o) q (record { x = from_start (pos 0); y = from_start (pos 0) })) d.1 in
-          let sides : ◌≡◌ {A = ℕ × ℕ} (view_sides t.matrices sizes (at_variables x y) o) (1, 1) = ap (sides_by o.view) area ∙ one_side sizes (pos x) (pos y) o d.0 o.view h.cell in
-          ap (λ (s : ℕ × ℕ). s.1 * s.0 + 0) sides
-
   counted : (numbers : List ℤ) → given_by v k rule x y turn ≡ Ok numbers → length numbers ≡ 1
-  counted numbers e = gives_count t.matrices sizes (at_variables x y) v.number k rule (told_of v turn (reads t.matrices sizes (at_variables x y) rule)) numbers e ∙ one_needed
+  counted numbers e = gives_count t.matrices sizes (at_variables x y) v.number k rule (told_of v turn (reads t.matrices sizes (at_variables x y) rule)) numbers e ∙ one_needed v is k x y rule can.there (single rule can.there)
 
   pub one_room : (n : ℕ) → Gives (given_by v k rule x y turn) (Ok n) z → 0 < outs_of z
   one_room n h = by (given_by v k rule x y turn) refl h

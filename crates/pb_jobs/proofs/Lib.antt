@@ -15,3 +15,4 @@ pub mod PickLemmas
 pub mod WholeLemmas
 pub mod JobLemmas
 pub mod TaskLemmas
+pub mod NeedLemmas

@@ -27,7 +27,7 @@ use Rattle.pb_model.specs.Equations.{extent, shown_area, sides_by, view_sides}
 use Rattle.pb_model.specs.Lawful.{has, output_holds}
 use Rattle.pb_eval.specs.CanRun.{at_variables, outs_needed}
 use Rattle.pb_eval.specs.Outputs.{numbers_in}
-use Rattle.pb_eval.proofs.RegionLemmas.{outs_are_free, shown_same}
+use Rattle.pb_eval.proofs.RegionLemmas.{outs_are_free, shown_same, sides_same}
 use Rattle.pb_views.specs.Layouts.{HasShortSides}
 use Rattle.pb_views.specs.Windows.{IsRect, IsWindow, shown_by}
 use Rattle.pb_views.specs.declared.window.Window.{Window}
@@ -154,6 +154,14 @@ module _ {v : InstanceValue} (is : IsReady v) {k : ℕ} (can : CanGive v k) wher
 
   pub all_few : outs_needed t.matrices sizes origin can.rule ≤ 2 ^ 48
   all_few = omega (arith, sum_few can.rule.outs (λ q h. h), fits.some_output)
+
+  pub all_few_at : (x y : ℕ) → outs_needed t.matrices sizes (at_variables x y) can.rule ≤ 2 ^ 48
+  all_few_at x y = omega (
+    arith,
+    all_few,
+    ap numbers_in (sides_same t.matrices sizes (at_variables x y) origin can.rule.outs
+        (outs_are_free t.matrices sizes origin origin (length t.sizes) t.inputs (length t.matrices) (length (bare_prog v.program)) can.rule fits can.wide)),
+  )
 
   -- ---- a rectangle that an output is
   module _ {j : ℕ} {s : Spot} (lies : LiesAt t.matrices sizes can.rule.outs j s) where

@@ -16,7 +16,7 @@ use Rattle.pb_jobs.specs.Outputs.{CanGive}
 use Rattle.pb_jobs.proofs.OutLemmas.{gives_count}
 use Rattle.pb_jobs.proofs.StepLemmas.{IsAmong, stop_at}
 
-many : (g : RuleKind) → g ≡ kind.Wide → g ≢ kind.Plan
+pub many : (g : RuleKind) → g ≡ kind.Wide → g ≢ kind.Plan
 many g e plan = let wrong : kind.Wide ≡ kind.Plan = sym e ∙ plan in cc
 
 module _ {v : InstanceValue} {k : ℕ} {stops : List Stop} {start : Turn} (w : IsWhole v k stops start) where

@@ -22,7 +22,9 @@ mod windows;
 
 pub use instance::Instance;
 pub use job::{Job, run_job};
-pub use laws::{a_job_has_room_where_there_is_more, a_task_of_a_plan_can_be_made};
+pub use laws::{
+    a_job_has_room_where_there_is_more, a_task_of_a_plan_can_be_made, each_rule_has_a_need,
+};
 pub use room::{Rooms, job_rooms};
 pub use scratch::RunScratch;
 pub use windows::{Windows, rule_windows};
