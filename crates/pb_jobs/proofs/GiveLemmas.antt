@@ -59,7 +59,7 @@ module _ (v : InstanceValue) (is : IsReady v) (k x y : ℕ) (turn : Turn) (can :
     as_many = sym (zip_length _ rule.reads ws windows) ∙ ap length (sym rs_are)
 
     pub lie_within : AreWithin ms x y rs ws
-    lie_within = subst (λ l. AreWithin ms x y l ws) (sym rs_are) (subst (λ l. AreWithin l x y rule.reads ws) (sym ms_are) (are_within t.matrices sizes v.views is.laid rule x y ws windows (read_declared v is k rule can.there) can.can.within))
+    lie_within = subst (λ l. AreWithin ms x y l ws) (sym rs_are) (subst (λ l. AreWithin l x y rule.reads ws) (sym ms_are) (are_within t.matrices sizes v.views is.laid rule x y ws windows (read_declared v is k rule can.there) can.can.reads.within))
 
     module _ (shown : List View) (are : AreShown ms x y rs ws (length rs) shown) where
       shown_are : AreShown v.views x y rule.reads ws (length rule.reads) shown
@@ -74,7 +74,7 @@ module _ (v : InstanceValue) (is : IsReady v) (k x y : ℕ) (turn : Turn) (can :
           let d = read_declared v is k rule can.there r.0 (in_at rule.reads j r.0 r.1) in
           let s = all_at (HasShortSides sizes) t.matrices r.0.matrix d.0 is.sides d.1 in
           let some : 1 ≤ MOST_SIDE = omega arith in
-          let short = sides_short MOST_SIDE some r.0.view (area_of sizes (pos x) (pos y) r.0 d.0) (exact_value d.0.w sizes) (exact_value d.0.h sizes) (can.can.within j r.0 d.0 r.1 d.1) s.width s.height in
+          let short = sides_short MOST_SIDE some r.0.view (area_of sizes (pos x) (pos y) r.0 d.0) (exact_value d.0.w sizes) (exact_value d.0.h sizes) (can.can.reads.within j r.0 d.0 r.1 d.1) s.width s.height in
           let area : shown_area t.matrices sizes (at_variables x y) r.0 ≡ area_of sizes (pos x) (pos y) r.0 d.0 = ap (λ o. option_map_or (area_of sizes (pos x) (pos y) r.0) o (record { x = from_start (pos 0); y = from_start (pos 0) })) d.1 in
           let sides = (one_shown t.matrices sizes v.views is.laid rule x y ws windows (read_declared v is k rule can.there) shown shown_are j u r.0 at_u r.1).0 ∙ ap (sides_by r.0.view) area in
           (omega (arith, ap (λ (p : ℕ × ℕ). p.0) sides, short.0), omega (arith, ap (λ (p : ℕ × ℕ). p.1) sides, short.1))

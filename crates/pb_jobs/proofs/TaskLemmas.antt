@@ -32,7 +32,7 @@ module _ (v : InstanceValue) (p : Plan) (task : ℕ) (start : Turn) (b : Begins 
   -- ---- what a rule reads is told, with the plan's outcomes
   module _ (n : ℕ) (turn : Turn) (now : turn ≡ after_some n start) (rule : ProgRule) (x y : ℕ) (runs : MayRun v p task n rule x y) where
     can_run : CanRun (of_transform v).matrices (of_sizes v) v.views rule x y turn
-    can_run = record { small_x = runs.small_x; small_y = runs.small_y; within = runs.within; told = λ d h. may-read_some p task start b n turn now (number_in v.views d) (runs.may d h) }
+    can_run = record { reads = runs.reads; told = λ d h. may-read_some p task start b n turn now (number_in v.views d) (runs.may d h) }
 
     outcome_told : (d : Cell) → Contains (reads (of_transform v).matrices (of_sizes v) (at_variables x y) rule) d → outcome_of turn (number_in v.views d) ≡ outcome_at p.solution (number_in v.views d)
     unfolding outcome_of

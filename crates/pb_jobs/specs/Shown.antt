@@ -10,7 +10,7 @@ use Rattle.pb_program.specs.Rules.{RuleValue}
 use Rattle.pb_program.specs.Trees.{ProgRule}
 use Rattle.pb_program.specs.declared.view.Read.{Read}
 use Rattle.pb_region.specs.Within.{IsWithin}
-use Rattle.pb_model.specs.Cells.{Cell, reads}
+use Rattle.pb_model.specs.Cells.{Cell, reads as cells_read}
 use Rattle.pb_eval.specs.CanRun.{at_variables}
 use Rattle.pb_views.specs.Windows.{AreSteady, IsShown, IsWindow, number_in, shown_by}
 use Rattle.pb_views.specs.declared.window.Window.{Window}
@@ -59,9 +59,13 @@ abbrev pub AreWithin : List View → ℕ → ℕ → List Read → List Window �
 AreWithin matrices x y reads windows = (k : ℕ) (r : Read) (w : Window) → slice_get reads k ≡ Some r → slice_get windows k ≡ Some w → LiesWithin matrices x y r w
 
 -- ---- when a rule can be run
--- for these rule variables it reads within its matrices, and what it reads is told
-pub record CanRun (matrices : List DeclValue) (sizes : List ℕ) (views : List View) (r : ProgRule) (x y : ℕ) (turn : Turn) : Type 0 where
+-- for these rule variables it reads within its matrices
+pub record ReadsWithin (matrices : List DeclValue) (sizes : List ℕ) (r : ProgRule) (x y : ℕ) : Type 0 where
   pub small_x : x ≤ 2 ^ 23
   pub small_y : y ≤ 2 ^ 23
   pub within : (k : ℕ) (q : Read) (d : DeclValue) → slice_get r.reads k ≡ Some q → slice_get matrices q.matrix ≡ Some d → IsWithin (area_of sizes (pos x) (pos y) q d) (exact_value d.w sizes) (exact_value d.h sizes)
-  pub told : (shown : Cell) → Contains (reads matrices sizes (at_variables x y) r) shown → IsTrue (is_some (turn.outcomes (number_in views shown)))
+
+-- and what it reads is told
+pub record CanRun (matrices : List DeclValue) (sizes : List ℕ) (views : List View) (r : ProgRule) (x y : ℕ) (turn : Turn) : Type 0 where
+  pub reads : ReadsWithin matrices sizes r x y
+  pub told : (shown : Cell) → Contains (cells_read matrices sizes (at_variables x y) r) shown → IsTrue (is_some (turn.outcomes (number_in views shown)))

@@ -1,18 +1,13 @@
 -- Jobs as tasks of a plan: what the plan says of a task whose cells a job can make whenever the task's turn begins.
-use Rattle.std.specs.Prelude.{◌≡◌, ℕ, ◌≤◌, ◌^◌, ℤ, pos, List, length, map, Result, Some, slice_get}
+use Rattle.std.specs.Prelude.{◌≡◌, ℕ, ℤ, List, length, map, Result, Some, slice_get}
 use Rattle.std.specs.List.{Contains}
-use Rattle.pb_linear.specs.Numbers.{exact_value}
 use Rattle.pb_values.specs.Views.{IsInside, cell_of}
 use Rattle.pb_values.specs.declared.outcome.Outcome.{Outcome}
 use Rattle.pb_values.specs.declared.outcome.Trap.{Trap}
 use Rattle.pb_values.specs.declared.view.View.{View}
-use Rattle.pb_program.specs.Areas.{area_of}
-use Rattle.pb_program.specs.Forms.{DeclValue}
 use Rattle.pb_program.specs.Trees.{ProgRule}
 use Rattle.pb_program.specs.declared.rule.RuleKind.TheVariants as kind
-use Rattle.pb_program.specs.declared.view.Read.{Read}
-use Rattle.pb_region.specs.Within.{IsWithin}
-use Rattle.pb_model.specs.Cells.{Cell, reads}
+use Rattle.pb_model.specs.Cells.{Cell, reads as cells_read}
 use Rattle.pb_model.specs.Equations.{own_outcome, rule_gives}
 use Rattle.pb_eval.specs.CanRun.{at_variables}
 use Rattle.pb_taskgraph.specs.Plans.{Plan, outcome_at}
@@ -22,21 +17,19 @@ use Rattle.pb_walk.specs.declared.stop.Stop.{Stop}
 use Rattle.pb_jobs.specs.Instances.{InstanceValue, of_sizes, of_transform}
 use Rattle.pb_jobs.specs.Jobs.{stop_cell}
 use Rattle.pb_jobs.specs.Outputs.{AreOutsWithin}
+use Rattle.pb_jobs.specs.Shown.{ReadsWithin}
 
 module _ (v : InstanceValue) (p : Plan) where
   -- what the rule gives for these rule variables, of the plan's outcomes
   abbrev pub solved_by : ℕ → ProgRule → ℕ → ℕ → Result (List ℤ) Trap
   solved_by k rule x y =
-      rule_gives (of_transform v).matrices (of_sizes v) (at_variables x y) v.number k rule (map (λ d. outcome_at p.solution (number_in v.views d)) (reads (of_transform v).matrices (of_sizes v) (at_variables x y) rule))
+      rule_gives (of_transform v).matrices (of_sizes v) (at_variables x y) v.number k rule (map (λ d. outcome_at p.solution (number_in v.views d)) (cells_read (of_transform v).matrices (of_sizes v) (at_variables x y) rule))
 
   module _ (task : ℕ) where
     -- for these rule variables a rule reads within its matrices, and what the task may read when so many of its cells are written
     pub record MayRun (n : ℕ) (rule : ProgRule) (x y : ℕ) : Type 0 where
-      pub small_x : x ≤ 2 ^ 23
-      pub small_y : y ≤ 2 ^ 23
-      pub within : (j : ℕ) (q : Read) (d : DeclValue) → slice_get rule.reads j ≡ Some q → slice_get (of_transform v).matrices q.matrix ≡ Some d
-          → IsWithin (area_of (of_sizes v) (pos x) (pos y) q d) (exact_value d.w (of_sizes v)) (exact_value d.h (of_sizes v))
-      pub may : (shown : Cell) → Contains (reads (of_transform v).matrices (of_sizes v) (at_variables x y) rule) shown → MayRead p task n (number_in v.views shown)
+      pub reads : ReadsWithin (of_transform v).matrices (of_sizes v) rule x y
+      pub may : (shown : Cell) → Contains (cells_read (of_transform v).matrices (of_sizes v) (at_variables x y) rule) shown → MayRead p task n (number_in v.views shown)
 
     -- the cell at a stop stands at this place of the task's order, and has this outcome
     pub record IsListed (n : ℕ) (s : Stop) (outcome : Outcome) : Type 0 where
