@@ -1,0 +1,79 @@
+-- What seats know, and what a step adds to it.
+use Rattle.std.specs.Prelude.{ℕ, ◌+◌, ◌==◌, Bool, true, false, List, [], ◌∷◌, ◌++◌, length, filter, drop, Option, Some, None, if◌then◌else◌}
+use Rattle.std.specs.List.{range_with_len}
+use Rattle.pb_taskgraph.specs.Graphs.{before_of}
+use Rattle.pb_taskgraph.specs.Plans.{Plan}
+use Rattle.pb_cells.specs.declared.view.TaskView.{TaskView}
+use Rattle.pb_cells.specs.declared.view.View.{View}
+
+-- of a task nothing is done
+abbrev pub untouched : ℕ → TaskView
+untouched t = record { task = t; written = 0; stored = false; number = None; released = [] }
+
+-- a Job's seat: its task, and the tasks that it has opened
+abbrev pub job_view : TaskView → List ℕ → View
+job_view j opened = record { job = Some j; turns = []; opened = opened; ran = []; seen = 0 }
+
+-- a hand's seat: what it has opened and run, and the count that it has seen
+abbrev pub hand_view : List ℕ → List (ℕ × ℕ) → ℕ → View
+hand_view opened ran seen = record { job = None; turns = []; opened = opened; ran = ran; seen = seen }
+
+-- a seat that knows nothing, as one is left that another has taken in
+abbrev pub no_view : View
+no_view = hand_view [] [] 0
+
+-- the tasks without predecessors, in order
+unfoldable pub open_tasks : Plan → List ℕ
+open_tasks p = filter (λ t. length (before_of p.graph t) == 0) (range_with_len 0 (length p.graph.tasks))
+
+-- a seat that holds these turns and has done nothing
+abbrev pub turns_view : List ℕ → View
+turns_view turns = record { job = None; turns = turns; opened = []; ran = []; seen = 0 }
+
+-- the first seat holds the turns of the tasks without predecessors
+unfoldable pub first_view : Plan → View
+first_view p = turns_view (open_tasks p)
+
+-- a task's next value is stored; its next cell is written; it is finished with this number
+abbrev pub after_store : TaskView → TaskView
+after_store j = record j { stored = true }
+
+abbrev pub after_mark : TaskView → TaskView
+after_mark j = record j { written = j.written + 1; stored = false }
+
+abbrev pub after_finish : ℕ → TaskView → TaskView
+after_finish n j = record j { number = Some n }
+
+-- it has released a successor
+abbrev pub after_release : ℕ → TaskView → TaskView
+after_release next j = record j { released = next ∷ j.released }
+
+-- a successor whose count was found to be 1 is opened by its release, and its turn is held
+abbrev pub with_opened : ℕ → ℕ → List ℕ → List ℕ
+with_opened found next tasks = if found == 1 then tasks ++ next ∷ [] else tasks
+
+abbrev pub released_view : ℕ → TaskView → ℕ → View → View
+released_view found j next v = record v { job = Some (after_release next j); turns = with_opened found next v.turns; opened = with_opened found next v.opened }
+
+-- the first turn goes to a new seat
+abbrev pub first_turn : List ℕ → ℕ
+first_turn [] = 0
+first_turn (t ∷ ts) = t
+
+abbrev pub without_turn : View → View
+without_turn v = record v { turns = drop 1 v.turns }
+
+abbrev pub turn_view : View → View
+turn_view v = job_view (untouched (first_turn v.turns)) []
+
+-- a hand takes in a Job: its finished task with its number, and the tasks that it has opened
+abbrev pub ended_by : Option TaskView → List (ℕ × ℕ)
+ended_by None = []
+ended_by (Some j) = numbered j.task j.number
+  where
+    numbered : ℕ → Option ℕ → List (ℕ × ℕ)
+    numbered t None = []
+    numbered t (Some n) = (t, n) ∷ []
+
+abbrev pub joined_view : View → View → View
+joined_view v w = record v { opened = v.opened ++ w.opened; ran = v.ran ++ ended_by w.job }
