@@ -37,7 +37,7 @@ module _ (p : Plan) (b c : Bank) (y z : Story) (id : ℕ) where
     released = λ u. same.released j.task u fits.runs ∙ fits.released u;
   }
 
-  same-job : (o : Option TaskView) → SameTask p b c y z id → FitsJob p b y id o → FitsJob p c z id o
+  pub same-job : (o : Option TaskView) → SameTask p b c y z id → FitsJob p b y id o → FitsJob p c z id o
   same-job None same fits = λ t runs. fits t (same.back t runs)
   same-job (Some j) same fits = same-task j same fits
 

@@ -5,3 +5,5 @@ pub mod CarryLemmas
 pub mod StoreLemmas
 pub mod FinishLemmas
 pub mod ReleaseLemmas
+pub mod SplitLemmas
+pub mod JoinLemmas

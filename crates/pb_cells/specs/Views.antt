@@ -66,14 +66,15 @@ without_turn v = record v { turns = drop 1 v.turns }
 abbrev pub turn_view : View → View
 turn_view v = job_view (untouched (first_turn v.turns)) []
 
--- a hand takes in a Job: its finished task with its number, and the tasks that it has opened
+-- a finished task with its number
+abbrev pub numbered : ℕ → Option ℕ → List (ℕ × ℕ)
+numbered t None = []
+numbered t (Some n) = (t, n) ∷ []
+
 abbrev pub ended_by : Option TaskView → List (ℕ × ℕ)
 ended_by None = []
 ended_by (Some j) = numbered j.task j.number
-  where
-    numbered : ℕ → Option ℕ → List (ℕ × ℕ)
-    numbered t None = []
-    numbered t (Some n) = (t, n) ∷ []
 
+-- a hand takes in what another seat knows of its finished task, and the tasks that it has opened
 abbrev pub joined_view : View → View → View
 joined_view v w = record v { opened = v.opened ++ w.opened; ran = v.ran ++ ended_by w.job }
