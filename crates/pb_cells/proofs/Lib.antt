@@ -7,3 +7,6 @@ pub mod FinishLemmas
 pub mod ReleaseLemmas
 pub mod SplitLemmas
 pub mod JoinLemmas
+pub mod BankLemmas
+pub mod OpeningLemmas
+pub mod RuleLemmas

@@ -106,7 +106,7 @@ module _ (p : Plan) (is : IsPlan p) (b : Bank) (views : List View) (y : Story) (
   }
 
   -- ---- what the seat knows
-  released : FitsTask p release_bank release_story id (after_release next j)
+  released : FitsTask p release_bank release_story id (after_release next (b.count next - 1) j)
   released = record {
     runs = fits.runs;
     only = fits.only;
@@ -159,7 +159,7 @@ module _ (p : Plan) (is : IsPlan p) (b : Bank) (views : List View) (y : Story) (
     once = once-push opened next own.opened.once (λ h. none-some (y.opener next) id unopened (own.opened.each next h));
   }
 
-  released-fits : Fits p release_bank release_story id (released_view (b.count next) j next (job_view j opened))
+  released-fits : Fits p release_bank release_story id (released_view (b.count next) next (job_view j opened))
   released-fits = ⊎_elim
       (λ (one : b.count next ≡ 1). record {
         job = released;
@@ -184,8 +184,8 @@ module _ (p : Plan) (is : IsPlan p) (b : Bank) (views : List View) (y : Story) (
           one zero z waits = absurd (waits refl)
           one (suc k) z waits = omega arith
 
-  pub release-keeps : IsStory p release_bank (set views id (released_view (b.count next) j next (job_view j opened))) release_story
-  release-keeps = seat-steps p b views y ok id (job_view j opened) at release_bank release_story (released_view (b.count next) j next (job_view j opened))
+  pub release-keeps : IsStory p release_bank (set views id (released_view (b.count next) next (job_view j opened))) release_story
+  release-keeps = seat-steps p b views y ok id (job_view j opened) at release_bank release_story (released_view (b.count next) next (job_view j opened))
       record {
         sound = keeps p is y.core ok.tells.sound (Release id j.task next) (some-of (y.core.number j.task) n (fits.number ∙ ended), fits.runs.0, after, owed);
         counts = λ t below. with-both b.count y.core.count next (b.count next - 1) left t (λ c d. c ≡ d) (λ same. ap (λ k. k - 1) count-is) (λ other. ok.tells.counts t below);

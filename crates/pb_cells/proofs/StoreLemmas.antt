@@ -12,7 +12,7 @@ use Rattle.pb_taskgraph.specs.Plans.{IsPlan, Plan, outcome_at}
 use Rattle.pb_core.specs.declared.event.Event.TheVariants.{Write}
 use Rattle.pb_core.specs.States.{State, happens, with}
 use Rattle.pb_core.proofs.KeepLemmas.{keeps}
-use Rattle.pb_core.proofs.WithLemmas.{some-stays, some-was, with-each, with-other, with-same}
+use Rattle.pb_core.proofs.WithLemmas.{none-of, not-none, some-stays, some-was, with-each, with-other, with-same}
 use Rattle.pb_cells.specs.declared.view.TaskView.{TaskView}
 use Rattle.pb_cells.specs.declared.view.View.{View}
 use Rattle.pb_cells.specs.Banks.{Bank}
@@ -101,12 +101,16 @@ module _ (p : Plan) (is : IsPlan p) (b : Bank) (views : List View) (y : Story) (
     right = λ d was. was;
   }
 
-  module _ (unfinished : j.number ≡ None) (stored : j.stored ≡ true) where
+  module _ (stored : j.stored ≡ true) where
     more : j.written < length (p.order j.task)
     more = (fits.stored stored).0
 
     below : j.task < length p.graph.tasks
     below = task-below p is b y ok.tells id j fits
+
+    -- a finished task has no next cell
+    unfinished : y.core.number j.task ≡ None
+    unfinished = none-of (y.core.number j.task) (λ there. not-none (y.core.value cell) (next-empty p is b y ok.tells id j fits more) (ok.tells.sound.written.whole j.task cell there (next-task p is b y ok.tells id j fits more)))
 
     mark-order : (t : ℕ) → t < length p.graph.tasks → AreFirst mark_story.core.value (mark_story.wrote t) (p.order t)
     mark-order t inside = with-each y.wrote j.task (j.written + 1) t (λ k. AreFirst mark_story.core.value k (p.order t))
@@ -144,7 +148,7 @@ module _ (p : Plan) (is : IsPlan p) (b : Bank) (views : List View) (y : Story) (
     mark-keeps = seat-steps p b views y ok id (job_view j opened) at mark_bank mark_story (job_view (after_mark j) opened)
         record {
           sound = keeps p is y.core ok.tells.sound (Write id cell)
-              (j.task, next-task p is b y ok.tells id j fits more, fits.runs.0, fits.number ∙ unfinished, next-empty p is b y ok.tells id j fits more);
+              (j.task, next-task p is b y ok.tells id j fits more, fits.runs.0, unfinished, next-empty p is b y ok.tells id j fits more);
           counts = ok.tells.counts;
           finish = ok.tells.finish;
           cells = λ d inside. with-both y.core.value b.mark cell (Some v) (mark_of v) d (λ o m. TellsCell o m (b.value d))

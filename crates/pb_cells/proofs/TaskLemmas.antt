@@ -116,3 +116,6 @@ module _ (p : Plan) (is : IsPlan p) (b : Bank) (y : Story) (tells : Tells p b y)
 
     pub read-word : (c : ℕ) → MayRead p j.task j.written c → (b.mark c ≡ mark_of (outcome_at p.solution c)) × (b.value c ≡ word_of (outcome_at p.solution c))
     read-word c may = written-word c (may-written c may)
+
+    pub read-below : (c : ℕ) → MayRead p j.task j.written c → c < p.graph.cells
+    read-below c may = tells.sound.written.cells c (may-written c may)

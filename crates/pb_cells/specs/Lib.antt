@@ -2,3 +2,5 @@ pub mod Words
 pub mod Banks
 pub mod Views
 pub mod Stories
+pub mod Steps
+pub mod Openings

@@ -1,5 +1,5 @@
 -- What seats know, and what a step adds to it.
-use Rattle.std.specs.Prelude.{ℕ, ◌+◌, ◌==◌, Bool, true, false, List, [], ◌∷◌, ◌++◌, length, filter, drop, Option, Some, None, if◌then◌else◌}
+use Rattle.std.specs.Prelude.{ℕ, ◌+◌, ◌-◌, ◌==◌, Bool, true, false, List, [], ◌∷◌, ◌++◌, length, filter, drop, Option, Some, None, if◌then◌else◌}
 use Rattle.std.specs.List.{range_with_len}
 use Rattle.pb_taskgraph.specs.Graphs.{before_of}
 use Rattle.pb_taskgraph.specs.Plans.{Plan}
@@ -8,7 +8,7 @@ use Rattle.pb_cells.specs.declared.view.View.{View}
 
 -- of a task nothing is done
 abbrev pub untouched : ℕ → TaskView
-untouched t = record { task = t; written = 0; stored = false; number = None; released = [] }
+untouched t = record { task = t; written = 0; stored = false; number = None; released = []; left = 0 }
 
 -- a Job's seat: its task, and the tasks that it has opened
 abbrev pub job_view : TaskView → List ℕ → View
@@ -44,16 +44,24 @@ after_mark j = record j { written = j.written + 1; stored = false }
 abbrev pub after_finish : ℕ → TaskView → TaskView
 after_finish n j = record j { number = Some n }
 
--- it has released a successor
-abbrev pub after_release : ℕ → TaskView → TaskView
-after_release next j = record j { released = next ∷ j.released }
+-- it has released a successor, which waits for so many releases more
+abbrev pub after_release : ℕ → ℕ → TaskView → TaskView
+after_release next left j = record j { released = next ∷ j.released; left = left }
+
+-- a seat whose task has gone on
+abbrev pub changed : (TaskView → TaskView) → Option TaskView → Option TaskView
+changed change None = None
+changed change (Some j) = Some (change j)
+
+abbrev pub with_task : (TaskView → TaskView) → View → View
+with_task change v = record v { job = changed change v.job }
 
 -- a successor whose count was found to be 1 is opened by its release, and its turn is held
 abbrev pub with_opened : ℕ → ℕ → List ℕ → List ℕ
 with_opened found next tasks = if found == 1 then tasks ++ next ∷ [] else tasks
 
-abbrev pub released_view : ℕ → TaskView → ℕ → View → View
-released_view found j next v = record v { job = Some (after_release next j); turns = with_opened found next v.turns; opened = with_opened found next v.opened }
+abbrev pub released_view : ℕ → ℕ → View → View
+released_view found next v = record v { job = changed (after_release next (found - 1)) v.job; turns = with_opened found next v.turns; opened = with_opened found next v.opened }
 
 -- the first turn goes to a new seat
 abbrev pub first_turn : List ℕ → ℕ

@@ -1,13 +1,15 @@
 use std::collections::LinkedList;
 
 /// What the seat of a Job knows of its task: how many cells it has written, whether it has stored the value of the next one,
-/// its finish number, and the successors that it has released. No value of it is made.
+/// its finish number, the successors that it has released, and what the last release has left of a count. No value of it is
+/// made.
 pub struct TaskView {
     pub task: u32,
     pub written: u64,
     pub stored: bool,
     pub number: Option<u64>,
     pub released: LinkedList<u32>,
+    pub left: u64,
 }
 
 /// What a seat at the table knows: the task that it runs; the turns that it holds besides, of tasks that nobody has begun; the

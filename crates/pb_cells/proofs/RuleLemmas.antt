@@ -1,0 +1,127 @@
+-- Each step on a word keeps the rule of the table, and tells what its seat knows then.
+use Rattle.std.proofs.Common.{◌≡◌, ◌∙◌, refl, sym, ap, subst, ℕ, ◌+◌, ◌-◌, ◌*◌, ◌%◌, ◌^◌, ◌<◌, ◌≤◌, ◌≢◌, true, false, List, [], ◌∷◌, ◌++◌, length, get_or, Option, Some, None, IsSome, set, arith}
+use Rattle.std.specs.List.{Contains}
+use Rattle.std.proofs.Math.ListN.{length-set}
+use Rattle.std.proofs.lemmas.List.{set-get_or}
+use mathlib.Core.Option.{Option as Maybe, none, some}
+use lib.ListN.{get_elem?}
+use Rattle.atomic_table.specs.Table as table
+use Rattle.atomic_table.specs.Table.{Allows, Joins, Splits, keeps, step}
+use Rattle.atomic_table.proofs.Lists.{set_again, set_else}
+use Rattle.pb_taskgraph.specs.Graphs.{after_of}
+use Rattle.pb_taskgraph.specs.Plans.{Plan, outcome_at}
+use Rattle.pb_core.specs.States.{with}
+use Rattle.pb_core.proofs.FinishLemmas.{finished-few}
+use Rattle.pb_cells.specs.declared.view.TaskView.{TaskView}
+use Rattle.pb_cells.specs.declared.view.View.{View}
+use Rattle.pb_cells.specs.Banks.{Bank, bank_of, count_at, finish_at, mark_at, value_at, width}
+use Rattle.pb_cells.specs.Stories.{Holds, IsStory, Story, is_listed, next_cell}
+use Rattle.pb_cells.specs.Steps.{CanRead, Finishes, Looks, Marks, Reads, Releases, Stores}
+use Rattle.pb_cells.specs.Views.{after_finish, after_mark, after_store, first_turn, hand_view, job_view, joined_view, no_view, released_view, turn_view, untouched, without_turn}
+use Rattle.pb_cells.specs.Words.{mark_of, word_of}
+use Rattle.pb_cells.proofs.BankLemmas.{get-count, get-finish, get-mark, get-value, set-count, set-finish, set-mark, set-value}
+use Rattle.pb_cells.proofs.FinishLemmas.{finish-keeps, finish_bank, finish_story}
+use Rattle.pb_cells.proofs.JoinLemmas.{join-keeps, join_story, look-keeps}
+use Rattle.pb_cells.proofs.ReleaseLemmas.{count-is, count-waits, release-keeps, release_bank, release_story}
+use Rattle.pb_cells.proofs.SplitLemmas.{hand-keeps, split_story, turn-keeps}
+use Rattle.pb_cells.proofs.StoreLemmas.{mark-keeps, mark_bank, mark_story, value-keeps, value_bank}
+use Rattle.pb_cells.proofs.TaskLemmas.{next-cell-below, read-below, read-word}
+
+abbrev Table : Type 0
+Table = table.State (Unit {0}) View
+
+-- a word is set, and a seat knows something else
+pub set-holds : (p : Plan) (s : Table) (holds : Holds p s) (i n : ℕ) (homes : List (Maybe (Unit {0}))) (views : List View) (c : Bank) (z : Story) → bank_of p.graph (set s.words i n) ≡ c → IsStory p c views z
+    → Holds p (record { words = set s.words i n; homes = homes; views = views })
+set-holds p s holds i n homes views c z e is = record {
+  plan = holds.plan;
+  width = length-set s.words i n ∙ holds.width;
+  story = z;
+  is = subst (λ b. IsStory p b views z) (sym e) is;
+}
+
+module _ (p : Plan) (slots id : ℕ) (j : TaskView) (opened : List ℕ) where
+  abbrev me : table.Me (Unit {0}) View
+  me = (job_view j opened, [])
+
+  -- ---- the stores of a cell
+  module _ (c : ℕ) (next : next_cell p j ≡ c) where
+    cell-below : (s : Table) (holds : Holds p s) → get_elem? s.views id ≡ some (job_view j opened) → j.written < length (p.order j.task) → c < p.graph.cells
+    cell-below s holds at more = subst (λ d. d < p.graph.cells) next
+        (next-cell-below p holds.plan (bank_of p.graph s.words) holds.story holds.is.tells id j (holds.is.fits id (job_view j opened) at).job more)
+
+    pub value-allows : (word : ℕ) → j.written < length (p.order j.task) → word ≡ word_of (outcome_at p.solution c)
+        → Allows (Holds p) slots id me (value_at p.graph c) (λ n. word) (λ n. Stores (step slots (value_at p.graph c) word 0 none) me word)
+    value-allows word more right s holds homes at small =
+        let b = bank_of p.graph s.words in
+        let below = cell-below s holds at more in
+        let same : word ≡ word_of (outcome_at p.solution (next_cell p j)) = right ∙ ap (λ d. word_of (outcome_at p.solution d)) (sym next) in (
+          job_view (after_store j) opened,
+          keeps,
+          tt,
+          set-holds p s holds (value_at p.graph c) word s.homes (set s.views id (job_view (after_store j) opened))
+              (record b { value = with b.value (next_cell p j) (word_of (outcome_at p.solution (next_cell p j))) }) holds.story
+              (set-value p.graph s.words holds.width c word below ∙ (λ i. record b { value = with b.value (sym next i) (same i) }))
+              (value-keeps p holds.plan b s.views holds.story holds.is id j opened at more),
+          refl,
+        )
+
+    pub mark-allows : (mark : ℕ) → j.stored ≡ true → mark ≡ mark_of (outcome_at p.solution c)
+        → Allows (Holds p) slots id me (mark_at p.graph c) (λ n. mark) (λ n. Marks (step slots (mark_at p.graph c) mark 0 none) me mark)
+    mark-allows mark stored right s holds homes at small =
+        let b = bank_of p.graph s.words in
+        let more : j.written < length (p.order j.task) = ((holds.is.fits id (job_view j opened) at).job.stored stored).0 in
+        let below = cell-below s holds at more in
+        let same : mark ≡ mark_of (outcome_at p.solution (next_cell p j)) = right ∙ ap (λ d. mark_of (outcome_at p.solution d)) (sym next) in (
+          job_view (after_mark j) opened,
+          keeps,
+          tt,
+          set-holds p s holds (mark_at p.graph c) mark s.homes (set s.views id (job_view (after_mark j) opened))
+              (record b { mark = with b.mark (next_cell p j) (mark_of (outcome_at p.solution (next_cell p j))) })
+              (mark_story p holds.plan b s.views holds.story holds.is id j opened at)
+              (set-mark p.graph s.words holds.width c mark below ∙ (λ i. record b { mark = with b.mark (sym next i) (same i) }))
+              (mark-keeps p holds.plan b s.views holds.story holds.is id j opened at stored),
+          refl,
+        )
+
+  -- ---- a load
+  pub read-allows : (word : ℕ) → Allows (Holds p) slots id me word (λ n. n) (Reads p (step slots word 0 0 none) me)
+  read-allows word s holds homes at small =
+      let b = bank_of p.graph s.words in
+      let told = read-word p holds.plan b holds.story holds.is.tells id j (holds.is.fits id (job_view j opened) at).job in
+      let cells = read-below p holds.plan b holds.story holds.is.tells id j (holds.is.fits id (job_view j opened) at).job in (
+        job_view j opened,
+        keeps,
+        tt,
+        record {
+          plan = holds.plan;
+          width = length-set s.words word (get_or s.words word 0) ∙ holds.width;
+          story = holds.story;
+          is = subst (λ (l : List ℕ). IsStory p (bank_of p.graph l) (set s.views id (job_view j opened)) holds.story) (sym (set-get_or s.words word 0))
+              (subst (λ (l : List View). IsStory p b l holds.story) (sym (set_again s.views id (job_view j opened) at)) holds.is);
+        },
+        (refl, λ c can. (
+          λ e. ap (λ i. get_or s.words i 0) e ∙ (get-mark p.graph s.words holds.width c (cells c can) ∙ (told c can).0),
+          λ e. ap (λ i. get_or s.words i 0) e ∙ (get-value p.graph s.words holds.width c (cells c can) ∙ (told c can).1),
+        )),
+      )
+
+  -- ---- the end of a task
+  pub finish-allows : j.number ≡ None → length (p.order j.task) ≤ j.written
+      → Allows (Holds p) slots id me (finish_at p.graph) (λ n. (n + 1) % 2 ^ 64) (Finishes (step slots (finish_at p.graph) 1 0 none) me)
+  finish-allows unfinished all s holds homes at small =
+      let b = bank_of p.graph s.words in
+      let few : b.finish < 262145 = let most = finished-few p holds.story.core holds.is.tells.sound in let limit = holds.plan.graph.few_tasks in omega (arith, holds.is.tells.finish) in
+      let found : get_or s.words (finish_at p.graph) 0 ≡ b.finish = get-finish p.graph s.words holds.width in
+      let next : (get_or s.words (finish_at p.graph) 0 + 1) % 2 ^ 64 ≡ b.finish + 1 = omega arith in (
+        job_view (after_finish (get_or s.words (finish_at p.graph) 0) j) opened,
+        keeps,
+        tt,
+        set-holds p s holds (finish_at p.graph) ((get_or s.words (finish_at p.graph) 0 + 1) % 2 ^ 64) s.homes (set s.views id (job_view (after_finish (get_or s.words (finish_at p.graph) 0) j) opened))
+            (record b { finish = b.finish + 1 })
+            (finish_story p holds.plan b s.views holds.story holds.is id j opened at)
+            (set-finish p.graph s.words holds.width ((get_or s.words (finish_at p.graph) 0 + 1) % 2 ^ 64) ∙ (λ i. record b { finish = next i }))
+            (subst (λ n. IsStory p (record b { finish = b.finish + 1 }) (set s.views id (job_view (after_finish n j) opened)) (finish_story p holds.plan b s.views holds.story holds.is id j opened at)) (sym found)
+            (finish-keeps p holds.plan b s.views holds.story holds.is id j opened at unfinished all)),
+        refl,
+      )

@@ -1,0 +1,47 @@
+-- What a step on a word of the table tells of its seat.
+use Rattle.std.specs.Prelude.{◌≡◌, ℕ, ◌<◌, ◌≤◌, length, Option, Some, None}
+use Rattle.atomic_table.specs.Table as table
+use Rattle.pb_taskgraph.specs.Plans.{Plan, outcome_at}
+use Rattle.pb_taskgraph.specs.Turns.{MayRead}
+use Rattle.pb_cells.specs.declared.view.TaskView.{TaskView}
+use Rattle.pb_cells.specs.declared.view.View.{View}
+use Rattle.pb_cells.specs.Banks.{count_at, mark_at, value_at}
+use Rattle.pb_cells.specs.Views.{after_finish, after_mark, after_store, released_view, with_task}
+use Rattle.pb_cells.specs.Words.{mark_of, word_of}
+
+-- a step on a word, and what a seat knows and holds
+abbrev pub Step : Type 0
+Step = table.Step (Unit {0})
+
+abbrev pub Me : Type 0
+Me = table.Me (Unit {0}) View
+
+-- the value of a cell is stored; the cell is written
+abbrev pub Stores : Step → Me → ℕ → Me → Type 0
+Stores s me n after = after ≡ (with_task after_store me.0, me.1)
+
+abbrev pub Marks : Step → Me → ℕ → Me → Type 0
+Marks s me n after = after ≡ (with_task after_mark me.0, me.1)
+
+-- the task is finished with the number that was found
+abbrev pub Finishes : Step → Me → ℕ → Me → Type 0
+Finishes s me n after = after ≡ (with_task (after_finish n) me.0, me.1)
+
+-- the finish count is seen
+abbrev pub Looks : Plan → Step → Me → ℕ → Me → Type 0
+Looks p s me n after = (n ≤ length p.graph.tasks) × (after ≡ (record me.0 { seen = n }, me.1))
+
+-- a successor is released, whose count was the number that was found
+abbrev pub Releases : Plan → Step → Me → ℕ → Me → Type 0
+Releases p s me n after = (next : ℕ) → s.word ≡ count_at p.graph next → (0 < n) × (after ≡ (released_view n next me.0, me.1))
+
+-- a seat's task may read a cell
+abbrev pub CanRead : Plan → Option TaskView → ℕ → Type 0
+CanRead p None c = ⊥
+CanRead p (Some j) c = MayRead p j.task j.written c
+
+-- a word of a cell that may be read is that of the solution
+abbrev pub Reads : Plan → Step → Me → ℕ → Me → Type 0
+Reads p s me n after =
+    (after ≡ me)
+    × ((c : ℕ) → CanRead p me.0.job c → (s.word ≡ mark_at p.graph c → n ≡ mark_of (outcome_at p.solution c)) × (s.word ≡ value_at p.graph c → n ≡ word_of (outcome_at p.solution c)))
