@@ -58,7 +58,7 @@ module _ (p : Plan) (is : IsPlan p) (b : Bank) (views : List View) (y : Story) (
   abbrev fits : FitsTask p b y id j
   fits = own.job
 
-  owed : y.core.released j.task next ≡ false
+  pub owed : y.core.released j.task next ≡ false
   owed = fits.released next ∙ fresh
 
   abbrev left : ℕ
