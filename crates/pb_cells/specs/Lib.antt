@@ -4,3 +4,4 @@ pub mod Views
 pub mod Stories
 pub mod Steps
 pub mod Openings
+pub mod Handles
