@@ -23,14 +23,14 @@ use Rattle.pb_cells.proofs.ReleaseLemmas.{once-push}
 use Rattle.pb_cells.proofs.SeatLemmas.{none-some, seat-inside, seat-joins, seat-steps, some-one}
 
 -- ---- whether a number is listed
-in-listed : (xs : List ℕ) (n : ℕ) → Contains xs n → is_listed xs n ≡ true
+pub in-listed : (xs : List ℕ) (n : ℕ) → Contains xs n → is_listed xs n ≡ true
 in-listed [] n h = absurd (in_none n h)
 in-listed (x ∷ xs) n h = elim (in_cases x n xs h) [
   | inl same ↦ grind (arith, nat_tests)
   | inr later ↦ let rest = in-listed xs n later in grind (arith, nat_tests)
 ]
 
-listed-in : (xs : List ℕ) (n : ℕ) → is_listed xs n ≡ true → Contains xs n
+pub listed-in : (xs : List ℕ) (n : ℕ) → is_listed xs n ≡ true → Contains xs n
 listed-in [] n e = let wrong : false ≡ true = e in absurd (cc)
 listed-in (x ∷ xs) n e = ⊎_elim
     (λ (same : n ≡ x). subst (Contains (x ∷ xs)) (sym same) (in_head x xs))

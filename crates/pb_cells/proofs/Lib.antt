@@ -10,3 +10,4 @@ pub mod JoinLemmas
 pub mod BankLemmas
 pub mod OpeningLemmas
 pub mod RuleLemmas
+pub mod CallLemmas

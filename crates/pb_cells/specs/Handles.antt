@@ -5,9 +5,9 @@ use Rattle.pb_values.specs.Cells.{Turn}
 use Rattle.pb_taskgraph.specs.Known.{known_turn}
 use Rattle.pb_taskgraph.specs.Plans.{IsPlan, Plan}
 use Rattle.pb_cells.specs.declared.view.TaskView.{TaskView}
-use Rattle.pb_cells.specs.declared.view.View.{View}
 use Rattle.pb_cells.specs.Banks.{width}
-use Rattle.pb_cells.specs.Views.{after_release, ended_by, untouched}
+use Rattle.pb_cells.specs.Steps.{Me}
+use Rattle.pb_cells.specs.Views.{after_release, ended_by, hand_view, job_view, untouched}
 
 -- a Job: its table, what it knows of its task, and the tasks that it has opened
 pub record JobValue : Type 0 where
@@ -38,6 +38,15 @@ new_hand table = record { table = table; opened = []; ran = []; seen = 0 }
 abbrev pub task_of : Option TaskView → TaskView
 task_of None = untouched 0
 task_of (Some j) = j
+
+-- a seat of a Job: it runs a task, and has no other turn
+pub record IsJob (p : Plan) (me : Me) : Type 0 where
+  pub me_is : me ≡ (job_view (task_of me.0.job) me.0.opened, [])
+  pub task : (task_of me.0.job).task < length p.graph.tasks
+
+-- a seat of a Hand: it runs no task, and has no turn
+abbrev pub IsHand : Me → Type 0
+IsHand me = me ≡ (hand_view me.0.opened me.0.ran me.0.seen, [])
 
 -- what a port tells of the task of a Job
 abbrev pub turn_at : Plan → TaskView → Turn

@@ -1,4 +1,4 @@
-ghost use Rattle.std.specs.Prelude.{◌≡◌, ◌+◌, ◌≤◌, ℕ, IsSome, None, Some, length, slice_get, false};
+ghost use Rattle.std.specs.Prelude.{◌≡◌, ◌+◌, ◌≤◌, ℕ, IsSome, None, Some, length, slice_get};
 ghost use Rattle.std.specs.List.{Contains};
 ghost use Rattle.pb_taskgraph.specs.Graphs.{after_of};
 ghost use Rattle.pb_taskgraph.specs.Plans.{outcome_at};
@@ -57,9 +57,10 @@ impl<N: NamesWork> Cells<N> {
         requires next { slice_get (turn_at N.plan job.old.at).left 0 ≡ Some (cell, v) }
         ensures { job.new ≡ record job.old { at = after_mark job.old.at } }
     {
+        let cells = self.cells;
         let (mark, word) = pack(v);
         self.table.shared.store::<StoreValue>(&mut job.seat, cell as usize, word);
-        self.table.shared.store::<StoreMark>(&mut job.seat, self.cells + cell as usize, mark);
+        self.table.shared.store::<StoreMark>(&mut job.seat, cells + cell as usize, mark);
     }
 
     /// Finishes the task, all cells of which are written, and draws its finish number.
@@ -92,7 +93,7 @@ impl<N: NamesWork> Cells<N> {
         if found != 1 {
             return None;
         }
-        Some(Job::of(self.table.shared.split_seat::<FirstTurn>(&mut job.seat)))
+        Some(Job::of(self.table.shared.split_seat::<FirstTurn>(&mut job.seat), next))
     }
 
     /// A Hand takes in a Job whose task is finished and has released all its successors.

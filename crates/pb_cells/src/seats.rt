@@ -11,15 +11,13 @@ pub struct Job<N: NamesWork> {
 }
 
 impl<N: NamesWork> Model for Job<N> {
-    ghost use Rattle.std.specs.Prelude.{◌≡◌, []};
-    ghost use Rattle.pb_cells.specs.Handles.{JobValue, task_of};
-    ghost use Rattle.pb_cells.specs.Views.{job_view};
+    ghost use Rattle.pb_cells.specs.Handles.{IsJob, JobValue, task_of};
 
     ghost Value = { JobValue };
 
     ghost view = { λ j. record { table = j.seat.table_id; at = task_of j.seat.me.0.job; opened = j.seat.me.0.opened } };
 
-    ghost invariant = { λ j. j.seat.me ≡ (job_view (task_of j.seat.me.0.job) j.seat.me.0.opened, []) };
+    ghost invariant = { λ j. IsJob N.plan j.seat.me };
 }
 
 /// What a worker knows of the tasks that it has run. It has no bytes.
@@ -30,29 +28,26 @@ pub struct Hand<N: NamesWork> {
 }
 
 impl<N: NamesWork> Model for Hand<N> {
-    ghost use Rattle.std.specs.Prelude.{◌≡◌, []};
-    ghost use Rattle.pb_cells.specs.Handles.{HandValue};
-    ghost use Rattle.pb_cells.specs.Views.{hand_view};
+    ghost use Rattle.pb_cells.specs.Handles.{HandValue, IsHand};
 
     ghost Value = { HandValue };
 
     ghost view = { λ h. record { table = h.seat.table_id; opened = h.seat.me.0.opened; ran = h.seat.me.0.ran; seen = h.seat.me.0.seen } };
 
-    ghost invariant = { λ h. h.seat.me ≡ (hand_view h.seat.me.0.opened h.seat.me.0.ran h.seat.me.0.seen, []) };
+    ghost invariant = { λ h. IsHand h.seat.me };
 }
 
 impl<N: NamesWork> Job<N> {
-    ghost use Rattle.std.specs.Prelude.{◌≡◌, []};
-    ghost use Rattle.pb_cells.specs.Handles.{JobValue};
-    ghost use Rattle.pb_cells.specs.declared.view.TaskView.{TaskView};
-    ghost use Rattle.std.specs.Prelude.{List, ℕ};
-    ghost use Rattle.pb_cells.specs.Views.{job_view};
+    ghost use Rattle.std.specs.Prelude.{◌≡◌, ◌<◌, []};
+    ghost use Rattle.std.specs.Prelude.{length};
+    ghost use Rattle.pb_cells.specs.Handles.{new_job};
+    ghost use Rattle.pb_cells.specs.Views.{job_view, untouched};
 
-    /// The Job of a seat.
-    pub(crate) fn of(seat: Seat<(), View>) -> Job<N>
-        requires { (at : TaskView) × (opened : List ℕ) × (seat.me ≡ (job_view at opened, [])) }
-        ensures table { result.table ≡ seat.table_id }
-        ensures me { seat.me ≡ (job_view result.at result.opened, []) }
+    /// The Job of a task of which nothing is done.
+    pub(crate) fn of(seat: Seat<(), View>, _task: u32) -> Job<N>
+        requires me { seat.me ≡ (job_view (untouched _task) [], []) }
+        requires task { _task < length N.plan.graph.tasks }
+        ensures { result ≡ new_job seat.table_id _task }
     {
         Job {
             seat,
@@ -70,9 +65,9 @@ impl<N: NamesWork> Job<N> {
 }
 
 impl<N: NamesWork> Hand<N> {
-    ghost use Rattle.std.specs.Prelude.{◌≡◌, ℕ, List, []};
-    ghost use Rattle.pb_cells.specs.Views.{hand_view, no_view};
+    ghost use Rattle.std.specs.Prelude.{◌≡◌, []};
     ghost use Rattle.pb_cells.specs.Handles.{new_hand};
+    ghost use Rattle.pb_cells.specs.Views.{no_view};
 
     /// The Hand of a seat that knows nothing.
     pub(crate) fn of(seat: Seat<(), View>) -> Hand<N>
