@@ -11,3 +11,4 @@ pub mod BankLemmas
 pub mod OpeningLemmas
 pub mod RuleLemmas
 pub mod CallLemmas
+pub mod FirstLemmas

@@ -20,7 +20,7 @@ use Rattle.pb_cells.specs.declared.view.View.{View}
 use Rattle.pb_cells.specs.Banks.{Bank, bank_of}
 use Rattle.pb_cells.specs.Openings.{IsFirst}
 use Rattle.pb_cells.specs.Stories.{Fits, FitsTurns, Holds, HoldsTurn, IsStory, Story, TellsCell, Tells}
-use Rattle.pb_cells.specs.Views.{first_view, open_tasks, turns_view}
+use Rattle.pb_cells.specs.Views.{first_view, ready_tasks, turns_view}
 use Rattle.pb_cells.specs.Words.{mark_of, word_of}
 use Rattle.pb_cells.proofs.SeatLemmas.{none-some}
 
@@ -35,16 +35,16 @@ module _ (p : Plan) where
   abbrev is_open : ℕ → Bool
   is_open t = eqb (length (before_of p.graph t)) 0
 
-  pub open-in : (t : ℕ) → Contains (open_tasks p) t → (t < length p.graph.tasks) × (length (before_of p.graph t) ≡ 0)
-  unfolding open_tasks
+  pub open-in : (t : ℕ) → Contains (ready_tasks p) t → (t < length p.graph.tasks) × (length (before_of p.graph t) ≡ 0)
+  unfolding ready_tasks
   open-in t h = let parts = filter_in is_open (range_with_len 0 (length p.graph.tasks)) t h in (range_in (length p.graph.tasks) t parts.0, eqb-true (length (before_of p.graph t)) 0 parts.1)
 
-  pub in-open : (t : ℕ) → t < length p.graph.tasks → length (before_of p.graph t) ≡ 0 → Contains (open_tasks p) t
-  unfolding open_tasks
+  pub in-open : (t : ℕ) → t < length p.graph.tasks → length (before_of p.graph t) ≡ 0 → Contains (ready_tasks p) t
+  unfolding ready_tasks
   in-open t below none = in_filter is_open (range_with_len 0 (length p.graph.tasks)) t (in_range (length p.graph.tasks) t below) (eq-eqb (length (before_of p.graph t)) 0 none)
 
-  pub open-once : EachOnce (open_tasks p)
-  unfolding open_tasks
+  pub open-once : EachOnce (ready_tasks p)
+  unfolding ready_tasks
   open-once = once-filter is_open (range_with_len 0 (length p.graph.tasks)) (range-once (length p.graph.tasks))
 
   abbrev pub first_story : Story
@@ -69,9 +69,9 @@ module _ (p : Plan) where
     first-cells : (c : ℕ) → c < p.graph.cells → TellsCell (first_story.core.value c) (b.mark c) (b.value c)
     first-cells c below = ⊎_elim
         (λ (input : c < p.graph.inputs). let is_input : true ≡ ltb c p.graph.inputs = grind (arith, nat_tests) in
-            subst (λ x. TellsCell (cond x (Some (outcome_at p.solution c)) None) (b.mark c) (b.value c)) is_input (first.cells.told c input))
+            subst (λ x. TellsCell (cond x (Some (outcome_at p.solution c)) None) (b.mark c) (b.value c)) is_input (first.told.cells.told c input))
         (λ (past : p.graph.inputs ≤ c). let is_other : false ≡ ltb c p.graph.inputs = grind (arith, nat_tests) in
-            subst (λ x. TellsCell (cond x (Some (outcome_at p.solution c)) None) (b.mark c) (b.value c)) is_other (first.cells.blank c past below))
+            subst (λ x. TellsCell (cond x (Some (outcome_at p.solution c)) None) (b.mark c) (b.value c)) is_other (first.told.cells.blank c past below))
         (cases_lt c p.graph.inputs)
 
     first-order : (t c : ℕ) → t < length p.graph.tasks → Contains (p.order t) c → IsSome (first_story.core.value c) → ⊥
@@ -101,13 +101,13 @@ module _ (p : Plan) where
     pub first-holds : Holds p (record { words = words; homes = []; views = first_view p ∷ [] })
     first-holds = record {
       plan = is;
-      width = first.width;
+      width = first.told.width;
       story = first_story;
       is = record {
         tells = record {
           sound = first-sound p is 1;
           counts = first.counts;
-          finish = first.finish;
+          finish = first.told.finish;
           cells = first-cells;
           order = λ t below c h. (λ there. absurd (first-order t c below h there), λ h. absurd (in_none c h));
           unbegun = λ t e. (refl, refl);

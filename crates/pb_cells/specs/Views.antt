@@ -23,8 +23,8 @@ abbrev pub no_view : View
 no_view = hand_view [] [] 0
 
 -- the tasks without predecessors, in order
-unfoldable pub open_tasks : Plan → List ℕ
-open_tasks p = filter (λ t. length (before_of p.graph t) == 0) (range_with_len 0 (length p.graph.tasks))
+unfoldable pub ready_tasks : Plan → List ℕ
+ready_tasks p = filter (λ t. length (before_of p.graph t) == 0) (range_with_len 0 (length p.graph.tasks))
 
 -- a seat that holds these turns and has done nothing
 abbrev pub turns_view : List ℕ → View
@@ -32,7 +32,7 @@ turns_view turns = record { job = None; turns = turns; opened = []; ran = []; se
 
 -- the first seat holds the turns of the tasks without predecessors
 unfoldable pub first_view : Plan → View
-first_view p = turns_view (open_tasks p)
+first_view p = turns_view (ready_tasks p)
 
 -- a task's next value is stored; its next cell is written; it is finished with this number
 abbrev pub after_store : TaskView → TaskView

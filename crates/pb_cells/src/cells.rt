@@ -1,10 +1,12 @@
-ghost use Rattle.std.specs.Prelude.{◌≡◌, ◌+◌, ◌≤◌, ℕ, IsSome, None, Some, length, slice_get};
+ghost use Rattle.std.specs.Prelude.{◌≡◌, ◌+◌, ◌≤◌, ℕ, IfOk, IsSome, None, Some, length, map, replicate, slice_get};
 ghost use Rattle.std.specs.List.{Contains};
 ghost use Rattle.pb_taskgraph.specs.Graphs.{after_of};
 ghost use Rattle.pb_taskgraph.specs.Plans.{outcome_at};
-ghost use Rattle.pb_cells.specs.Handles.{HasReleased, hand_with, turn_at};
-ghost use Rattle.pb_cells.specs.Views.{after_finish, after_mark};
+ghost use Rattle.pb_cells.specs.Handles.{HasReleased, hand_with, new_hand, new_job, turn_at};
+ghost use Rattle.pb_cells.specs.Views.{after_finish, after_mark, ready_tasks};
 
+use crate::deal::{deal_hands, deal_jobs};
+use crate::first::{first_words, ready_list};
 use crate::seats::{Hand, Job};
 use crate::steps::{
     AddFinish, CellsRule, FirstTurn, LoadCell, LoadFinish, StoreMark, StoreValue, TakeFromCount,
@@ -13,9 +15,9 @@ use crate::steps::{
 use crate::view::View;
 use crate::words::{pack, unpack};
 use atomic_table::Table;
-use pb_taskgraph::NamesWork;
+use pb_taskgraph::{NamesWork, Work};
 use pb_values::Outcome;
-use std::alloc::Global;
+use std::alloc::{AllocError, Global};
 use std::marker::Model;
 
 /// The cells of a work, the counts of its tasks and the number of finished ones, as words that threads change by single steps.
@@ -39,6 +41,31 @@ impl<N: NamesWork> Model for Cells<N> {
 }
 
 impl<N: NamesWork> Cells<N> {
+    /// The cells of a work before any step, so many Hands, and a Job for each task without predecessors, in order. All are of
+    /// one table.
+    pub fn new<W: Work>(
+        alloc: Global,
+        work: &W,
+        hands: u32,
+    ) -> Result<(Cells<N>, Vec<Hand<N>>, Vec<Job<N>>), AllocError>
+        requires name { W.plan work.now ≡ N.plan }
+        ensures hands { IfOk result (λ r. r.1.items ≡ replicate hands (new_hand r.0)) }
+        ensures jobs { IfOk result (λ r. r.2.items ≡ map (new_job r.0) (ready_tasks N.plan)) }
+    {
+        let words = first_words(alloc, work)?;
+        let ready = ready_list(alloc, work)?;
+        let (table, mut first) = Table::of_words(alloc, &words, &())?;
+        let graph = work.graph();
+        let cells = Cells {
+            table,
+            cells: graph.cells() as usize,
+            tasks: graph.tasks().len(),
+        };
+        let jobs = deal_jobs(alloc, &cells, &mut first, &ready)?;
+        let dealt = deal_hands(alloc, &cells, &mut first, hands)?;
+        Ok((cells, dealt, jobs))
+    }
+
     /// The outcome of a cell that the task may read by now.
     pub fn read(&self, job: &mut Job<N>, cell: u64) -> Outcome
         requires table { job.old.table ≡ self.now }

@@ -2,6 +2,8 @@
 #![tactic(auto)]
 
 mod cells;
+mod deal;
+mod first;
 mod laws;
 mod names;
 mod seats;
