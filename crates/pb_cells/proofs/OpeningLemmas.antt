@@ -20,6 +20,7 @@ use Rattle.pb_cells.specs.declared.view.View.{View}
 use Rattle.pb_cells.specs.Banks.{Bank, bank_of}
 use Rattle.pb_cells.specs.Openings.{IsFirst}
 use Rattle.pb_cells.specs.Stories.{Fits, FitsTurns, Holds, HoldsTurn, IsStory, Story, TellsCell, Tells}
+use Rattle.pb_cells.specs.Steps.{Me}
 use Rattle.pb_cells.specs.Views.{first_view, ready_tasks, turns_view}
 use Rattle.pb_cells.specs.Words.{mark_of, word_of}
 use Rattle.pb_cells.proofs.SeatLemmas.{none-some}
@@ -122,3 +123,15 @@ module _ (p : Plan) where
         fits = λ id v e. let there = only-seat id (first_view p) v e in subst (λ k. Fits p b first_story k v) (sym there.0) (subst (Fits p b first_story 0) there.1 first-fits);
       };
     }
+
+-- ---- what is asked where a table is made
+pub opening-asks : (p q : Plan) → p ≡ q → IsPlan p → (words given : List ℕ) → given ≡ words → IsFirst p words → Holds q (record { words = given; homes = []; views = first_view q ∷ [] })
+opening-asks p q name is words given same first = subst (λ (r : Plan). Holds r (record { words = given; homes = []; views = first_view r ∷ [] })) name
+    (subst (λ (l : List ℕ). Holds p (record { words = l; homes = []; views = first_view p ∷ [] })) (sym same) (first-holds p is words first))
+
+pub turns-asks : (p q : Plan) → p ≡ q → (me : Me) → me ≡ (first_view q, []) → (ready given : List ℕ) → given ≡ ready → ready ≡ ready_tasks p → me ≡ (turns_view given, [])
+unfolding first_view
+turns-asks p q name me first ready given same all = first ∙ (λ i. (turns_view (sym (same ∙ (all ∙ ap ready_tasks name)) i), []))
+
+pub tasks-asks : (p q : Plan) → p ≡ q → (ready given : List ℕ) → given ≡ ready → ready ≡ ready_tasks p → (t : ℕ) → Contains given t → t < length q.graph.tasks
+tasks-asks p q name ready given same all t h = (open-in q t (subst (λ (l : List ℕ). Contains l t) (same ∙ (all ∙ ap ready_tasks name)) h)).0

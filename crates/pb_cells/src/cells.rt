@@ -52,10 +52,10 @@ impl<N: NamesWork> Cells<N> {
         ensures hands { IfOk result (λ r. r.1.items ≡ replicate hands (new_hand r.0)) }
         ensures jobs { IfOk result (λ r. r.2.items ≡ map (new_job r.0) (ready_tasks N.plan)) }
     {
+        let graph = work.graph();
         let words = first_words(alloc, work)?;
         let ready = ready_list(alloc, work)?;
         let (table, mut first) = Table::of_words(alloc, &words, &())?;
-        let graph = work.graph();
         let cells = Cells {
             table,
             cells: graph.cells() as usize,
