@@ -12,3 +12,4 @@ pub mod OpeningLemmas
 pub mod RuleLemmas
 pub mod CallLemmas
 pub mod FirstLemmas
+pub mod ShownLemmas

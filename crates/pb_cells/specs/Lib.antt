@@ -5,3 +5,4 @@ pub mod Stories
 pub mod Steps
 pub mod Openings
 pub mod Handles
+pub mod Shown
