@@ -1,6 +1,5 @@
 -- The words of a table by what they are, where one is set.
-use Rattle.std.proofs.Common.{◌≡◌, ◌∙◌, refl, sym, ap, subst, inl, inr, ⊎_elim, ℕ, zero, suc, ◌+◌, ◌<◌, ◌≤◌, ltb, Bool, true, false, List, [], ◌∷◌, length, get_or, set, zero-add, arith}
-use Rattle.std.proofs.Math.Bool.{cond}
+use Rattle.std.proofs.Common.{◌≡◌, ◌∙◌, refl, sym, ap, subst, ⊎_elim, ℕ, ◌+◌, ◌<◌, ◌≤◌, List, length, get_or, set, zero-add, arith}
 use Rattle.std.proofs.Math.Path.{fun_ext}
 use Rattle.std.proofs.lemmas.Bool.{cases_eq, cases_lt}
 use Rattle.std.proofs.lemmas.Bool.Decides.{nat_tests}
@@ -23,11 +22,11 @@ module _ (first size : ℕ) (words : List ℕ) (n : ℕ) where
   hit : (k : ℕ) → k < size → first + k < length words → stretch first size (set words (first + k) n) ≡ with (stretch first size words) k n
   hit k below there = fun_ext (λ d. ⊎_elim
       (λ (same : d ≡ k). subst (λ e. stretch first size (set words (first + k) n) e ≡ with (stretch first size words) k n e) (sym same)
-          (inside first size (set words (first + k) n) k below ∙ (get_or-set_same words (first + k) n 0 there ∙ sym (with-same (stretch first size words) k n k refl))))
+      (inside first size (set words (first + k) n) k below ∙ (get_or-set_same words (first + k) n 0 there ∙ sym (with-same (stretch first size words) k n k refl))))
       (λ (other : d ≡ k → ⊥). ⊎_elim
-          (λ (low : d < size). inside first size (set words (first + k) n) d low ∙ (get_or-set_other words (first + k) (first + d) n 0 (λ e. other (omega arith)) ∙ (sym (inside first size words d low) ∙ sym (with-other (stretch first size words) k n d other))))
-          (λ (high : size ≤ d). past first size (set words (first + k) n) d high ∙ (sym (past first size words d high) ∙ sym (with-other (stretch first size words) k n d other)))
-          (cases_lt d size))
+      (λ (low : d < size). inside first size (set words (first + k) n) d low ∙ (get_or-set_other words (first + k) (first + d) n 0 (λ e. other (omega arith)) ∙ (sym (inside first size words d low) ∙ sym (with-other (stretch first size words) k n d other))))
+      (λ (high : size ≤ d). past first size (set words (first + k) n) d high ∙ (sym (past first size words d high) ∙ sym (with-other (stretch first size words) k n d other)))
+      (cases_lt d size))
       (cases_eq d k))
 
   miss : (i : ℕ) → ((d : ℕ) → d < size → i ≡ first + d → ⊥) → stretch first size (set words i n) ≡ stretch first size words

@@ -1,5 +1,5 @@
 -- What the calls of a table ask of its steps.
-use Rattle.std.proofs.Common.{◌≡◌, ◌∙◌, refl, sym, ap, subst, inl, inr, ⊎_elim, ℕ, ◌+◌, ◌-◌, ◌%◌, ◌^◌, ◌<◌, ◌≤◌, Bool, true, false, List, [], ◌∷◌, length, take, drop, get_or, pos, Option, Some, None, IsSome, slice_get, w64, Fits, arith}
+use Rattle.std.proofs.Common.{◌≡◌, ◌∙◌, refl, sym, ap, subst, inl, inr, ⊎_elim, ℕ, ◌+◌, ◌-◌, ◌%◌, ◌^◌, ◌<◌, ◌≤◌, List, [], length, get_or, pos, Some, None, IsSome, slice_get, arith}
 use Rattle.std.specs.List.{Contains}
 use Rattle.std.proofs.lemmas.Bool.{cases_lt}
 use Rattle.std.proofs.lemmas.List.{get_or-take, get_or_past, length-take}
@@ -10,7 +10,7 @@ use Rattle.atomic_table.specs.Seated.{TableId}
 use Rattle.pb_base.proofs.ListLemmas.{in_none}
 use Rattle.pb_values.specs.declared.outcome.Outcome.{Outcome}
 use Rattle.pb_values.specs.declared.outcome.Outcome.TheVariants.{Value}
-use Rattle.pb_taskgraph.specs.Graphs.{GraphValue, after_of, before_of}
+use Rattle.pb_taskgraph.specs.Graphs.{after_of}
 use Rattle.pb_taskgraph.specs.Plans.{IsPlan, IsSmall, Plan, outcome_at}
 use Rattle.pb_taskgraph.specs.Turns.{MayRead}
 use Rattle.pb_taskgraph.proofs.GraphLemmas.{before-past}
@@ -19,7 +19,7 @@ use Rattle.pb_taskgraph.proofs.PlanLemmas.{own-below}
 use Rattle.pb_core.proofs.ListedLemmas.{not-true}
 use Rattle.pb_core.proofs.WithLemmas.{of-some}
 use Rattle.pb_cells.specs.declared.view.TaskView.{TaskView}
-use Rattle.pb_cells.specs.Banks.{count_at, finish_at, mark_at, value_at, width}
+use Rattle.pb_cells.specs.Banks.{count_at, finish_at, mark_at}
 use Rattle.pb_cells.specs.Handles.{IsHand, IsJob, IsTable, JobValue, task_of, turn_at}
 use Rattle.pb_cells.specs.Steps.{CanRead, Finishes, Looks, Marks, Me, Reads, Releases, Stores}
 use Rattle.pb_cells.specs.Stories.{Holds, is_listed}

@@ -1,10 +1,10 @@
 -- What other seats know still fits after a step.
-use Rattle.std.proofs.Common.{◌≡◌, ◌∙◌, sym, ap, ℕ, ◌≤◌, true, Option, Some, None, arith}
+use Rattle.std.proofs.Common.{◌≡◌, ◌∙◌, sym, ℕ, ◌≤◌, Option, Some, None, arith}
 use Rattle.pb_taskgraph.specs.Plans.{Plan, outcome_at}
 use Rattle.pb_cells.specs.declared.view.TaskView.{TaskView}
 use Rattle.pb_cells.specs.declared.view.View.{View}
 use Rattle.pb_cells.specs.Banks.{Bank}
-use Rattle.pb_cells.specs.Stories.{Fits, FitsJob, FitsOpened, FitsRan, FitsTask, FitsTurns, HoldsTurn, IsStored, Runs, Story}
+use Rattle.pb_cells.specs.Stories.{Fits, FitsJob, FitsOpened, FitsRan, FitsTask, FitsTurns, HoldsTurn, Runs, Story}
 use Rattle.pb_cells.specs.Words.{word_of}
 
 -- for a seat, two stories say the same of the task that it runs, and a value word that was right is right

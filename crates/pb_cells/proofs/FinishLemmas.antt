@@ -1,16 +1,16 @@
 -- A seat finishes its task.
-use Rattle.std.proofs.Common.{◌≡◌, ◌∙◌, refl, sym, ap, subst, inl, inr, ⊎_elim, ℕ, ◌+◌, ◌<◌, ◌≤◌, true, false, List, length, Option, Some, None, IsSome, set, arith}
+use Rattle.std.proofs.Common.{◌≡◌, ◌∙◌, refl, sym, ap, ℕ, ◌+◌, ◌≤◌, List, length, Some, None, set, arith}
 use mathlib.Core.Option.{some}
 use lib.ListN.{get_elem?}
 use Rattle.pb_taskgraph.specs.Plans.{IsPlan, Plan}
 use Rattle.pb_core.specs.declared.event.Event.TheVariants.{Finish}
-use Rattle.pb_core.specs.States.{happens, with}
+use Rattle.pb_core.specs.States.{happens}
 use Rattle.pb_core.proofs.KeepLemmas.{keeps}
 use Rattle.pb_core.proofs.WithLemmas.{some-stays, with-other, with-same}
 use Rattle.pb_cells.specs.declared.view.TaskView.{TaskView}
 use Rattle.pb_cells.specs.declared.view.View.{View}
 use Rattle.pb_cells.specs.Banks.{Bank}
-use Rattle.pb_cells.specs.Stories.{Fits, FitsTask, IsStory, Story}
+use Rattle.pb_cells.specs.Stories.{FitsTask, IsStory, Story}
 use Rattle.pb_cells.specs.Views.{after_finish, job_view}
 use Rattle.pb_cells.proofs.CarryLemmas.{SameRest, SameTask, next-fits, same-fits}
 use Rattle.pb_cells.proofs.SeatLemmas.{none-some, seat-steps, some-one}

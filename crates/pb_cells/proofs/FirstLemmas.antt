@@ -1,19 +1,18 @@
 -- The words of a table before any step, and what is dealt.
-use Rattle.std.proofs.Common.{◌≡◌, ◌∙◌, refl, sym, ap, subst, inl, inr, ⊎_elim, ℕ, zero, suc, ◌+◌, ◌<◌, ◌≤◌, eqb, Bool, true, false, List, [], ◌∷◌, ◌++◌, length, map, take, drop, get_or, replicate, set, zero-add, arith}
+use Rattle.std.proofs.Common.{◌≡◌, ◌∙◌, refl, sym, ap, subst, ℕ, zero, suc, ◌+◌, ◌<◌, eqb, Bool, true, false, List, [], ◌∷◌, ◌++◌, length, get_or, replicate, set, zero-add, arith}
 use Rattle.std.specs.Prelude.{filter}
-use Rattle.std.specs.List.{Contains, range_with_len}
+use Rattle.std.specs.List.{range_with_len}
 use Rattle.std.proofs.Math.Bool.{cond}
 use Rattle.std.proofs.Math.ListN.{length-set}
-use Rattle.std.proofs.lemmas.Bool.Decides.{nat_tests}
 use Rattle.std.proofs.lemmas.List.{append-nil, length-replicate}
 use Rattle.std.proofs.lemmas.List.Elements.{filter-append}
-use Rattle.pb_taskgraph.specs.Graphs.{GraphValue, TaskValue, before_of}
+use Rattle.pb_taskgraph.specs.Graphs.{TaskValue, before_of}
 use Rattle.pb_taskgraph.specs.Plans.{IsPlan, Plan, outcome_at}
 use Rattle.pb_taskgraph.proofs.GraphLemmas.{before-at}
 use Rattle.pb_core.specs.States.{with}
 use Rattle.pb_core.proofs.WithLemmas.{with-each}
-use Rattle.pb_cells.specs.Banks.{Bank, bank_of, count_at, finish_at, mark_at, stretch, width}
-use Rattle.pb_cells.specs.Openings.{AreCells, AreCounts, AreTold, IsFirst}
+use Rattle.pb_cells.specs.Banks.{Bank, bank_of, count_at, finish_at, mark_at, width}
+use Rattle.pb_cells.specs.Openings.{AreCells, AreCounts, AreTold}
 use Rattle.pb_cells.specs.Views.{ready_tasks}
 use Rattle.pb_cells.specs.Words.{mark_of, word_of}
 use Rattle.pb_cells.proofs.BankLemmas.{get-mark, get-finish, set-count, set-mark, set-value}

@@ -1,22 +1,22 @@
 -- A hand looks at the finish count, and takes in a Job.
-use Rattle.std.proofs.Common.{◌≡◌, ◌∙◌, refl, sym, ap, subst, inl, inr, ◌⊎◌, ⊎_elim, ℕ, zero, suc, ◌+◌, ◌<◌, ◌≤◌, eqb, Bool, true, false, List, [], ◌∷◌, ◌++◌, length, map, Option, Some, None, IsSome, set, arith}
+use Rattle.std.proofs.Common.{◌≡◌, ◌∙◌, refl, sym, ap, subst, inl, inr, ◌⊎◌, ⊎_elim, ℕ, ◌<◌, Bool, true, false, List, [], ◌∷◌, ◌++◌, length, map, Some, None, IsSome, set, arith}
 use Rattle.std.specs.List.{Contains}
 use Rattle.std.proofs.Math.Bool.{cond}
 use Rattle.std.proofs.lemmas.Bool.{cases_eq}
 use Rattle.std.proofs.lemmas.Bool.Decides.{nat_tests}
-use Rattle.std.proofs.lemmas.List.Elements.{Contains-append_cases, Contains-append_left, Contains-append_right, Contains-push, Contains-push_cases}
+use Rattle.std.proofs.lemmas.List.Elements.{Contains-append_cases, Contains-append_left, Contains-push, Contains-push_cases}
 use mathlib.Core.Option.{some}
 use lib.ListN.{get_elem?}
 use Rattle.pb_base.proofs.ListLemmas.{in_cases, in_head, in_none, in_tail, map_in}
 use Rattle.pb_taskgraph.specs.Graphs.{EachOnce, after_of}
 use Rattle.pb_taskgraph.specs.Plans.{IsPlan, Plan}
-use Rattle.pb_core.specs.States.{State, with}
+use Rattle.pb_core.specs.States.{with}
 use Rattle.pb_core.proofs.CountLemmas.{once-head, once-rest, one-more}
 use Rattle.pb_core.proofs.WithLemmas.{some-of, with-each, with-other, with-same}
 use Rattle.pb_cells.specs.declared.view.TaskView.{TaskView}
 use Rattle.pb_cells.specs.declared.view.View.{View}
 use Rattle.pb_cells.specs.Banks.{Bank}
-use Rattle.pb_cells.specs.Stories.{Fits, FitsOpened, FitsRan, FitsTask, IsStory, Runs, Story, is_listed}
+use Rattle.pb_cells.specs.Stories.{Fits, FitsOpened, FitsRan, FitsTask, IsStory, Story, is_listed}
 use Rattle.pb_cells.specs.Views.{hand_view, job_view, joined_view, no_view, numbered}
 use Rattle.pb_cells.proofs.CarryLemmas.{SameRest, SameTask, same-fits}
 use Rattle.pb_cells.proofs.ReleaseLemmas.{once-push}

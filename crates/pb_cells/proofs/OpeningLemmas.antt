@@ -1,5 +1,5 @@
 -- The first words and the first seat meet the rule.
-use Rattle.std.proofs.Common.{◌≡◌, ◌∙◌, refl, sym, ap, subst, inl, inr, ⊎_elim, ℕ, zero, suc, ◌+◌, ◌%◌, ◌<◌, ◌≤◌, ◌&&◌, eqb, ltb, Bool, true, false, List, [], ◌∷◌, length, get_or, Option, Some, None, IsSome, arith}
+use Rattle.std.proofs.Common.{◌≡◌, ◌∙◌, refl, sym, ap, subst, ⊎_elim, ℕ, zero, suc, ◌%◌, ◌<◌, ◌≤◌, ◌&&◌, eqb, ltb, Bool, true, false, List, [], ◌∷◌, length, get_or, Some, None, IsSome, arith}
 use Rattle.std.specs.List.{Contains, range_with_len}
 use Rattle.std.proofs.Math.Bool.{cond}
 use Rattle.std.proofs.lemmas.Bool.{and_parts, cases_lt, eq-eqb, eqb-true}
@@ -9,20 +9,18 @@ use Rattle.std.proofs.lemmas.Option.{cond_some}
 use mathlib.Core.Option.{some, some-injective, some-ne-none}
 use lib.ListN.{get_elem?}
 use Rattle.pb_base.proofs.ListLemmas.{filter_in, in_filter, in_none, in_range, range_in}
-use Rattle.pb_values.specs.declared.outcome.Outcome.{Outcome}
 use Rattle.pb_taskgraph.specs.Graphs.{EachOnce, before_of}
 use Rattle.pb_taskgraph.specs.Plans.{IsPlan, Plan, outcome_at}
 use Rattle.pb_core.specs.States.{first_state}
 use Rattle.pb_core.proofs.CountLemmas.{once-filter}
 use Rattle.pb_core.proofs.FirstLemmas.{first-sound}
-use Rattle.pb_core.proofs.WithLemmas.{not-none, some-of}
+use Rattle.pb_core.proofs.WithLemmas.{not-none}
 use Rattle.pb_cells.specs.declared.view.View.{View}
 use Rattle.pb_cells.specs.Banks.{Bank, bank_of}
 use Rattle.pb_cells.specs.Openings.{IsFirst}
-use Rattle.pb_cells.specs.Stories.{Fits, FitsTurns, Holds, HoldsTurn, IsStory, Story, TellsCell, Tells}
+use Rattle.pb_cells.specs.Stories.{Fits, Holds, Story, TellsCell}
 use Rattle.pb_cells.specs.Steps.{Me}
 use Rattle.pb_cells.specs.Views.{first_view, ready_tasks, turns_view}
-use Rattle.pb_cells.specs.Words.{mark_of, word_of}
 use Rattle.pb_cells.proofs.SeatLemmas.{none-some}
 
 range-once : (n : ℕ) → EachOnce (range_with_len 0 n)
@@ -70,9 +68,9 @@ module _ (p : Plan) where
     first-cells : (c : ℕ) → c < p.graph.cells → TellsCell (first_story.core.value c) (b.mark c) (b.value c)
     first-cells c below = ⊎_elim
         (λ (input : c < p.graph.inputs). let is_input : true ≡ ltb c p.graph.inputs = grind (arith, nat_tests) in
-            subst (λ x. TellsCell (cond x (Some (outcome_at p.solution c)) None) (b.mark c) (b.value c)) is_input (first.told.cells.told c input))
+        subst (λ x. TellsCell (cond x (Some (outcome_at p.solution c)) None) (b.mark c) (b.value c)) is_input (first.told.cells.told c input))
         (λ (past : p.graph.inputs ≤ c). let is_other : false ≡ ltb c p.graph.inputs = grind (arith, nat_tests) in
-            subst (λ x. TellsCell (cond x (Some (outcome_at p.solution c)) None) (b.mark c) (b.value c)) is_other (first.told.cells.blank c past below))
+        subst (λ x. TellsCell (cond x (Some (outcome_at p.solution c)) None) (b.mark c) (b.value c)) is_other (first.told.cells.blank c past below))
         (cases_lt c p.graph.inputs)
 
     first-order : (t c : ℕ) → t < length p.graph.tasks → Contains (p.order t) c → IsSome (first_story.core.value c) → ⊥

@@ -1,10 +1,10 @@
 -- A seat releases a successor of its finished task.
-use Rattle.std.proofs.Common.{◌≡◌, ◌∙◌, refl, sym, ap, subst, inl, inr, ◌⊎◌, ⊎_elim, ℕ, zero, suc, ◌+◌, ◌-◌, ◌<◌, ◌≤◌, eqb, Bool, true, false, List, [], ◌∷◌, ◌++◌, length, Option, Some, None, IsSome, set, arith}
+use Rattle.std.proofs.Common.{◌≡◌, ◌∙◌, refl, sym, ap, subst, inl, inr, ⊎_elim, ℕ, zero, suc, ◌-◌, ◌<◌, eqb, Bool, true, false, List, [], ◌∷◌, ◌++◌, length, Option, Some, None, set, arith}
 use Rattle.std.specs.List.{Contains}
 use Rattle.std.proofs.Math.Bool.{cond}
 use Rattle.std.proofs.lemmas.Bool.{cases_eq}
 use Rattle.std.proofs.lemmas.Bool.Decides.{nat_tests}
-use Rattle.std.proofs.lemmas.List.Elements.{Contains-append_left, Contains-push, Contains-push_cases}
+use Rattle.std.proofs.lemmas.List.Elements.{Contains-push_cases}
 use mathlib.Core.Option.{some}
 use lib.ListN.{get_elem?}
 use Rattle.pb_base.proofs.ListLemmas.{in_cases, in_head, in_none, in_tail}
@@ -20,7 +20,7 @@ use Rattle.pb_cells.specs.declared.view.View.{View}
 use Rattle.pb_cells.specs.Banks.{Bank}
 use Rattle.pb_cells.specs.Stories.{Fits, FitsOpened, FitsTask, FitsTurns, HoldsTurn, IsStory, Story, is_listed}
 use Rattle.pb_cells.specs.Views.{after_release, job_view, released_view, with_opened}
-use Rattle.pb_cells.proofs.CarryLemmas.{SameRest, SameTask, same-fits, same-ran}
+use Rattle.pb_cells.proofs.CarryLemmas.{SameRest, SameTask, same-fits}
 use Rattle.pb_cells.proofs.SeatLemmas.{none-some, seat-inside, seat-steps, some-one, with-both}
 use Rattle.pb_cells.proofs.TaskLemmas.{before-next, next-below, next-free, next-unbegun, next-unopened, next-waits}
 
@@ -85,9 +85,12 @@ module _ (p : Plan) (is : IsPlan p) (b : Bank) (views : List View) (y : Story) (
   release-rest : (o : ℕ) → (o ≡ id → ⊥) → SameRest b release_bank y release_story o
   release-rest o apart = record {
     holds = λ t h. (with-other y.core.holder next (holder_at left id (y.core.holder next)) t (λ same. none-some (y.core.holder t) o (ap y.core.holder same ∙ free) h.0) ∙ h.0, h.1);
-    held = λ t h. (with-each y.core.holder next (holder_at left id (y.core.holder next)) t (λ a. a ≡ Some o → y.core.holder t ≡ Some o)
-        (λ same e. absurd (apart (at-seat left id o (y.core.holder next) free e).1))
-        (λ other e. e) h.0, h.1);
+    held = λ t h. (
+      with-each y.core.holder next (holder_at left id (y.core.holder next)) t (λ a. a ≡ Some o → y.core.holder t ≡ Some o)
+          (λ same e. absurd (apart (at-seat left id o (y.core.holder next) free e).1))
+          (λ other e. e) h.0,
+      h.1,
+    );
     opened = λ t h. with-other y.opener next (holder_at left id (y.opener next)) t (λ same. none-some (y.opener t) o (ap y.opener same ∙ unopened) h) ∙ h;
     takes = λ t h. h;
     taken = λ t h. h;
@@ -196,9 +199,12 @@ module _ (p : Plan) (is : IsPlan p) (b : Bank) (views : List View) (y : Story) (
         opened = λ t o. with-both y.opener y.core.count next (holder_at left id (y.opener next)) left t (λ a c. a ≡ Some o → (c ≡ 0) × (0 < length (before_of p.graph t)))
             (λ same e. ((at-seat left id o (y.opener next) unopened e).0, subst (λ u. 0 < length (before_of p.graph u)) (sym same) some-before))
             (λ other. ok.tells.opened t o);
-        taken = λ t o h. let was = ok.tells.taken t o h in (was.0, λ u there. with-each y.core.released j.task (with (y.core.released j.task) next true) t (λ row. row u ≡ true)
-            (λ same. with-each (y.core.released j.task) next true u (λ x. x ≡ true) (λ here. refl) (λ other. subst (λ k. y.core.released k u ≡ true) same (was.1 u there)))
-            (λ other. was.1 u there));
+        taken = λ t o h. let was = ok.tells.taken t o h in (
+          was.0,
+          λ u there. with-each y.core.released j.task (with (y.core.released j.task) next true) t (λ row. row u ≡ true)
+              (λ same. with-each (y.core.released j.task) next true u (λ x. x ≡ true) (λ here. refl) (λ other. subst (λ k. y.core.released k u ≡ true) same (was.1 u there)))
+              (λ other. was.1 u there),
+        );
       }
       record {
         holders = λ t i. with-each y.core.holder next (holder_at left id (y.core.holder next)) t (λ a. a ≡ Some i → i < length views)

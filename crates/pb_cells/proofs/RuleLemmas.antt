@@ -1,5 +1,5 @@
 -- Each step on a word keeps the rule of the table, and tells what its seat knows then.
-use Rattle.std.proofs.Common.{◌≡◌, ◌∙◌, refl, sym, ap, subst, ℕ, ◌+◌, ◌-◌, ◌*◌, ◌%◌, ◌^◌, ◌<◌, ◌≤◌, ◌≢◌, true, false, List, [], ◌∷◌, ◌++◌, length, drop, get_or, Option, Some, None, IsSome, set, arith}
+use Rattle.std.proofs.Common.{◌≡◌, ◌∙◌, refl, sym, ap, subst, ℕ, ◌+◌, ◌-◌, ◌%◌, ◌^◌, ◌<◌, ◌≤◌, true, false, List, [], ◌∷◌, ◌++◌, length, drop, get_or, Some, None, set, arith}
 use Rattle.std.specs.List.{Contains}
 use Rattle.std.proofs.Math.ListN.{length-set}
 use Rattle.std.proofs.lemmas.List.{set-get_or}
@@ -14,17 +14,17 @@ use Rattle.pb_core.specs.States.{with}
 use Rattle.pb_core.proofs.FinishLemmas.{finished-few}
 use Rattle.pb_cells.specs.declared.view.TaskView.{TaskView}
 use Rattle.pb_cells.specs.declared.view.View.{View}
-use Rattle.pb_cells.specs.Banks.{Bank, bank_of, count_at, finish_at, mark_at, value_at, width}
+use Rattle.pb_cells.specs.Banks.{Bank, bank_of, count_at, finish_at, mark_at, value_at}
 use Rattle.pb_cells.specs.Stories.{Holds, IsStory, Story, is_listed, next_cell}
-use Rattle.pb_cells.specs.Steps.{CanRead, Finishes, Looks, Marks, Reads, Releases, Stores}
+use Rattle.pb_cells.specs.Steps.{Finishes, Looks, Marks, Reads, Releases, Stores}
 use Rattle.pb_cells.specs.Views.{after_finish, after_mark, after_store, first_turn, hand_view, job_view, joined_view, no_view, released_view, turn_view, untouched, without_turn}
 use Rattle.pb_cells.specs.Words.{mark_of, word_of}
 use Rattle.pb_cells.proofs.BankLemmas.{get-count, get-finish, get-mark, get-value, set-count, set-finish, set-mark, set-value}
-use Rattle.pb_cells.proofs.FinishLemmas.{finish-keeps, finish_bank, finish_story}
+use Rattle.pb_cells.proofs.FinishLemmas.{finish-keeps, finish_story}
 use Rattle.pb_cells.proofs.JoinLemmas.{join-keeps, join_story, look-keeps}
-use Rattle.pb_cells.proofs.ReleaseLemmas.{count-is, count-waits, owed, release-keeps, release_bank, release_story}
+use Rattle.pb_cells.proofs.ReleaseLemmas.{count-is, count-waits, owed, release-keeps, release_story}
 use Rattle.pb_cells.proofs.SplitLemmas.{hand-keeps, split_story, turn-keeps}
-use Rattle.pb_cells.proofs.StoreLemmas.{mark-keeps, mark_bank, mark_story, value-keeps, value_bank}
+use Rattle.pb_cells.proofs.StoreLemmas.{mark-keeps, mark_story, value-keeps}
 use Rattle.pb_cells.proofs.TaskLemmas.{next-below, next-cell-below, read-below, read-word}
 
 abbrev Table : Type 0
@@ -103,10 +103,13 @@ module _ (p : Plan) (slots id : ℕ) (j : TaskView) (opened : List ℕ) where
           is = subst (λ (l : List ℕ). IsStory p (bank_of p.graph l) (set s.views id (job_view j opened)) holds.story) (sym (set-get_or s.words word 0))
               (subst (λ (l : List View). IsStory p b l holds.story) (sym (set_again s.views id (job_view j opened) at)) holds.is);
         },
-        (refl, λ c can. (
-          λ e. ap (λ i. get_or s.words i 0) e ∙ (get-mark p.graph s.words holds.width c (cells c can) ∙ (told c can).0),
-          λ e. ap (λ i. get_or s.words i 0) e ∙ (get-value p.graph s.words holds.width c (cells c can) ∙ (told c can).1),
-        )),
+        (
+          refl,
+          λ c can. (
+            λ e. ap (λ i. get_or s.words i 0) e ∙ (get-mark p.graph s.words holds.width c (cells c can) ∙ (told c can).0),
+            λ e. ap (λ i. get_or s.words i 0) e ∙ (get-value p.graph s.words holds.width c (cells c can) ∙ (told c can).1),
+          ),
+        ),
       )
 
   -- ---- the end of a task
@@ -160,7 +163,7 @@ module _ (p : Plan) (slots id : ℕ) (j : TaskView) (opened : List ℕ) where
           (release_story p holds.plan b s.views holds.story holds.is id j opened at m next ended after fresh)
           (ap (λ i. bank_of p.graph (set s.words i ((found + (2 ^ 64 - 1)) % 2 ^ 64))) is_word ∙ (set-count p.graph s.words holds.width next ((found + (2 ^ 64 - 1)) % 2 ^ 64) below ∙ (λ i. record b { count = with b.count next (one-less small i) })))
           (subst (λ n. IsStory p (record b { count = with b.count next (b.count next - 1) }) (set s.views id (released_view n next (job_view j opened)))
-              (release_story p holds.plan b s.views holds.story holds.is id j opened at m next ended after fresh)) (sym found-is)
+          (release_story p holds.plan b s.views holds.story holds.is id j opened at m next ended after fresh)) (sym found-is)
           (release-keeps p holds.plan b s.views holds.story holds.is id j opened at m next ended after fresh))
 
     pub release-allows : Allows (Holds p) slots id me at_word (λ n. (n + (2 ^ 64 - 1)) % 2 ^ 64) (Releases p (step slots at_word 1 0 none) me)

@@ -1,16 +1,14 @@
 -- Words and views that have a story show a sound snapshot, and each turn is in one view.
-use Rattle.std.proofs.Common.{◌≡◌, ◌∙◌, refl, sym, ap, subst, inl, inr, ◌⊎◌, ⊎_elim, ℕ, zero, suc, ◌+◌, ◌<◌, ◌≤◌, ◌&&◌, eqb, Bool, true, false, not, List, [], ◌∷◌, length, Option, Some, None, IsSome, arith}
+use Rattle.std.proofs.Common.{◌≡◌, ◌∙◌, refl, sym, ap, subst, inl, inr, ◌⊎◌, ⊎_elim, ℕ, zero, suc, ◌<◌, ◌≤◌, eqb, Bool, true, false, not, List, [], ◌∷◌, length, Option, Some, None, IsSome, arith}
 use Rattle.std.specs.Prelude.{is_some}
 use Rattle.std.specs.List.{Contains, list_any}
 use Rattle.std.proofs.lemmas.Bool.{cases_lt}
 use mathlib.Core.Option.{some}
 use lib.ListN.{get_elem?}
-use Rattle.pb_base.proofs.ListLemmas.{in_none}
 use Rattle.pb_taskgraph.specs.Graphs.{after_of, before_of}
 use Rattle.pb_taskgraph.specs.Plans.{IsPlan, Plan}
 use Rattle.pb_taskgraph.proofs.GraphLemmas.{before-past}
 use Rattle.pb_core.specs.Snapshots.{Snapshot, owes, snapshot_of}
-use Rattle.pb_core.proofs.KeepLemmas.{started-count}
 use Rattle.pb_core.proofs.ListedLemmas.{not-true}
 use Rattle.pb_core.proofs.SnapshotLemmas.{and-all, and-three, any-in, in-any}
 use Rattle.pb_core.proofs.WithLemmas.{none-of, not-none, of-some, some-of}
@@ -18,7 +16,7 @@ use Rattle.pb_cells.specs.declared.view.TaskView.{TaskView}
 use Rattle.pb_cells.specs.declared.view.View.{View}
 use Rattle.pb_cells.specs.Banks.{Bank}
 use Rattle.pb_cells.specs.Shown.{HasTurn, IsOpened, IsTurn, OnTask, OneSeat, SaysFinished, SaysOwed, SeatWith, ShowsIt, SomeSeat}
-use Rattle.pb_cells.specs.Stories.{Fits, FitsJob, FitsTask, IsStory, Runs, Story, is_listed}
+use Rattle.pb_cells.specs.Stories.{FitsJob, FitsTask, IsStory, Runs, Story, is_listed}
 use Rattle.pb_cells.proofs.JoinLemmas.{in-listed, listed-in}
 use Rattle.pb_cells.proofs.SeatLemmas.{none-some, some-one}
 
@@ -75,14 +73,20 @@ module _ (p : Plan) (is : IsPlan p) (b : Bank) (views : List View) (y : Story) (
       let after = any-in (after_of p.graph u) t three.1 in
       let open_ : y.core.released u t ≡ false = from-not (y.core.released u t) three.2 in
       let none_yet : y.taker u ≡ None = none-of (y.taker u) (λ there. let taker = of-some (y.taker u) there in let wrong : false ≡ true = sym open_ ∙ (ok.tells.taken u taker.0 taker.1).1 t after in cc) in
-      let seat = begun-seat u (ok.tells.sound.held.ended u three.0) in
-      (seat.0, (seat.1, seat.2, runs-task u seat.0 seat.1 (seat.3, none_yet) (ok.fits seat.0 seat.1 seat.2).job (λ j. (j.task ≡ u) × IsSome j.number × Contains (after_of p.graph u) t × (Contains j.released t → ⊥))
-      (λ j f same. (
-        same,
-        subst IsSome (ap y.core.number (sym same) ∙ f.number) three.0,
-        after,
-        λ h. let wrong : false ≡ true = sym open_ ∙ (ap (λ k. y.core.released k t) (sym same) ∙ (f.released t ∙ in-listed j.released t h)) in cc,
-      ))))
+      let seat = begun-seat u (ok.tells.sound.held.ended u three.0) in (
+        seat.0,
+        (
+          seat.1,
+          seat.2,
+          runs-task u seat.0 seat.1 (seat.3, none_yet) (ok.fits seat.0 seat.1 seat.2).job (λ j. (j.task ≡ u) × IsSome j.number × Contains (after_of p.graph u) t × (Contains j.released t → ⊥))
+              (λ j f same. (
+                same,
+                subst IsSome (ap y.core.number (sym same) ∙ f.number) three.0,
+                after,
+                λ h. let wrong : false ≡ true = sym open_ ∙ (ap (λ k. y.core.released k t) (sym same) ∙ (f.released t ∙ in-listed j.released t h)) in cc,
+              )),
+        ),
+      )
     where
       from-not : (x : Bool) → not x ≡ true → x ≡ false
       from-not true h = sym h

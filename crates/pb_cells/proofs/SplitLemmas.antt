@@ -1,5 +1,5 @@
 -- A seat gives a turn, or nothing, to a new seat.
-use Rattle.std.proofs.Common.{◌≡◌, ◌∙◌, refl, sym, ap, subst, inl, inr, ⊎_elim, ℕ, zero, suc, ◌+◌, ◌<◌, ◌≤◌, Bool, true, false, List, [], ◌∷◌, ◌++◌, length, Option, Some, None, IsSome, set, arith}
+use Rattle.std.proofs.Common.{◌≡◌, ◌∙◌, refl, sym, ap, subst, inl, inr, ⊎_elim, ℕ, ◌+◌, ◌<◌, true, false, List, [], ◌∷◌, ◌++◌, length, Option, Some, None, set, arith}
 use Rattle.std.specs.List.{Contains}
 use Rattle.std.proofs.lemmas.Bool.{cases_eq}
 use mathlib.Core.Option.{some}
@@ -15,7 +15,7 @@ use Rattle.pb_core.proofs.ListedLemmas.{not-true}
 use Rattle.pb_core.proofs.WithLemmas.{none-of, not-none, of-some, with-each, with-other, with-same}
 use Rattle.pb_cells.specs.declared.view.View.{View}
 use Rattle.pb_cells.specs.Banks.{Bank}
-use Rattle.pb_cells.specs.Stories.{Fits, FitsJob, FitsTask, FitsTurns, HoldsTurn, IsStory, Runs, Story, is_listed}
+use Rattle.pb_cells.specs.Stories.{Fits, FitsTask, FitsTurns, HoldsTurn, IsStory, Story}
 use Rattle.pb_cells.specs.Views.{job_view, no_view, untouched}
 use Rattle.pb_cells.proofs.CarryLemmas.{SameRest, SameTask, same-fits, same-job}
 use Rattle.pb_cells.proofs.SeatLemmas.{none-some, seat-inside, seat-splits, some-one, with-both}

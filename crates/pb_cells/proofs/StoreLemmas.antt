@@ -1,7 +1,6 @@
 -- A seat stores the value of its task's next cell, and then its mark.
-use Rattle.std.proofs.Common.{◌≡◌, ◌∙◌, refl, sym, ap, subst, inl, inr, ⊎_elim, ℕ, ◌+◌, ◌<◌, ◌≤◌, true, false, List, length, take, get_or, Option, Some, None, IsSome, set, arith}
+use Rattle.std.proofs.Common.{◌≡◌, ◌∙◌, refl, sym, ap, subst, ⊎_elim, ℕ, ◌+◌, ◌<◌, true, false, List, length, take, Option, Some, None, IsSome, set, arith}
 use Rattle.std.specs.List.{Contains}
-use Rattle.std.proofs.lemmas.Bool.{cases_eq}
 use Rattle.std.proofs.lemmas.List.{take_more}
 use Rattle.std.proofs.lemmas.List.Elements.{Contains-push_cases}
 use mathlib.Core.Option.{some}
@@ -10,18 +9,18 @@ use Rattle.pb_values.specs.declared.outcome.Outcome.{Outcome}
 use Rattle.pb_taskgraph.specs.Graphs.{cells_of}
 use Rattle.pb_taskgraph.specs.Plans.{IsPlan, Plan, outcome_at}
 use Rattle.pb_core.specs.declared.event.Event.TheVariants.{Write}
-use Rattle.pb_core.specs.States.{State, happens, with}
+use Rattle.pb_core.specs.States.{happens, with}
 use Rattle.pb_core.proofs.KeepLemmas.{keeps}
 use Rattle.pb_core.proofs.WithLemmas.{none-of, not-none, some-stays, some-was, with-each, with-other, with-same}
 use Rattle.pb_cells.specs.declared.view.TaskView.{TaskView}
 use Rattle.pb_cells.specs.declared.view.View.{View}
 use Rattle.pb_cells.specs.Banks.{Bank}
-use Rattle.pb_cells.specs.Stories.{AreFirst, Fits, FitsTask, IsStored, IsStory, Runs, Story, TellsCell, Tells, next_cell}
+use Rattle.pb_cells.specs.Stories.{AreFirst, Fits, FitsTask, IsStory, Story, TellsCell, next_cell}
 use Rattle.pb_cells.specs.Views.{after_mark, after_store, job_view}
 use Rattle.pb_cells.specs.Words.{mark_of, word_of}
 use Rattle.pb_cells.proofs.CarryLemmas.{SameRest, SameTask, next-fits, same-fits}
 use Rattle.pb_cells.proofs.SeatLemmas.{none-some, seat-steps, some-one, with-both}
-use Rattle.pb_cells.proofs.TaskLemmas.{first-more, first-new, next-cell-below, next-empty, next-own, next-task, task-below, told}
+use Rattle.pb_cells.proofs.TaskLemmas.{first-more, first-new, next-empty, next-task, task-below}
 
 module _ (p : Plan) (is : IsPlan p) (b : Bank) (views : List View) (y : Story) (ok : IsStory p b views y) (id : ℕ) (j : TaskView) (opened : List ℕ) (at : get_elem? views id ≡ some (job_view j opened)) where
   abbrev own : Fits p b y id (job_view j opened)

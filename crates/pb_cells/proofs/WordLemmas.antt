@@ -1,5 +1,5 @@
 -- Outcomes in two words.
-use Rattle.std.proofs.Common.{◌≡◌, ◌∙◌, refl, sym, ap, ℕ, ◌+◌, ◌*◌, ◌/◌, ◌%◌, ◌<◌, ◌^◌, w64, arith}
+use Rattle.std.proofs.Common.{◌≡◌, ◌∙◌, refl, ap, ◌+◌, ◌*◌, ◌/◌, ◌%◌, ◌<◌, ◌^◌, w64, arith}
 use Rattle.std.proofs.lemmas.Int.{to_z-of_z}
 use Rattle.std.proofs.lemmas.Nat.{div-mul-add, mod-mul-add}
 use Rattle.pb_values.specs.declared.outcome.Kind.{Kind}
@@ -8,7 +8,7 @@ use Rattle.pb_values.specs.declared.outcome.Outcome.{Outcome}
 use Rattle.pb_values.specs.declared.outcome.Outcome.TheVariants.{Trapped, Value}
 use Rattle.pb_values.specs.declared.outcome.Trap.{Trap}
 use Rattle.pb_taskgraph.specs.Plans.{IsSmall}
-use Rattle.pb_cells.specs.Words.{kind_at, kind_mark, mark_of, outcome_in, trap_in, trap_word, word_of}
+use Rattle.pb_cells.specs.Words.{kind_mark, mark_of, outcome_in, trap_in, trap_word, word_of}
 
 trap-back : (t : Trap) → t.transform < 64 → t.rule < 32 → t.x < 2 ^ 23 → t.y < 2 ^ 23 → trap_in t.kind (trap_word t) ≡ t
 unfolding trap_in trap_word

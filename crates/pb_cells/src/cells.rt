@@ -73,8 +73,14 @@ impl<N: NamesWork> Cells<N> {
         ensures outcome { result ≡ outcome_at N.plan.solution cell }
         ensures same { job.new ≡ job.old }
     {
-        let mark = self.table.shared.load::<LoadCell<N>>(&mut job.seat, self.cells + cell as usize);
-        let word = self.table.shared.load::<LoadCell<N>>(&mut job.seat, cell as usize);
+        let mark = self
+            .table
+            .shared
+            .load::<LoadCell<N>>(&mut job.seat, self.cells + cell as usize);
+        let word = self
+            .table
+            .shared
+            .load::<LoadCell<N>>(&mut job.seat, cell as usize);
         unpack(mark, word)
     }
 
@@ -86,8 +92,12 @@ impl<N: NamesWork> Cells<N> {
     {
         let cells = self.cells;
         let (mark, word) = pack(v);
-        self.table.shared.store::<StoreValue>(&mut job.seat, cell as usize, word);
-        self.table.shared.store::<StoreMark>(&mut job.seat, cells + cell as usize, mark);
+        self.table
+            .shared
+            .store::<StoreValue>(&mut job.seat, cell as usize, word);
+        self.table
+            .shared
+            .store::<StoreMark>(&mut job.seat, cells + cell as usize, mark);
     }
 
     /// Finishes the task, all cells of which are written, and draws its finish number.
@@ -97,11 +107,9 @@ impl<N: NamesWork> Cells<N> {
         requires written { length (N.plan.order job.old.at.task) ≤ job.old.at.written }
         ensures { job.new ≡ record job.old { at = after_finish result job.old.at } }
     {
-        self.table.shared.fetch_add::<AddFinish>(
-            &mut job.seat,
-            self.cells + self.cells + self.tasks,
-            1,
-        )
+        self.table
+            .shared
+            .fetch_add::<AddFinish>(&mut job.seat, self.cells + self.cells + self.tasks, 1)
     }
 
     /// Releases a successor of the finished task. A Job of the successor where its count became 0.
@@ -112,15 +120,21 @@ impl<N: NamesWork> Cells<N> {
         requires owed { Contains job.old.at.released next → ⊥ }
         ensures { HasReleased job.old next result job.new }
     {
-        let found = self.table.shared.fetch_sub::<TakeFromCount<N>>(
-            &mut job.seat,
-            self.cells + self.cells + next as usize,
-            1,
-        );
+        let found = self
+            .table
+            .shared
+            .fetch_sub::<TakeFromCount<N>>(
+                &mut job.seat,
+                self.cells + self.cells + next as usize,
+                1,
+            );
         if found != 1 {
             return None;
         }
-        Some(Job::of(self.table.shared.split_seat::<FirstTurn>(&mut job.seat), next))
+        Some(Job::of(
+            self.table.shared.split_seat::<FirstTurn>(&mut job.seat),
+            next,
+        ))
     }
 
     /// A Hand takes in a Job whose task is finished and has released all its successors.
@@ -131,7 +145,9 @@ impl<N: NamesWork> Cells<N> {
         requires paid { (next : ℕ) → Contains (after_of N.plan.graph job.at.task) next → Contains job.at.released next }
         ensures { hand.new ≡ hand_with hand.old job }
     {
-        self.table.shared.join_seat::<TakeIn>(&mut hand.seat, job.into_seat());
+        self.table
+            .shared
+            .join_seat::<TakeIn>(&mut hand.seat, job.into_seat());
     }
 
     /// How many tasks are finished by now.
@@ -140,6 +156,8 @@ impl<N: NamesWork> Cells<N> {
         ensures few { result ≤ length N.plan.graph.tasks }
         ensures seen { hand.new ≡ record hand.old { seen = result } }
     {
-        self.table.shared.load::<LoadFinish<N>>(&mut hand.seat, self.cells + self.cells + self.tasks)
+        self.table
+            .shared
+            .load::<LoadFinish<N>>(&mut hand.seat, self.cells + self.cells + self.tasks)
     }
 }

@@ -1,4 +1,4 @@
-use Rattle.std.proofs.Common.{◌≡◌, ◌∙◌, ◌<◌, sym, ap, get_or, length, arith}
+use Rattle.std.proofs.Common.{◌≡◌, ◌∙◌, ◌<◌, ap, get_or, length, arith}
 use Rattle.pb_taskgraph.specs.Graphs.{GraphValue, TaskValue}
 use Rattle.pb_cells.proofs.FirstLemmas.{ready-all, ready-more, ready-same}
 use Rattle.pb_cells.proofs.first.ready_list.Goals.{then-is_empty+in_ok-push, else-is_empty}

@@ -1,5 +1,3 @@
-use Rattle.std.proofs.Common.{ap, ◌∙◌}
-use Rattle.pb_cells.specs.Handles.{JobValue}
 use Rattle.pb_cells.proofs.CallLemmas.{finish-asks, finish-inside, own-is}
 use Rattle.pb_cells.proofs.cells.Cells.finish.Goals as goal
 

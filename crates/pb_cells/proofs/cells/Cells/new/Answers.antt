@@ -1,4 +1,3 @@
-use Rattle.std.proofs.Common.{◌≡◌, ◌∙◌, sym, ap}
 use Rattle.pb_cells.proofs.OpeningLemmas.{opening-asks, tasks-asks, turns-asks}
 use Rattle.pb_cells.proofs.cells.Cells.new.Goals as goal
 

@@ -1,4 +1,4 @@
-use Rattle.std.proofs.Common.{◌≡◌, ◌∙◌, refl, arith}
+use Rattle.std.proofs.Common.{◌∙◌, refl, arith}
 use Rattle.pb_cells.proofs.CallLemmas.{can-read, cell-place, mark-place, may-below, own-is, read-asks, read-gives}
 use Rattle.pb_cells.proofs.cells.Cells.read.Goals as goal
 
@@ -28,5 +28,5 @@ pub returns-clause-outcome : goal.returns-clause-outcome
 returns-clause-outcome g c =
     let can = can-read g.N.NamesWork.plan _ _ _ c.self.invariant _ _ c.self.view_is _ _ c.job.invariant c.job.view_is c.requires.table c.args.cell c.requires.known in
     read-gives g.N.NamesWork.plan c.self.invariant.plan c.args.cell c.load-mark.result c.load-word.result c.unpack.result c.unpack.ensures
-        ((c.load-mark.ensures.2.1 c.args.cell (can c.job.inside.seat.me refl)).0 (mark-place g.N.NamesWork.plan _ _ _ c.self.invariant c.args.cell))
-        ((c.load-word.ensures.2.1 c.args.cell (can c.load-mark.new.seat.me c.load-mark.ensures.2.0)).1 refl)
+    ((c.load-mark.ensures.2.1 c.args.cell (can c.job.inside.seat.me refl)).0 (mark-place g.N.NamesWork.plan _ _ _ c.self.invariant c.args.cell))
+    ((c.load-word.ensures.2.1 c.args.cell (can c.load-mark.new.seat.me c.load-mark.ensures.2.0)).1 refl)

@@ -1,4 +1,4 @@
-use Rattle.std.proofs.Common.{◌≡◌, ◌∙◌, ap, arith}
+use Rattle.std.proofs.Common.{◌∙◌, arith}
 use Rattle.pb_cells.proofs.CallLemmas.{after-below, count-inside, own-is, release-asks, split-asks}
 use Rattle.pb_cells.proofs.cells.Cells.release.Goals as goal
 

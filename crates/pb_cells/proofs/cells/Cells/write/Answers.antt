@@ -1,4 +1,4 @@
-use Rattle.std.proofs.Common.{◌≡◌, ◌∙◌, ap, subst, arith}
+use Rattle.std.proofs.Common.{◌∙◌, ap, subst, arith}
 use Rattle.pb_taskgraph.specs.Plans.{IsSmall}
 use Rattle.pb_cells.specs.Steps.{Me}
 use Rattle.pb_cells.specs.Views.{after_store, with_task}
