@@ -1,11 +1,15 @@
 -- Words and views that have a story show a sound snapshot, and each turn is in one view.
-use Rattle.std.proofs.Common.{◌≡◌, ◌∙◌, refl, sym, ap, subst, inl, inr, ◌⊎◌, ⊎_elim, ℕ, zero, suc, ◌<◌, ◌≤◌, eqb, Bool, true, false, not, List, [], ◌∷◌, length, Option, Some, None, IsSome, arith}
-use Rattle.std.specs.Prelude.{is_some}
+use Rattle.std.proofs.Common.{◌↔◌, take, ◌≡◌, ◌∙◌, refl, sym, ap, subst, inl, inr, ◌⊎◌, ⊎_elim, ℕ, zero, suc, ◌<◌, ◌≤◌, eqb, Bool, true, false, not, List, [], ◌∷◌, length, Option, Some, None, IsSome, arith}
+use Rattle.std.specs.Prelude.{filter, is_some}
+use Rattle.std.proofs.Math.Bool.{cond}
 use Rattle.std.specs.List.{Contains, list_any}
 use Rattle.std.proofs.lemmas.Bool.{cases_lt}
 use mathlib.Core.Option.{some}
 use lib.ListN.{get_elem?}
-use Rattle.pb_taskgraph.specs.Graphs.{after_of, before_of}
+use Rattle.pb_base.proofs.ListLemmas.{in_cases, in_head, in_none, in_tail}
+use Rattle.pb_core.specs.Listed.{WritesInOrder}
+use Rattle.pb_core.proofs.CountLemmas.{once-head, once-rest}
+use Rattle.pb_taskgraph.specs.Graphs.{EachOnce, after_of, before_of}
 use Rattle.pb_taskgraph.specs.Plans.{IsPlan, Plan}
 use Rattle.pb_taskgraph.proofs.GraphLemmas.{before-past}
 use Rattle.pb_core.specs.Snapshots.{Snapshot, owes, snapshot_of}
@@ -16,7 +20,7 @@ use Rattle.pb_cells.specs.declared.view.TaskView.{TaskView}
 use Rattle.pb_cells.specs.declared.view.View.{View}
 use Rattle.pb_cells.specs.Banks.{Bank}
 use Rattle.pb_cells.specs.Shown.{HasTurn, IsOpened, IsTurn, OnTask, OneSeat, SaysFinished, SaysOwed, SeatWith, ShowsIt, SomeSeat}
-use Rattle.pb_cells.specs.Stories.{FitsJob, FitsTask, IsStory, Runs, Story, is_listed}
+use Rattle.pb_cells.specs.Stories.{FitsJob, FitsTask, IsStory, Runs, Story, Tells, is_listed}
 use Rattle.pb_cells.proofs.JoinLemmas.{in-listed, listed-in}
 use Rattle.pb_cells.proofs.SeatLemmas.{none-some, some-one}
 
@@ -171,3 +175,30 @@ module _ (p : Plan) (is : IsPlan p) (b : Bank) (views : List View) (y : Story) (
           (λ (inside : t < length p.graph.tasks). inside)
           (λ (past : length p.graph.tasks ≤ t). absurd (let empty = ap (λ (l : List ℕ). length l) (before-past p.graph t past) in omega arith))
           (cases_lt t (length p.graph.tasks))
+
+-- ---- the written cells are the first ones
+none-pass : (test : ℕ → Bool) (xs : List ℕ) → ((c : ℕ) → Contains xs c → test c ≡ true → ⊥) → filter test xs ≡ []
+none-pass test [] never = refl
+none-pass test (x ∷ xs) never =
+    let here : test x ≡ false = not-true (test x) (never x (in_head x xs)) in
+    ap (λ b. cond b (x ∷ filter test xs) (filter test xs)) here ∙ none-pass test xs (λ c h. never c (in_tail x c xs h))
+
+first-pass : (test : ℕ → Bool) (xs : List ℕ) (k : ℕ) → EachOnce xs → ((c : ℕ) → Contains xs c → (test c ≡ true) ↔ Contains (take k xs) c) → filter test xs ≡ take k xs
+first-pass test [] zero once each = refl
+first-pass test [] (suc k) once each = refl
+first-pass test (x ∷ xs) zero once each = none-pass test (x ∷ xs) (λ c h e. in_none c ((each c h).0 e))
+first-pass test (x ∷ xs) (suc k) once each =
+    let here : test x ≡ true = (each x (in_head x xs)).1 (in_head x (take k xs)) in
+    ap (λ b. cond b (x ∷ filter test xs) (filter test xs)) here ∙ ap (λ l. x ∷ l) (first-pass test xs k (once-rest x xs once) later)
+  where
+    later : (c : ℕ) → Contains xs c → (test c ≡ true) ↔ Contains (take k xs) c
+    later c h = (
+      λ e. elim (in_cases x c (take k xs) ((each c (in_tail x c xs h)).0 e)) [
+        | inl same ↦ absurd (once-head x xs once (subst (Contains xs) (sym same) h))
+        | inr there ↦ there
+      ],
+      λ there. (each c (in_tail x c xs h)).1 (in_tail x c (take k xs) there),
+    )
+
+pub story-order : (p : Plan) → IsPlan p → (b : Bank) (y : Story) → Tells p b y → WritesInOrder p (snapshot_of p.graph y.core)
+story-order p is b y tells t below = (y.wrote t, first-pass (λ c. is_some (y.core.value c)) (p.order t) (y.wrote t) (is.once t below) (tells.order t below))

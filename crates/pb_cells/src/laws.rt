@@ -3,6 +3,7 @@ ghost use Rattle.std.specs.List.{Contains};
 ghost use Rattle.atomic_table.specs.Table.{State};
 ghost use Rattle.pb_values.specs.declared.outcome.Outcome.{Outcome};
 ghost use Rattle.pb_taskgraph.specs.Plans.{IsPlan, IsSmall, Plan};
+ghost use Rattle.pb_core.specs.Listed.{WritesInOrder};
 ghost use Rattle.pb_core.specs.Snapshots.{IsSoundSnapshot, Snapshot};
 ghost use Rattle.pb_cells.specs.declared.view.View.{View};
 ghost use Rattle.pb_cells.specs.Banks.{bank_of};
@@ -23,9 +24,10 @@ pub fn the_first_words_meet_the_rule()
     ensures { (p : Plan) (words : List ℕ) → IsPlan p → IsFirst p words → Holds p (record { words = words; homes = []; views = first_view p ∷ [] }) }
 {}
 
-/// A law: wherever the rule holds, the words and the views show a sound snapshot.
+/// A law: wherever the rule holds, the words and the views show a sound snapshot, in which the written cells of each task are
+/// the first of its own order.
 pub fn the_words_and_views_show_a_sound_snapshot()
-    ensures { (p : Plan) (s : State (Unit {0}) View) → Holds p s → (q : Snapshot) × IsSoundSnapshot p q × ShowsIt p (bank_of p.graph s.words) s.views q }
+    ensures { (p : Plan) (s : State (Unit {0}) View) → Holds p s → (q : Snapshot) × IsSoundSnapshot p q × WritesInOrder p q × ShowsIt p (bank_of p.graph s.words) s.views q }
 {}
 
 /// A law: a task that waits for no release and isn't finished has its turn in just one view, and no other task has a turn.
