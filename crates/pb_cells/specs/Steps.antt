@@ -1,6 +1,8 @@
 -- What a step on a word of the table tells of its seat.
-use Rattle.std.specs.Prelude.{◌≡◌, ℕ, ◌<◌, ◌≤◌, length, Option, Some, None}
+use Rattle.std.specs.Prelude.{◌≡◌, ℕ, ◌<◌, ◌≤◌, List, length, map, Option, Some, None}
+use Rattle.std.specs.List.{Contains}
 use Rattle.atomic_table.specs.Table as table
+use Rattle.pb_taskgraph.specs.Graphs.{EachOnce, before_of}
 use Rattle.pb_taskgraph.specs.Plans.{Plan, outcome_at}
 use Rattle.pb_taskgraph.specs.Turns.{MayRead}
 use Rattle.pb_cells.specs.declared.view.TaskView.{TaskView}
@@ -27,9 +29,16 @@ Marks s me n after = after ≡ (with_task after_mark me.0, me.1)
 abbrev pub Finishes : Step → Me → ℕ → Me → Type 0
 Finishes s me n after = after ≡ (with_task (after_finish n) me.0, me.1)
 
--- the finish count is seen
+-- what a seat has opened: tasks with predecessors, each once; and what it has taken in: tasks, each once
+pub record AreTasks (p : Plan) (tasks : List ℕ) (ended : List (ℕ × ℕ)) : Type 0 where
+  pub opened : (t : ℕ) → Contains tasks t → (t < length p.graph.tasks) × (0 < length (before_of p.graph t))
+  pub opened_once : EachOnce tasks
+  pub ran : (t n : ℕ) → Contains ended (t, n) → (t < length p.graph.tasks) × (n < length p.graph.tasks)
+  pub ran_once : EachOnce (map (λ e. e.0) ended)
+
+-- the finish count is seen, and what the seat has opened and taken in are tasks
 abbrev pub Looks : Plan → Step → Me → ℕ → Me → Type 0
-Looks p s me n after = (n ≤ length p.graph.tasks) × (after ≡ (record me.0 { seen = n }, me.1))
+Looks p s me n after = (n ≤ length p.graph.tasks) × (after ≡ (record me.0 { seen = n }, me.1)) × AreTasks p me.0.opened me.0.ran
 
 -- a successor is released, whose count was the number that was found
 abbrev pub Releases : Plan → Step → Me → ℕ → Me → Type 0

@@ -3,6 +3,7 @@ ghost use Rattle.std.specs.List.{Contains};
 ghost use Rattle.pb_taskgraph.specs.Graphs.{after_of};
 ghost use Rattle.pb_taskgraph.specs.Plans.{outcome_at};
 ghost use Rattle.pb_cells.specs.Handles.{HasReleased, hand_with, new_hand, new_job, turn_at};
+ghost use Rattle.pb_cells.specs.Steps.{AreTasks};
 ghost use Rattle.pb_cells.specs.Views.{after_finish, after_mark, ready_tasks};
 
 use crate::deal::{deal_hands, deal_jobs};
@@ -150,11 +151,13 @@ impl<N: NamesWork> Cells<N> {
             .join_seat::<TakeIn>(&mut hand.seat, job.into_seat());
     }
 
-    /// How many tasks are finished by now.
+    /// How many tasks are finished by now. What the Hand's Jobs have opened are tasks with predecessors, and what it has taken in
+    /// are tasks, each once.
     pub fn finished(&self, hand: &mut Hand<N>) -> u64
         requires table { hand.old.table ≡ self.now }
         ensures few { result ≤ length N.plan.graph.tasks }
         ensures seen { hand.new ≡ record hand.old { seen = result } }
+        ensures told { AreTasks N.plan hand.new.opened hand.new.ran }
     {
         self.table
             .shared
