@@ -98,10 +98,10 @@ module _ (p : Plan) (k : ℕ) (xs : List ℕ) (task : TaskValue) (below : k < le
   count-is : length (before_of p.graph k) ≡ length task.before
   count-is = ap (λ (l : List ℕ). length l) (before-at p.graph k task below is)
 
-  pub ready-more : (n : ℕ) (empty : Bool) → n ≡ length task.before → empty ≡ eqb n 0 → empty ≡ true → xs ≡ filter is_ready (range_with_len 0 k) → xs ++ k ∷ [] ≡ filter is_ready (range_with_len 0 (k + 1))
-  ready-more n empty size tests yes_ was =
+  pub ready-more : (n : ℕ) (empty : Bool) (now : List ℕ) → n ≡ length task.before → empty ≡ eqb n 0 → empty ≡ true → xs ≡ filter is_ready (range_with_len 0 k) → now ≡ xs ++ k ∷ [] → now ≡ filter is_ready (range_with_len 0 (k + 1))
+  ready-more n empty now size tests yes_ was pushed =
       let this : is_ready k ≡ true = ap (λ m. eqb m 0) (count-is ∙ sym size) ∙ (sym tests ∙ yes_) in
-      ap (λ l. l ++ k ∷ []) was ∙ (ap (λ b. filter is_ready (range_with_len 0 k) ++ cond b (k ∷ []) []) (sym this) ∙ sym (filter-range is_ready 0 k k (zero-add k)))
+      pushed ∙ (ap (λ l. l ++ k ∷ []) was ∙ (ap (λ b. filter is_ready (range_with_len 0 k) ++ cond b (k ∷ []) []) (sym this) ∙ sym (filter-range is_ready 0 k k (zero-add k))))
 
   pub ready-same : (n : ℕ) (empty : Bool) → n ≡ length task.before → empty ≡ eqb n 0 → empty ≡ false → xs ≡ filter is_ready (range_with_len 0 k) → xs ≡ filter is_ready (range_with_len 0 (k + 1))
   ready-same n empty size tests no_ was =

@@ -14,8 +14,9 @@ loop-task-preserved g c =
     let is : task ≡ get_or p.graph.tasks k task = c.index-tasks-task.is ∙ ap (λ l. get_or l k task) tasks in
     let size : c.links.inside.before.len ≡ length task.before = omega (arith, c.links.inside.before.ok.0, ap (λ (t : TaskValue). length t.before) c.links.view_is) in
     elim c.if-is_empty.branch [
-      | then-is_empty+in_ok-push w ↦ ap (λ v. v.items) w.ready-is ∙ (w.in_ok-push.ensures.items ∙ ready-more p k c.loop-task.ready.items task below is c.links.inside.before.len c.is_empty.result size c.is_empty.ensures w.if-is_empty.true c.loop-task.invariant)
-      | else-is_empty w ↦ ap (λ v. v.items) w.ready-is ∙ ready-same p k c.loop-task.ready.items task below is c.links.inside.before.len c.is_empty.result size c.is_empty.ensures w.if-is_empty.false c.loop-task.invariant
+      | then-is_empty+in_ok-push w ↦
+          rw w.ready-is (ready-more p k c.loop-task.ready.items task below is c.links.inside.before.len c.is_empty.result w.push.new.self.items size c.is_empty.ensures w.if-is_empty.true c.loop-task.invariant w.in_ok-push.ensures.items)
+      | else-is_empty w ↦ rw w.ready-is (ready-same p k c.loop-task.ready.items task below is c.links.inside.before.len c.is_empty.result size c.is_empty.ensures w.if-is_empty.false c.loop-task.invariant)
     ]
 
 pub returns : goal.returns
