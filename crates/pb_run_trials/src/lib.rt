@@ -4,6 +4,8 @@
 #[cfg(test)]
 mod boards;
 #[cfg(test)]
+mod cells;
+#[cfg(test)]
 mod links;
 #[cfg(test)]
 mod machine;
