@@ -48,12 +48,7 @@ fn told(
     }
 }
 
-fn said(
-    alloc: Global,
-    depth: u32,
-    t: u32,
-    n: u64,
-) -> Result<&'static str, AllocError> {
+fn said(alloc: Global, depth: u32, t: u32, n: u64) -> Result<&'static str, AllocError> {
     match accepted(alloc, TREES)? {
         Some(a) => told(alloc, &a, depth, t, &one(n)),
         None => Ok("not accepted"),

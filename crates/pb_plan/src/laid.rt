@@ -5,12 +5,12 @@ ghost use Rattle.pb_program.specs.Trees.{bare_prog};
 ghost use Rattle.pb_check.specs.Ranked.{OfTransform};
 ghost use Rattle.pb_plan.specs.Laid.{HasRoom, IsLaid};
 
+use crate::jobs::places;
 use pb_check::Accepted;
 use pb_frame::{FrameTasks, frame};
 use pb_linear::Sizes;
 use pb_links::Places;
 use pb_program::Config;
-use crate::jobs::places;
 use pb_values::View;
 use pb_views::lay_out;
 use std::alloc::{AllocError, Global};

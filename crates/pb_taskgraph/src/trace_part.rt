@@ -1,8 +1,8 @@
 ghost use Rattle.std.specs.Prelude.{◌≡◌, ◌++◌, decimal, OnOk};
 ghost use Rattle.pb_taskgraph.specs.Trace.{interval_text, part_text};
 
-use itoa::Buffer;
 use crate::task::Part;
+use itoa::Buffer;
 use std::alloc::AllocError;
 
 /// A word, and a number after it.

@@ -2,9 +2,9 @@ ghost use Rattle.std.specs.Prelude.{◌≡◌, IfOk};
 ghost use Rattle.pb_unroll.specs.Answers.{matrices_text, results_in};
 ghost use Rattle.pb_unroll.specs.Running.{run_plan};
 
+use crate::run::Run;
 use crate::texts::texts_in;
 use pb_taskgraph::Outcomes;
-use crate::run::Run;
 use std::alloc::{AllocError, Global};
 
 /// The texts of the matrices that a run with these outcomes gives, those after `to`, in declared order. A trap among them

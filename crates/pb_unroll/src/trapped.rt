@@ -4,8 +4,8 @@ ghost use Rattle.pb_unroll.specs.ShownCells.{is_trapped};
 ghost use Rattle.pb_unroll.specs.Running.{run_plan};
 
 use crate::places::place_of;
-use pb_taskgraph::{Outcomes, Work};
 use crate::run::Run;
+use pb_taskgraph::{Outcomes, Work};
 use pb_values::{Outcome, Trap};
 use std::marker::Model;
 
