@@ -1,0 +1,159 @@
+-- What the calls of a table ask of its steps.
+use Rattle.std.proofs.Common.{◌≡◌, ◌∙◌, refl, sym, ap, subst, inl, inr, ⊎_elim, ℕ, ◌+◌, ◌-◌, ◌%◌, ◌^◌, ◌<◌, ◌≤◌, List, [], length, get_or, pos, Some, None, IsSome, slice_get, arith}
+use Rattle.std.specs.List.{Contains}
+use Rattle.std.proofs.lemmas.Bool.{cases_lt}
+use Rattle.std.proofs.lemmas.List.{get_or-take, get_or_past, length-take}
+use Rattle.std.proofs.lemmas.List.Elements.{All-get_or, Contains-get_or}
+use mathlib.Core.Option.{none}
+use Rattle.atomic_table.specs.Table.{Allows, Joins, Splits, step}
+use Rattle.atomic_table.specs.Seated.{TableId}
+use Rattle.pb_base.proofs.ListLemmas.{in_none}
+use Rattle.pb_values.specs.declared.outcome.Outcome.{Outcome}
+use Rattle.pb_values.specs.declared.outcome.Outcome.TheVariants.{Value}
+use Rattle.pb_taskgraph.specs.Graphs.{after_of}
+use Rattle.pb_taskgraph.specs.Plans.{IsPlan, IsSmall, Plan, outcome_at}
+use Rattle.pb_taskgraph.specs.Turns.{MayRead}
+use Rattle.pb_taskgraph.proofs.GraphLemmas.{before-past}
+use Rattle.pb_taskgraph.proofs.KnownLemmas.{known-next, some-known}
+use Rattle.pb_taskgraph.proofs.PlanLemmas.{own-below}
+use Rattle.pb_core.proofs.ListedLemmas.{not-true}
+use Rattle.pb_core.proofs.WithLemmas.{of-some}
+use Rattle.pb_cells.specs.declared.view.TaskView.{TaskView}
+use Rattle.pb_cells.specs.Banks.{count_at, finish_at, mark_at}
+use Rattle.pb_cells.specs.Handles.{IsHand, IsJob, IsTable, JobValue, task_of, turn_at}
+use Rattle.pb_cells.specs.Steps.{CanRead, Finishes, Looks, Marks, Me, Reads, Releases, Stores}
+use Rattle.pb_cells.specs.Stories.{Holds, is_listed}
+use Rattle.pb_cells.specs.Views.{after_store, hand_view, job_view, joined_view, no_view, released_view, turn_view, without_turn}
+use Rattle.pb_cells.specs.Words.{mark_of, outcome_in, word_of}
+use Rattle.pb_cells.proofs.JoinLemmas.{in-listed, listed-in}
+use Rattle.pb_cells.proofs.RuleLemmas.{finish-allows, join-joins, look-allows, mark-allows, read-allows, release-allows, turn-splits, value-allows}
+use Rattle.pb_cells.proofs.WordLemmas.{outcome-back}
+
+-- every outcome of a plan is small
+pub any-small : (p : Plan) → IsPlan p → (c : ℕ) → IsSmall (outcome_at p.solution c)
+unfolding outcome_at
+any-small p is c = ⊎_elim
+    (λ (inside : c < length p.solution). All-get_or IsSmall p.solution c (Value (pos 0)) inside is.small)
+    (λ (past : length p.solution ≤ c). subst IsSmall (sym (get_or_past p.solution c (Value (pos 0)) past)) record { sfits = omega arith })
+    (cases_lt c (length p.solution))
+
+pub after-below : (p : Plan) → IsPlan p → (t next : ℕ) → Contains (after_of p.graph t) next → next < length p.graph.tasks
+after-below p is t next after = ⊎_elim
+    (λ (inside : next < length p.graph.tasks). inside)
+    (λ (past : length p.graph.tasks ≤ next). absurd (in_none t (subst (λ l. Contains l t) (before-past p.graph next past) ((is.graph.linked.mirrored next t).1 after))))
+    (cases_lt next (length p.graph.tasks))
+
+module _ (p : Plan) (table : TableId) (cells tasks : ℕ) (is : IsTable p table cells tasks) where
+  -- the places of words
+  pub cell-place : (c : ℕ) → c < p.graph.cells → (c < table.words) × (cells + c < table.words) × (cells + c < 2 ^ 63)
+  cell-place c below = let few = is.plan.graph.few_cells in
+      (omega (arith, is.words), omega (arith, is.words, is.cells), omega (arith, is.cells))
+
+  pub mark-place : (c : ℕ) → cells + c ≡ mark_at p.graph c
+  mark-place c = omega (arith, is.cells)
+
+  pub count-place : (t : ℕ) → cells + cells + t ≡ count_at p.graph t
+  count-place t = omega (arith, is.cells)
+
+  pub finish-place : cells + cells + tasks ≡ finish_at p.graph
+  finish-place = omega (arith, is.cells, is.tasks)
+
+  pub count-inside : (t : ℕ) → t < length p.graph.tasks → (cells + cells + t < table.words)
+  count-inside t below = omega (arith, is.words, is.cells)
+
+  pub finish-inside : cells + cells + tasks < table.words
+  finish-inside = omega (arith, is.words, is.cells, is.tasks)
+
+  module _ (self own : TableId) (self_is : table ≡ self) (me : Me) (v : JobValue) (job : IsJob p me) (view_is : record { table = own; at = task_of me.0.job; opened = me.0.opened } ≡ v) (same : v.table ≡ self) where
+    pub own-is : own ≡ table
+    own-is = ap (λ (w : JobValue). w.table) view_is ∙ (same ∙ sym self_is)
+
+    pub me-is : me ≡ (job_view v.at v.opened, [])
+    me-is = job.me_is ∙ (λ i. (job_view (view_is i).at (view_is i).opened, []))
+
+    pub own-task : v.at.task < length p.graph.tasks
+    own-task = subst (λ (w : JobValue). w.at.task < length p.graph.tasks) view_is job.task
+
+    -- what may be read
+    module _ (c : ℕ) (known : IsSome ((turn_at p v.at).outcomes c)) where
+      pub may : MayRead p v.at.task v.at.written c
+      may = some-known p v.at.task v.at.written c known
+
+      pub may-below : c < p.graph.cells
+      may-below = below may
+        where
+          below : MayRead p v.at.task v.at.written c → c < p.graph.cells
+          below (inl input) = let all = is.plan.graph.partition.inputs in omega arith
+          below (inr (inl (u, before, own_cell))) = (is.plan.graph.partition.past u c own_cell).1
+          below (inr (inr (i, inside, at))) =
+              let short = length-take v.at.written (p.order v.at.task) in
+              let first : i < v.at.written = omega arith in
+              own-below p is.plan v.at.task own-task c (i, omega arith, sym (get_or-take v.at.written (p.order v.at.task) i c first) ∙ at)
+
+      pub can-read : (m : Me) → m ≡ me → CanRead p m.0.job c
+      can-read m e = subst (λ (n : Me). CanRead p n.0.job c) (sym (e ∙ me-is)) may
+
+    -- what is to be written next
+    module _ (c : ℕ) (o : Outcome) (next : slice_get (turn_at p v.at).left 0 ≡ Some (c, o)) where
+      pub next-facts : (v.at.written < length (p.order v.at.task)) × (get_or (p.order v.at.task) v.at.written 0 ≡ c) × (outcome_at p.solution c ≡ o)
+      next-facts = known-next p v.at.task v.at.written c o next
+
+      pub next-inside : c < p.graph.cells
+      next-inside = subst (λ d. d < p.graph.cells) next-facts.1 (own-below p is.plan v.at.task own-task (get_or (p.order v.at.task) v.at.written 0) (Contains-get_or (p.order v.at.task) v.at.written 0 next-facts.0))
+
+      pub store-asks : (id word : ℕ) → word ≡ word_of o → Allows (Holds p) table.slots id me c (λ n. word) (λ n. Stores p (step table.slots c word 0 none) me word)
+      store-asks id word is_word = subst (λ (m : Me). Allows (Holds p) table.slots id m c (λ n. word) (λ n. Stores p (step table.slots c word 0 none) m word)) (sym me-is)
+          (value-allows p table.slots id v.at v.opened c next-facts.1 word next-facts.0 (is_word ∙ ap word_of (sym next-facts.2)))
+
+      pub mark-asks : (id mark : ℕ) (m : Me) → m ≡ (job_view (after_store v.at) v.opened, []) → mark ≡ mark_of o → Allows (Holds p) table.slots id m (cells + c) (λ n. mark) (λ n. Marks (step table.slots (cells + c) mark 0 none) m mark)
+      mark-asks id mark m e is_mark = subst (λ i. Allows (Holds p) table.slots id m i (λ n. mark) (λ n. Marks (step table.slots i mark 0 none) m mark)) (sym (mark-place c))
+          (subst (λ (k : Me). Allows (Holds p) table.slots id k (mark_at p.graph c) (λ n. mark) (λ n. Marks (step table.slots (mark_at p.graph c) mark 0 none) k mark)) (sym e)
+          (mark-allows p table.slots id (after_store v.at) v.opened c next-facts.1 mark refl (is_mark ∙ ap mark_of (sym next-facts.2))))
+
+    pub read-asks : (id word : ℕ) (m : Me) → m ≡ me → Allows (Holds p) table.slots id m word (λ n. n) (Reads p (step table.slots word 0 0 none) m)
+    read-asks id word m e = subst (λ (k : Me). Allows (Holds p) table.slots id k word (λ n. n) (Reads p (step table.slots word 0 0 none) k)) (sym (e ∙ me-is)) (read-allows p table.slots id v.at v.opened word)
+
+    pub finish-asks : (id : ℕ) → v.at.number ≡ None → length (p.order v.at.task) ≤ v.at.written
+        → Allows (Holds p) table.slots id me (cells + cells + tasks) (λ n. (n + 1) % 2 ^ 64) (Finishes (step table.slots (cells + cells + tasks) 1 0 none) me)
+    finish-asks id unfinished all = subst (λ i. Allows (Holds p) table.slots id me i (λ n. (n + 1) % 2 ^ 64) (Finishes (step table.slots i 1 0 none) me)) (sym finish-place)
+        (subst (λ (m : Me). Allows (Holds p) table.slots id m (finish_at p.graph) (λ n. (n + 1) % 2 ^ 64) (Finishes (step table.slots (finish_at p.graph) 1 0 none) m)) (sym me-is)
+        (finish-allows p table.slots id v.at v.opened unfinished all))
+
+    module _ (next : ℕ) (finished : IsSome v.at.number) (after : Contains (after_of p.graph v.at.task) next) (owed : Contains v.at.released next → ⊥) where
+      pub release-asks : (id : ℕ) → Allows (Holds p) table.slots id me (cells + cells + next) (λ n. (n + (2 ^ 64 - 1)) % 2 ^ 64) (Releases p (step table.slots (cells + cells + next) 1 0 none) me)
+      release-asks id =
+          let number = of-some v.at.number finished in
+          subst (λ (m : Me). Allows (Holds p) table.slots id m (cells + cells + next) (λ n. (n + (2 ^ 64 - 1)) % 2 ^ 64) (Releases p (step table.slots (cells + cells + next) 1 0 none) m)) (sym me-is)
+          (release-allows p table.slots id v.at v.opened number.0 next (cells + cells + next) number.1 after (not-true (is_listed v.at.released next) (λ e. owed (listed-in v.at.released next e))) (count-place next))
+
+      -- what the release tells
+      module _ (found : ℕ) (m : Me) (told : Releases p (step table.slots (cells + cells + next) 1 0 none) me found m) where
+        pub released-me : m ≡ (released_view found next (job_view v.at v.opened), [])
+        released-me = (told next (count-place next)).1 ∙ ap (λ (k : Me). (released_view found next k.0, k.1)) me-is
+
+        pub one-me : found ≡ 1 → m ≡ (released_view 1 next (job_view v.at v.opened), [])
+        one-me e = released-me ∙ ap (λ n. (released_view n next (job_view v.at v.opened), [])) e
+
+        pub split-asks : (id : ℕ) → found ≡ 1 → Splits {S = Unit {0}} (Holds p) id m.0 (without_turn m.0) (turn_view m.0)
+        split-asks id e = subst (λ (k : Me). Splits {S = Unit {0}} (Holds p) id k.0 (without_turn k.0) (turn_view k.0)) (sym (one-me e))
+            (turn-splits p id (released_view 1 next (job_view v.at v.opened)) next [] refl)
+
+-- what is read is the outcome
+pub read-gives : (p : Plan) → IsPlan p → (c mark word : ℕ) (result : Outcome) → result ≡ outcome_in mark word → mark ≡ mark_of (outcome_at p.solution c) → word ≡ word_of (outcome_at p.solution c) → result ≡ outcome_at p.solution c
+read-gives p is c mark word result gives is_mark is_word = gives ∙ ((λ i. outcome_in (is_mark i) (is_word i)) ∙ outcome-back (outcome_at p.solution c) (any-small p is c))
+
+-- ---- what the calls of a hand ask
+module _ (p : Plan) (id : ℕ) (me : Me) (hand : IsHand me) where
+  pub look-asks : (table : TableId) (cells tasks : ℕ) → IsTable p table cells tasks
+      → Allows (Holds p) table.slots id me (cells + cells + tasks) (λ n. n) (Looks p (step table.slots (cells + cells + tasks) 0 0 none) me)
+  look-asks table cells tasks is = subst (λ i. Allows (Holds p) table.slots id me i (λ n. n) (Looks p (step table.slots i 0 0 none) me)) (sym (finish-place p table cells tasks is))
+      (subst (λ (m : Me). Allows (Holds p) table.slots id m (finish_at p.graph) (λ n. n) (Looks p (step table.slots (finish_at p.graph) 0 0 none) m)) (sym hand)
+      (look-allows p id table.slots me.0.opened me.0.ran me.0.seen))
+
+  pub join-asks : (other : ℕ) (them : Me) (j : TaskView) (opened : List ℕ) → them ≡ (job_view j opened, []) → IsSome j.number → ((next : ℕ) → Contains (after_of p.graph j.task) next → Contains j.released next)
+      → Joins {S = Unit {0}} (Holds p) id me.0 other them.0 (joined_view me.0 them.0) no_view
+  join-asks other them j opened e finished paid =
+      let number = of-some j.number finished in
+      subst (λ (m : Me). Joins {S = Unit {0}} (Holds p) id m.0 other them.0 (joined_view m.0 them.0) no_view) (sym hand)
+      (subst (λ (m : Me). Joins {S = Unit {0}} (Holds p) id (hand_view me.0.opened me.0.ran me.0.seen) other m.0 (joined_view (hand_view me.0.opened me.0.ran me.0.seen) m.0) no_view) (sym e)
+      (join-joins p id 0 me.0.opened me.0.ran me.0.seen other j opened number.0 number.1 (λ u after. in-listed j.released u (paid u after))))

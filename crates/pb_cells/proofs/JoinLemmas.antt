@@ -1,0 +1,194 @@
+-- A hand looks at the finish count, and takes in a Job.
+use Rattle.std.proofs.Common.{◌≡◌, ◌∙◌, refl, sym, ap, subst, inl, inr, ◌⊎◌, ⊎_elim, ℕ, ◌<◌, Bool, true, false, List, [], ◌∷◌, ◌++◌, length, map, Some, None, IsSome, set, arith}
+use Rattle.std.specs.List.{Contains}
+use Rattle.std.proofs.Math.Bool.{cond}
+use Rattle.std.proofs.lemmas.Bool.{cases_eq}
+use Rattle.std.proofs.lemmas.Bool.Decides.{nat_tests}
+use Rattle.std.proofs.lemmas.List.Elements.{Contains-append_cases, Contains-append_left, Contains-push, Contains-push_cases}
+use mathlib.Core.Option.{some}
+use lib.ListN.{get_elem?}
+use Rattle.pb_base.proofs.ListLemmas.{in_cases, in_head, in_none, in_tail, map_in}
+use Rattle.pb_taskgraph.specs.Graphs.{EachOnce, after_of}
+use Rattle.pb_taskgraph.specs.Plans.{IsPlan, Plan}
+use Rattle.pb_core.specs.States.{with}
+use Rattle.pb_core.proofs.CountLemmas.{once-head, once-rest, one-more}
+use Rattle.pb_core.proofs.WithLemmas.{some-of, with-each, with-other, with-same}
+use Rattle.pb_cells.specs.declared.view.TaskView.{TaskView}
+use Rattle.pb_cells.specs.declared.view.View.{View}
+use Rattle.pb_cells.specs.Banks.{Bank}
+use Rattle.pb_cells.specs.Stories.{Fits, FitsOpened, FitsRan, FitsTask, IsStory, Story, is_listed}
+use Rattle.pb_cells.specs.Views.{hand_view, job_view, joined_view, no_view, numbered}
+use Rattle.pb_cells.proofs.CarryLemmas.{SameRest, SameTask, same-fits}
+use Rattle.pb_cells.proofs.ReleaseLemmas.{once-push}
+use Rattle.pb_cells.proofs.SeatLemmas.{none-some, seat-inside, seat-joins, seat-steps, some-one}
+
+-- ---- whether a number is listed
+pub in-listed : (xs : List ℕ) (n : ℕ) → Contains xs n → is_listed xs n ≡ true
+in-listed [] n h = absurd (in_none n h)
+in-listed (x ∷ xs) n h = elim (in_cases x n xs h) [
+  | inl same ↦ grind (arith, nat_tests)
+  | inr later ↦ let rest = in-listed xs n later in grind (arith, nat_tests)
+]
+
+pub listed-in : (xs : List ℕ) (n : ℕ) → is_listed xs n ≡ true → Contains xs n
+listed-in [] n e = let wrong : false ≡ true = e in absurd (cc)
+listed-in (x ∷ xs) n e = ⊎_elim
+    (λ (same : n ≡ x). subst (Contains (x ∷ xs)) (sym same) (in_head x xs))
+    (λ (other : n ≡ x → ⊥). in_tail x n xs (listed-in xs n (grind (arith, nat_tests))))
+    (cases_eq n x)
+
+once-append : (xs ys : List ℕ) → EachOnce xs → EachOnce ys → ((x : ℕ) → Contains xs x → Contains ys x → ⊥) → EachOnce (xs ++ ys)
+once-append [] ys a c apart = c
+once-append (x ∷ xs) ys a c apart = one-more x (xs ++ ys) (once-append xs ys (once-rest x xs a) c (λ z h k. apart z (in_tail x z xs h) k)) (λ h. elim (Contains-append_cases xs ys x h) [
+  | inl there ↦ once-head x xs a there
+  | inr later ↦ apart x (in_head x xs) later
+])
+
+map-push : {A B : Type 0} (f : A → B) (xs : List A) (x : A) → map f (xs ++ x ∷ []) ≡ map f xs ++ f x ∷ []
+map-push f [] x = refl
+map-push f (z ∷ zs) x = ap (λ l. f z ∷ l) (map-push f zs x)
+
+module _ (p : Plan) (is : IsPlan p) (b : Bank) (views : List View) (y : Story) (ok : IsStory p b views y) (id : ℕ) (opened : List ℕ) (ran : List (ℕ × ℕ)) (seen : ℕ) (at : get_elem? views id ≡ some (hand_view opened ran seen)) where
+  abbrev own : Fits p b y id (hand_view opened ran seen)
+  own = ok.fits id (hand_view opened ran seen) at
+
+  -- ---- a look at the finish count
+  pub look-keeps : IsStory p b (set views id (hand_view opened ran b.finish)) y
+  look-keeps = seat-steps p b views y ok id (hand_view opened ran seen) at b y (hand_view opened ran b.finish) ok.tells ok.seats
+      record { job = own.job; turns = own.turns; opened = own.opened; ran = own.ran; seen = omega arith }
+      (λ o u apart was. was)
+
+  -- ---- a Job is taken in
+  module _ (other : ℕ) (j : TaskView) (more : List ℕ) (apart : other ≡ id → ⊥) (there : get_elem? views other ≡ some (job_view j more)) where
+    abbrev theirs : Fits p b y other (job_view j more)
+    theirs = ok.fits other (job_view j more) there
+
+    abbrev fits : FitsTask p b y other j
+    fits = theirs.job
+
+    abbrev pub join_story : Story
+    join_story = record y { taker = with y.taker j.task (Some id); opener = λ t. cond (is_listed more t) (Some id) (y.opener t) }
+
+    taker-none : (t : ℕ) → join_story.taker t ≡ None → (t ≡ j.task → ⊥) × (y.taker t ≡ None)
+    taker-none t e = with-each y.taker j.task (Some id) t (λ a. a ≡ None → (t ≡ j.task → ⊥) × (y.taker t ≡ None))
+        (λ same h. absurd (none-some (Some id) id h refl))
+        (λ apart_ h. (apart_, h)) e
+
+    opener-is : (t o : ℕ) (listed : Bool) → is_listed more t ≡ listed → cond listed (Some id) (y.opener t) ≡ Some o → ((id ≡ o) × (y.opener t ≡ Some other)) ⊎ (y.opener t ≡ Some o)
+    opener-is t o true e h = inl (cc, theirs.opened.each t (listed-in more t e))
+    opener-is t o false e h = inr h
+
+    opener-own : (t : ℕ) (listed : Bool) → y.opener t ≡ Some id → cond listed (Some id) (y.opener t) ≡ Some id
+    opener-own t true h = refl
+    opener-own t false h = h
+
+    opener-more : (t : ℕ) (listed : Bool) → is_listed more t ≡ listed → Contains more t → cond listed (Some id) (y.opener t) ≡ Some id
+    opener-more t true e h = refl
+    opener-more t false e h = let wrong : false ≡ true = sym e ∙ in-listed more t h in absurd (cc)
+
+    opener-else : (t o : ℕ) (listed : Bool) → is_listed more t ≡ listed → (o ≡ other → ⊥) → y.opener t ≡ Some o → cond listed (Some id) (y.opener t) ≡ Some o
+    opener-else t o true e apart_ h = absurd (apart_ (some-one (y.opener t) o other h (theirs.opened.each t (listed-in more t e))))
+    opener-else t o false e apart_ h = h
+
+    join-task : (o : ℕ) → (o ≡ other → ⊥) → SameTask p b b y join_story o
+    join-task o apart_ = record {
+      runs = λ t h. (h.0, with-other y.taker j.task (Some id) t (λ same. apart_ (some-one (y.core.runner t) o other h.0 (ap y.core.runner same ∙ fits.runs.0))) ∙ h.1);
+      back = λ t h. (h.0, (taker-none t h.1).1);
+      wrote = λ t h. refl;
+      number = λ t h. refl;
+      released = λ t u h. refl;
+      right = λ d was. was;
+    }
+
+    takes-on : (t o : ℕ) → y.taker t ≡ Some o → join_story.taker t ≡ Some o
+    takes-on t o h = with-other y.taker j.task (Some id) t (λ same. none-some (y.taker t) o (ap y.taker same ∙ fits.runs.1) h) ∙ h
+
+    join-rest : (o : ℕ) → (o ≡ id → ⊥) → (o ≡ other → ⊥) → SameRest b b y join_story o
+    join-rest o apart_ another = record {
+      holds = λ t h. h;
+      held = λ t h. h;
+      opened = λ t h. opener-else t o (is_listed more t) refl another h;
+      takes = λ t h. takes-on t o h;
+      taken = λ t. with-each y.taker j.task (Some id) t (λ a. a ≡ Some o → y.taker t ≡ Some o) (λ same e. absurd (let wrong : id ≡ o = cc in apart_ (sym wrong))) (λ else_ e. e);
+      ended = λ t h. refl;
+      finish = omega arith;
+    }
+
+    left-fits : Fits p b join_story other no_view
+    left-fits = record {
+      job = λ t h. let was = taker-none t h.1 in was.0 (fits.only t (h.0, was.1));
+      turns = theirs.turns;
+      opened = record { each = λ t h. absurd (in_none t h); once = theirs.turns.once };
+      ran = record {
+        each = λ t n. (
+          λ h. absurd (in_none (t, n) h),
+          λ h. with-each y.taker j.task (Some id) t (λ a. a ≡ Some other → Contains {X = ℕ × ℕ} [] (t, n)) (λ same e. absurd (let wrong : id ≡ other = cc in apart (sym wrong))) (λ else_ e. (theirs.ran.each t n).1 (e, h.1)) h.0,
+        );
+        once = theirs.ran.once;
+      };
+      seen = omega arith;
+    }
+
+    module _ (n : ℕ) (ended : j.number ≡ Some n) (paid : (u : ℕ) → Contains (after_of p.graph j.task) u → is_listed j.released u ≡ true) where
+      pair-parts : (t m : ℕ) → ◌≡◌ {A = ℕ × ℕ} (j.task, n) (t, m) → (j.task ≡ t) × (n ≡ m)
+      pair-parts t m e = (ap (λ (q : ℕ × ℕ). q.0) e, ap (λ (q : ℕ × ℕ). q.1) e)
+
+      joined-ran : FitsRan join_story.taker y.core.number id (ran ++ (j.task, n) ∷ [])
+      joined-ran = record {
+        each = λ t m. (
+          λ h. elim (Contains-push_cases ran (j.task, n) (t, m) h) [
+            | inl before ↦ let was = (own.ran.each t m).0 before in (takes-on t id was.0, was.1)
+            | inr same ↦ let parts = pair-parts t m same in
+                (with-same y.taker j.task (Some id) t (sym parts.0), ap y.core.number (sym parts.0) ∙ (fits.number ∙ (ended ∙ ap (λ k. Some k) parts.1)))
+          ],
+          λ h. with-each y.taker j.task (Some id) t (λ a. a ≡ Some id → Contains (ran ++ (j.task, n) ∷ []) (t, m))
+              (λ same e. let number : m ≡ n = some-one (y.core.number t) m n h.1 (ap y.core.number same ∙ (fits.number ∙ ended)) in
+              subst (λ (q : ℕ × ℕ). Contains (ran ++ (j.task, n) ∷ []) q) (λ i. (sym same i, sym number i)) (Contains-push ran (j.task, n)))
+              (λ else_ e. Contains-append_left ran ((j.task, n) ∷ []) (t, m) ((own.ran.each t m).1 (e, h.1))) h.0,
+        );
+        once = subst EachOnce (sym (map-push (λ (e : ℕ × ℕ). e.0) ran (j.task, n))) (once-push (map (λ (e : ℕ × ℕ). e.0) ran) j.task own.ran.once never);
+      }
+        where
+          never : Contains (map (λ (e : ℕ × ℕ). e.0) ran) j.task → ⊥
+          never h = let found = map_in (λ (e : ℕ × ℕ). e.0) ran j.task h in
+              none-some (y.taker j.task) id fits.runs.1 (ap y.taker (sym found.2) ∙ ((own.ran.each found.0.0 found.0.1).0 found.1).0)
+
+      joined-opened : FitsOpened join_story.opener id (opened ++ more)
+      joined-opened = record {
+        each = λ t h. elim (Contains-append_cases opened more t h) [
+          | inl mine ↦ opener-own t (is_listed more t) (own.opened.each t mine)
+          | inr new ↦ opener-more t (is_listed more t) refl new
+        ];
+        once = once-append opened more own.opened.once theirs.opened.once (λ t mine new. apart (some-one (y.opener t) other id (theirs.opened.each t new) (own.opened.each t mine)));
+      }
+
+      joined-fits : Fits p b join_story id (joined_view (hand_view opened ran seen) (job_view j more))
+      joined-fits = record {
+        job = λ t h. own.job t (h.0, (taker-none t h.1).1);
+        turns = own.turns;
+        opened = joined-opened;
+        ran = subst (λ o. FitsRan join_story.taker y.core.number id (ran ++ numbered j.task o)) (sym ended) joined-ran;
+        seen = own.seen;
+      }
+
+      pub join-keeps : IsStory p b (set (set views id (joined_view (hand_view opened ran seen) (job_view j more))) other no_view) join_story
+      join-keeps = seat-joins p b views y ok id (hand_view opened ran seen) other (job_view j more) at apart there join_story (joined_view (hand_view opened ran seen) (job_view j more)) no_view
+          record {
+            sound = ok.tells.sound;
+            counts = ok.tells.counts;
+            finish = ok.tells.finish;
+            cells = ok.tells.cells;
+            order = ok.tells.order;
+            unbegun = ok.tells.unbegun;
+            opened = λ t o e. ⊎_elim (λ (new : (id ≡ o) × (y.opener t ≡ Some other)). ok.tells.opened t other new.1) (λ (was : y.opener t ≡ Some o). ok.tells.opened t o was) (opener-is t o (is_listed more t) refl e);
+            taken = λ t o. with-each y.taker j.task (Some id) t (λ a. a ≡ Some o → IsSome (y.core.number t) × ((u : ℕ) → Contains (after_of p.graph t) u → y.core.released t u ≡ true))
+                (λ same e. (some-of (y.core.number t) n (ap y.core.number same ∙ (fits.number ∙ ended)), λ u h. ap (λ k. y.core.released k u) same ∙ (fits.released u ∙ paid u (subst (λ k. Contains (after_of p.graph k) u) same h))))
+                (λ else_ e. ok.tells.taken t o e);
+          }
+          record {
+            holders = ok.seats.holders;
+            runners = ok.seats.runners;
+            takers = λ t i. with-each y.taker j.task (Some id) t (λ a. a ≡ Some i → i < length views) (λ same e. let here : id ≡ i = cc in subst (λ k. k < length views) here (seat-inside views id (hand_view opened ran seen) at)) (λ else_ e. ok.seats.takers t i e);
+          }
+          joined-fits left-fits
+          (λ o u apart_ another was. same-fits p b b y join_story o (join-rest o apart_ another) u (join-task o another) was)

@@ -1,0 +1,15 @@
+pub mod WordLemmas
+pub mod SeatLemmas
+pub mod TaskLemmas
+pub mod CarryLemmas
+pub mod StoreLemmas
+pub mod FinishLemmas
+pub mod ReleaseLemmas
+pub mod SplitLemmas
+pub mod JoinLemmas
+pub mod BankLemmas
+pub mod OpeningLemmas
+pub mod RuleLemmas
+pub mod CallLemmas
+pub mod FirstLemmas
+pub mod ShownLemmas

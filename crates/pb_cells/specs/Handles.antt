@@ -1,0 +1,70 @@
+-- What contracts see of Jobs and Hands.
+use Rattle.std.specs.Prelude.{◌≡◌, ℕ, ◌<◌, ◌++◌, List, [], ◌∷◌, length, Option, Some, None}
+use Rattle.atomic_table.specs.Seated.{TableId}
+use Rattle.pb_values.specs.Cells.{Turn}
+use Rattle.pb_taskgraph.specs.Known.{known_turn}
+use Rattle.pb_taskgraph.specs.Plans.{IsPlan, Plan}
+use Rattle.pb_cells.specs.declared.view.TaskView.{TaskView}
+use Rattle.pb_cells.specs.Banks.{width}
+use Rattle.pb_cells.specs.Steps.{Me}
+use Rattle.pb_cells.specs.Views.{after_release, ended_by, hand_view, job_view, untouched}
+
+-- a Job: its table, what it knows of its task, and the tasks that it has opened
+pub record JobValue : Type 0 where
+  pub table : TableId
+  pub at : TaskView
+  pub opened : List ℕ
+
+-- a Hand: its table, the tasks that it has opened, the finished tasks that it has taken in with their numbers, and the count
+-- that it has seen
+pub record HandValue : Type 0 where
+  pub table : TableId
+  pub opened : List ℕ
+  pub ran : List (ℕ × ℕ)
+  pub seen : ℕ
+
+-- no table
+abbrev pub no_table : TableId
+no_table = record { words = 0; slots = 0; views_name = 0; atom = 0; block = 0; offset = 0; slot_names = [] }
+
+-- a Job of a task of which nothing is done, and a Hand that has done nothing
+abbrev pub new_job : TableId → ℕ → JobValue
+new_job table t = record { table = table; at = untouched t; opened = [] }
+
+abbrev pub new_hand : TableId → HandValue
+new_hand table = record { table = table; opened = []; ran = []; seen = 0 }
+
+-- the task that a seat runs
+abbrev pub task_of : Option TaskView → TaskView
+task_of None = untouched 0
+task_of (Some j) = j
+
+-- a seat of a Job: it runs a task, and has no other turn
+pub record IsJob (p : Plan) (me : Me) : Type 0 where
+  pub me_is : me ≡ (job_view (task_of me.0.job) me.0.opened, [])
+  pub task : (task_of me.0.job).task < length p.graph.tasks
+
+-- a seat of a Hand: it runs no task, and has no turn
+abbrev pub IsHand : Me → Type 0
+IsHand me = me ≡ (hand_view me.0.opened me.0.ran me.0.seen, [])
+
+-- what a port tells of the task of a Job
+abbrev pub turn_at : Plan → TaskView → Turn
+turn_at p j = known_turn p j.task j.written
+
+-- A successor is released. Where its count became 0, the release has opened it, and there is a Job of it; else there is none.
+abbrev pub HasReleased : JobValue → ℕ → Option JobValue → JobValue → Type 0
+HasReleased old next (Some job) new =
+    (new ≡ record old { at = after_release next 0 old.at; opened = old.opened ++ next ∷ [] }) × (job ≡ new_job old.table next)
+HasReleased old next None new = (0 < new.at.left) × (new ≡ record old { at = after_release next new.at.left old.at })
+
+-- a Hand takes in a Job
+abbrev pub hand_with : HandValue → JobValue → HandValue
+hand_with hand job = record hand { opened = hand.opened ++ job.opened; ran = hand.ran ++ ended_by (Some job.at) }
+
+-- a table has the words of a plan of so many cells and tasks
+pub record IsTable (p : Plan) (table : TableId) (cell_count task_count : ℕ) : Type 0 where
+  pub plan : IsPlan p
+  pub words : table.words ≡ width p.graph
+  pub cells : cell_count ≡ p.graph.cells
+  pub tasks : task_count ≡ length p.graph.tasks

@@ -1,0 +1,62 @@
+-- What a step on a word of the table tells of its seat.
+use Rattle.std.specs.Prelude.{◌≡◌, ℕ, ◌<◌, ◌≤◌, List, length, map, slice_index, Option, Some, None}
+use Rattle.std.specs.List.{Contains}
+use Rattle.atomic_table.specs.Table as table
+use Rattle.pb_taskgraph.specs.Graphs.{EachOnce, before_of}
+use Rattle.pb_taskgraph.specs.Plans.{Plan, outcome_at}
+use Rattle.pb_taskgraph.specs.Turns.{MayRead}
+use Rattle.pb_cells.specs.declared.view.TaskView.{TaskView}
+use Rattle.pb_cells.specs.declared.view.View.{View}
+use Rattle.pb_cells.specs.Banks.{count_at, mark_at, value_at}
+use Rattle.pb_cells.specs.Views.{after_finish, after_mark, after_store, released_view, with_task}
+use Rattle.pb_cells.specs.Words.{mark_of, word_of}
+
+-- a step on a word, and what a seat knows and holds
+abbrev pub Step : Type 0
+Step = table.Step (Unit {0})
+
+abbrev pub Me : Type 0
+Me = table.Me (Unit {0}) View
+
+-- a seat runs a task that isn't finished, and this is the next cell of the task's own order
+abbrev pub IsNext : Plan → Option TaskView → ℕ → Type 0
+IsNext p None c = ⊥
+IsNext p (Some j) c = (j.number ≡ None) × (j.written < length (p.order j.task)) × (c ≡ slice_index (p.order j.task) j.written)
+
+-- the value of a cell is stored, and of no other than the next one
+abbrev pub Stores : Plan → Step → Me → ℕ → Me → Type 0
+Stores p s me n after = (after ≡ (with_task after_store me.0, me.1)) × ((c : ℕ) × (s.word ≡ value_at p.graph c) × IsNext p me.0.job c)
+
+-- the cell is written
+abbrev pub Marks : Step → Me → ℕ → Me → Type 0
+Marks s me n after = after ≡ (with_task after_mark me.0, me.1)
+
+-- the task is finished with the number that was found
+abbrev pub Finishes : Step → Me → ℕ → Me → Type 0
+Finishes s me n after = after ≡ (with_task (after_finish n) me.0, me.1)
+
+-- what a seat has opened: tasks with predecessors, each once; and what it has taken in: tasks, each once
+pub record AreTasks (p : Plan) (tasks : List ℕ) (ended : List (ℕ × ℕ)) : Type 0 where
+  pub opened : (t : ℕ) → Contains tasks t → (t < length p.graph.tasks) × (0 < length (before_of p.graph t))
+  pub opened_once : EachOnce tasks
+  pub ran : (t n : ℕ) → Contains ended (t, n) → (t < length p.graph.tasks) × (n < length p.graph.tasks)
+  pub ran_once : EachOnce (map (λ e. e.0) ended)
+
+-- the finish count is seen, and what the seat has opened and taken in are tasks
+abbrev pub Looks : Plan → Step → Me → ℕ → Me → Type 0
+Looks p s me n after = (n ≤ length p.graph.tasks) × (after ≡ (record me.0 { seen = n }, me.1)) × AreTasks p me.0.opened me.0.ran
+
+-- a successor is released, whose count was the number that was found
+abbrev pub Releases : Plan → Step → Me → ℕ → Me → Type 0
+Releases p s me n after = (next : ℕ) → s.word ≡ count_at p.graph next → (0 < n) × (after ≡ (released_view n next me.0, me.1))
+
+-- a seat's task may read a cell
+abbrev pub CanRead : Plan → Option TaskView → ℕ → Type 0
+CanRead p None c = ⊥
+CanRead p (Some j) c = MayRead p j.task j.written c
+
+-- a word of a cell that may be read is that of the solution
+abbrev pub Reads : Plan → Step → Me → ℕ → Me → Type 0
+Reads p s me n after =
+    (after ≡ me)
+    × ((c : ℕ) → CanRead p me.0.job c → (s.word ≡ mark_at p.graph c → n ≡ mark_of (outcome_at p.solution c)) × (s.word ≡ value_at p.graph c → n ≡ word_of (outcome_at p.solution c)))

@@ -1,0 +1,168 @@
+ghost use Rattle.std.specs.Prelude.{◌≡◌, ◌+◌, ◌≤◌, ℕ, IfOk, IsSome, None, Some, length, map, replicate, slice_get};
+ghost use Rattle.std.specs.List.{Contains};
+ghost use Rattle.pb_taskgraph.specs.Graphs.{after_of};
+ghost use Rattle.pb_taskgraph.specs.Plans.{outcome_at};
+ghost use Rattle.pb_cells.specs.Handles.{HasReleased, hand_with, new_hand, new_job, turn_at};
+ghost use Rattle.pb_cells.specs.Steps.{AreTasks};
+ghost use Rattle.pb_cells.specs.Views.{after_finish, after_mark, ready_tasks};
+
+use crate::deal::{deal_hands, deal_jobs};
+use crate::first::{first_words, ready_list};
+use crate::seats::{Hand, Job};
+use crate::steps::{
+    AddFinish, CellsRule, FirstTurn, LoadCell, LoadFinish, StoreMark, StoreValue, TakeFromCount,
+    TakeIn,
+};
+use crate::view::View;
+use crate::words::{pack, unpack};
+use atomic_table::Table;
+use pb_taskgraph::{NamesWork, Work};
+use pb_values::Outcome;
+use std::alloc::{AllocError, Global};
+use std::marker::Model;
+
+/// The cells of a work, the counts of its tasks and the number of finished ones, as words that threads change by single steps.
+/// Contracts see it as the table that it is.
+#[derive(Drop)]
+pub struct Cells<N: NamesWork> {
+    pub(crate) table: Table<(), View, (), CellsRule<N>, Global>,
+    pub(crate) cells: usize,
+    pub(crate) tasks: usize,
+}
+
+impl<N: NamesWork> Model for Cells<N> {
+    ghost use Rattle.atomic_table.specs.Seated.{TableId};
+    ghost use Rattle.pb_cells.specs.Handles.{IsTable};
+
+    ghost Value = { TableId };
+
+    ghost view = { λ c. c.table.shared.table_id };
+
+    ghost invariant = { λ c. IsTable N.plan c.table.shared.table_id c.cells c.tasks };
+}
+
+impl<N: NamesWork> Cells<N> {
+    /// The cells of a work before any step, so many Hands, and a Job for each task without predecessors, in order. All are of
+    /// one table.
+    pub fn new<W: Work>(
+        alloc: Global,
+        work: &W,
+        hands: u32,
+    ) -> Result<(Cells<N>, Vec<Hand<N>>, Vec<Job<N>>), AllocError>
+        requires name { W.plan work.now ≡ N.plan }
+        ensures hands { IfOk result (λ r. r.1.items ≡ replicate hands (new_hand r.0)) }
+        ensures jobs { IfOk result (λ r. r.2.items ≡ map (new_job r.0) (ready_tasks N.plan)) }
+    {
+        let graph = work.graph();
+        let words = first_words(alloc, work)?;
+        let ready = ready_list(alloc, work)?;
+        let (table, mut first) = Table::of_words(alloc, &words, &())?;
+        let cells = Cells {
+            table,
+            cells: graph.cells() as usize,
+            tasks: graph.tasks().len(),
+        };
+        let jobs = deal_jobs(alloc, &cells, &mut first, &ready)?;
+        let dealt = deal_hands(alloc, &cells, &mut first, hands)?;
+        Ok((cells, dealt, jobs))
+    }
+
+    /// The outcome of a cell that the task may read by now.
+    pub fn read(&self, job: &mut Job<N>, cell: u64) -> Outcome
+        requires table { job.old.table ≡ self.now }
+        requires known { IsSome ((turn_at N.plan job.old.at).outcomes cell) }
+        ensures outcome { result ≡ outcome_at N.plan.solution cell }
+        ensures same { job.new ≡ job.old }
+    {
+        let mark = self
+            .table
+            .shared
+            .load::<LoadCell<N>>(&mut job.seat, self.cells + cell as usize);
+        let word = self
+            .table
+            .shared
+            .load::<LoadCell<N>>(&mut job.seat, cell as usize);
+        unpack(mark, word)
+    }
+
+    /// Writes the next cell of the task's own order, with the solution's outcome.
+    pub fn write(&self, job: &mut Job<N>, cell: u64, v: Outcome)
+        requires table { job.old.table ≡ self.now }
+        requires next { slice_get (turn_at N.plan job.old.at).left 0 ≡ Some (cell, v) }
+        ensures { job.new ≡ record job.old { at = after_mark job.old.at } }
+    {
+        let place = cell as usize;
+        let cells = self.cells;
+        let (mark, word) = pack(v);
+        self.table
+            .shared
+            .store::<StoreValue<N>>(&mut job.seat, place, word);
+        let mark_place = cells + place;
+        self.table
+            .shared
+            .store::<StoreMark>(&mut job.seat, mark_place, mark);
+    }
+
+    /// Finishes the task, all cells of which are written, and draws its finish number.
+    pub fn finish(&self, job: &mut Job<N>) -> u64
+        requires table { job.old.table ≡ self.now }
+        requires unfinished { job.old.at.number ≡ None }
+        requires written { length (N.plan.order job.old.at.task) ≤ job.old.at.written }
+        ensures { job.new ≡ record job.old { at = after_finish result job.old.at } }
+    {
+        self.table
+            .shared
+            .fetch_add::<AddFinish>(&mut job.seat, self.cells + self.cells + self.tasks, 1)
+    }
+
+    /// Releases a successor of the finished task. A Job of the successor where its count became 0.
+    pub fn release(&self, job: &mut Job<N>, next: u32) -> Option<Job<N>>
+        requires table { job.old.table ≡ self.now }
+        requires finished { IsSome job.old.at.number }
+        requires successor { Contains (after_of N.plan.graph job.old.at.task) next }
+        requires owed { Contains job.old.at.released next → ⊥ }
+        ensures { HasReleased job.old next result job.new }
+    {
+        let found = self
+            .table
+            .shared
+            .fetch_sub::<TakeFromCount<N>>(
+                &mut job.seat,
+                self.cells + self.cells + next as usize,
+                1,
+            );
+        if found != 1 {
+            return None;
+        }
+        Some(Job::of(
+            self.table.shared.split_seat::<FirstTurn>(&mut job.seat),
+            next,
+        ))
+    }
+
+    /// A Hand takes in a Job whose task is finished and has released all its successors.
+    pub fn end(&self, hand: &mut Hand<N>, job: Job<N>)
+        requires hand_table { hand.old.table ≡ self.now }
+        requires job_table { job.table ≡ self.now }
+        requires finished { IsSome job.at.number }
+        requires paid { (next : ℕ) → Contains (after_of N.plan.graph job.at.task) next → Contains job.at.released next }
+        ensures { hand.new ≡ hand_with hand.old job }
+    {
+        self.table
+            .shared
+            .join_seat::<TakeIn>(&mut hand.seat, job.into_seat());
+    }
+
+    /// How many tasks are finished by now. What the Hand's Jobs have opened are tasks with predecessors, and what it has taken in
+    /// are tasks, each once.
+    pub fn finished(&self, hand: &mut Hand<N>) -> u64
+        requires table { hand.old.table ≡ self.now }
+        ensures few { result ≤ length N.plan.graph.tasks }
+        ensures seen { hand.new ≡ record hand.old { seen = result } }
+        ensures told { AreTasks N.plan hand.new.opened hand.new.ran }
+    {
+        self.table
+            .shared
+            .load::<LoadFinish<N>>(&mut hand.seat, self.cells + self.cells + self.tasks)
+    }
+}

@@ -1,0 +1,57 @@
+ghost use Rattle.std.specs.Prelude.{◌≡◌, ◌<◌, true, [], ◌∷◌, ℕ, List, length};
+ghost use Rattle.std.specs.List.{Contains};
+ghost use Rattle.atomic_table.specs.Table.{State};
+ghost use Rattle.pb_values.specs.declared.outcome.Outcome.{Outcome};
+ghost use Rattle.pb_taskgraph.specs.Graphs.{EachOnce, cells_of};
+ghost use Rattle.pb_taskgraph.specs.Plans.{IsPlan, IsSmall, Plan, outcome_at};
+ghost use Rattle.pb_core.specs.Listed.{WritesInOrder};
+ghost use Rattle.pb_core.specs.Snapshots.{IsSoundSnapshot, Snapshot};
+ghost use Rattle.pb_cells.specs.declared.view.View.{View};
+ghost use Rattle.pb_cells.specs.Banks.{bank_of};
+ghost use Rattle.pb_cells.specs.Openings.{IsFirst};
+ghost use Rattle.pb_cells.specs.Shown.{EverySeat, HasTurn, IsOpened, IsTurn, OnTask, OneSeat, SaysFinished, SeatWith, ShowsIt, SomeSeat};
+ghost use Rattle.pb_cells.specs.Steps.{IsNext};
+ghost use Rattle.pb_cells.specs.Stories.{Holds};
+ghost use Rattle.pb_cells.specs.Views.{first_view};
+ghost use Rattle.pb_cells.specs.Words.{mark_of, outcome_in, word_of};
+
+/// A law: the mark and the word of an outcome give it back.
+pub fn a_written_pair_gives_its_outcome_back()
+    ensures { (v : Outcome) → IsSmall v → outcome_in (mark_of v) (word_of v) ≡ v }
+{}
+
+/// A law: the rule of the table can be met. The first words and one seat, which holds the turns of the tasks without
+/// predecessors, meet it.
+pub fn the_first_words_meet_the_rule()
+    ensures { (p : Plan) (words : List ℕ) → IsPlan p → IsFirst p words → Holds p (record { words = words; homes = []; views = first_view p ∷ [] }) }
+{}
+
+/// A law: wherever the rule holds, the words and the views show a sound snapshot, in which the written cells of each task are
+/// the first of its own order.
+pub fn the_words_and_views_show_a_sound_snapshot()
+    ensures { (p : Plan) (s : State (Unit {0}) View) → Holds p s → (q : Snapshot) × IsSoundSnapshot p q × WritesInOrder p q × ShowsIt p (bank_of p.graph s.words) s.views q }
+{}
+
+/// A law: a task that waits for no release and isn't finished has its turn in just one view, and no other task has a turn.
+pub fn each_turn_is_in_one_view()
+    ensures one { (p : Plan) (s : State (Unit {0}) View) (t : ℕ) → Holds p s → t < length p.graph.tasks → (bank_of p.graph s.words).count t ≡ 0
+        → ((n : ℕ) → SomeSeat s.views (SaysFinished t n) → ⊥) → OneSeat s.views (HasTurn t) }
+    ensures no_other { (p : Plan) (s : State (Unit {0}) View) (t id : ℕ) → Holds p s → SeatWith s.views (HasTurn t) id → IsTurn p (bank_of p.graph s.words) s.views t }
+{}
+
+/// A law: a task that a view has opened waits for no release and has a predecessor, no other view has opened it, and this one
+/// has opened it once.
+pub fn each_task_is_opened_at_most_once()
+    ensures one { (p : Plan) (s : State (Unit {0}) View) (t id : ℕ) → Holds p s → SeatWith s.views (λ v. Contains v.opened t) id → IsOpened p (bank_of p.graph s.words) s.views id t }
+    ensures once { (p : Plan) (s : State (Unit {0}) View) → Holds p s → EverySeat s.views (λ v. EachOnce v.opened) }
+{}
+
+/// A law: a cell isn't written before its turn. The next cell of a task that a view has begun isn't written, and where the view
+/// says that its value is stored, this is the solution's; of a task that has no turn and isn't finished no cell is written.
+pub fn a_cell_is_written_in_its_turn()
+    ensures next { (p : Plan) (s : State (Unit {0}) View) (c id : ℕ) → Holds p s → SeatWith s.views (λ v. IsNext p v.job c) id → (bank_of p.graph s.words).mark c ≡ 0 }
+    ensures stored { (p : Plan) (s : State (Unit {0}) View) (c id : ℕ) → Holds p s → SeatWith s.views (λ v. IsNext p v.job c × OnTask (λ j. j.stored ≡ true) v.job) id
+        → (bank_of p.graph s.words).value c ≡ word_of (outcome_at p.solution c) }
+    ensures idle { (p : Plan) (s : State (Unit {0}) View) (t c : ℕ) → Holds p s → t < length p.graph.tasks → Contains (cells_of p.graph t) c
+        → (SomeSeat s.views (HasTurn t) → ⊥) → ((n : ℕ) → SomeSeat s.views (SaysFinished t n) → ⊥) → (bank_of p.graph s.words).mark c ≡ 0 }
+{}

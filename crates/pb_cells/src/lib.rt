@@ -1,0 +1,28 @@
+//! In: a work and a number of hands. Out: `Cells`, one table of words, a `Job` for each task that waits for nothing, and the
+//! `Hand`s. Threads that share the table run the tasks: who has a Job reads cells, writes those of its task, finishes it and
+//! releases its successors; the release that makes a successor's count 0 gives a Job of it, and no other release does.
+//!
+//! The theorem is the rule of the table, `Holds`: between any two atomic steps of any threads, its words and what the Jobs and
+//! the Hands know tell a state of the machine of `pb_core`, with the solution's outcomes. The laws say what follows from it.
+#![tactic(auto)]
+
+mod cells;
+mod deal;
+mod first;
+mod laws;
+mod names;
+mod seats;
+mod steps;
+mod view;
+mod words;
+
+pub use cells::Cells;
+pub use laws::{
+    a_cell_is_written_in_its_turn, a_written_pair_gives_its_outcome_back,
+    each_task_is_opened_at_most_once, each_turn_is_in_one_view, the_first_words_meet_the_rule,
+    the_words_and_views_show_a_sound_snapshot,
+};
+pub use names::NamesTable;
+pub use seats::{Hand, Job};
+pub use steps::CellsRule;
+pub use view::{TaskView, View};
