@@ -12,10 +12,10 @@ use Rattle.pb_taskgraph.proofs.GraphLemmas.{after-at, after-past, before-at, bef
 use Rattle.pb_run_trials.specs.Sums.{IsRow, IsStep, one_after, one_before}
 
 -- lists of two numbers at most
-none-once : EachOnce []
+pub none-once : EachOnce []
 none-once i j below inside same = absurd (omega arith)
 
-one-once : (a : ℕ) → EachOnce (a ∷ [])
+pub one-once : (a : ℕ) → EachOnce (a ∷ [])
 one-once a i j below inside same = omega arith
 
 two-once : (a b : ℕ) → a < b → EachOnce (a ∷ b ∷ [])
@@ -26,10 +26,10 @@ two-once a b less (suc zero) (suc zero) below inside same = refl
 two-once a b less (suc (suc i)) j below inside same = absurd (omega arith)
 two-once a b less i (suc (suc j)) below inside same = absurd (omega arith)
 
-one-in : (a c : ℕ) → Contains (a ∷ []) c → a ≡ c
+pub one-in : (a c : ℕ) → Contains (a ∷ []) c → a ≡ c
 one-in a c h = ⊎_elim (λ (same : a ≡ c). same) (λ (none : Contains [] c). absurd (in_none c none)) (in_cases a c [] h)
 
-in-one : (a c : ℕ) → a ≡ c → Contains (a ∷ []) c
+pub in-one : (a c : ℕ) → a ≡ c → Contains (a ∷ []) c
 in-one a c same = subst (Contains (a ∷ [])) same (in_head a [])
 
 -- the cells of a task, and its links

@@ -4,6 +4,10 @@
 #[cfg(test)]
 mod boards;
 #[cfg(test)]
+mod cells;
+pub mod driven;
+pub mod given;
+#[cfg(test)]
 mod links;
 #[cfg(test)]
 mod machine;

@@ -1,0 +1,5 @@
+use Rattle.pb_run_trials.proofs.DrivenLemmas.{job-dealt}
+use Rattle.pb_run_trials.proofs.cells.two_hands.Goals as goal
+
+pub by_two_hands-requires-clause-job : goal.by_two_hands-requires-clause-job
+by_two_hands-requires-clause-job g c = job-dealt c.args.work.now g.N.NamesWork.plan c.requires.name c.requires.given _ _ _ _ c.in_ok-cells.ensures.jobs c.in-Some-Some-Some.ensures''.items
