@@ -14,8 +14,8 @@ use pb_linear::{SIZE_TOP, Sizes};
 use pb_program::{PlanCall, Prog, Rule, Slot, Transform};
 use std::alloc::{AllocError, Global};
 
-/// The sides of what some names in a plan name, name by name.
-fn sides_of_slots(
+/// The width and the height of each matrix that some names in a plan of transform `t` name, name by name, at sizes of at most `SIZE_TOP`.
+pub fn sides_of_slots(
     alloc: Global,
     t: &Transform,
     rule: &Rule,

@@ -31,7 +31,7 @@ mod tally;
 pub use binding::bind;
 pub use count::MOST_CALLS;
 pub use failed::failed_call;
-pub use fitted::sizes_of_call;
+pub use fitted::{sides_of_slots, sizes_of_call};
 pub use fitting::{can_enter, fits};
 pub use laws::{a_tally_tells_each_limit, a_well_formed_transform_is_callable, tallies_add_up};
 pub use limits::check_counts;

@@ -25,8 +25,8 @@ fn is_cell_rule(transform: &Transform, k: u32) -> bool
     }
 }
 
-/// The places of two rectangles.
-fn cut_by(square: &Rect, r: &Rect) -> Rect
+/// The places that two rectangles have in common.
+pub fn cut_by(square: &Rect, r: &Rect) -> Rect
     ensures { result ≡ cut_by square.now r.now }
 {
     Rect {

@@ -18,7 +18,9 @@ mod parts;
 mod tasks;
 mod wides;
 
+pub use blocks::cut_by;
 pub use job::Job;
 pub use laws::{a_part_has_the_rule_of_its_cells, each_cell_lies_in_one_part};
 pub use part::FramePart;
+pub use parts::has_place;
 pub use tasks::{FrameTasks, frame};

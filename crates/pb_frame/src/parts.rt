@@ -64,7 +64,7 @@ fn rect_of(node: &Node, s: &Sizes) -> Rect
 }
 
 /// Whether a rectangle has a place.
-pub(crate) fn has_place(r: &Rect) -> bool
+pub fn has_place(r: &Rect) -> bool
     ensures { result ≡ has_place r.now }
 {
     r.x0 < r.x1 && r.y0 < r.y1

@@ -34,7 +34,6 @@ HasSpot spots base x y = (s : Spot) × Contains spots s × (s.base ≡ base) × 
 abbrev pub IsWithin : ℕ → Spot → Type 0
 IsWithin bases s = s.base < bases
 
--- all spots of a task are
-pub record AllWithin (bases : ℕ) (task : PlacesValue) : Type 0 where
-  pub parts : All (IsWithin bases) task.parts
-  pub boxes : All (IsWithin bases) task.boxes
+-- all parts of a task are
+abbrev pub AllWithin : ℕ → PlacesValue → Type 0
+AllWithin bases task = All (IsWithin bases) task.parts

@@ -1,8 +1,8 @@
 ghost use Rattle.std.specs.Prelude.{◌≡◌, ◌++◌, ◌<◌, IfOk, OnOk, length};
-ghost use Rattle.std.specs.List.{All, flat_map};
+ghost use Rattle.std.specs.List.{flat_map};
 ghost use Rattle.pb_links.specs.Links.{predecessors};
-ghost use Rattle.pb_links.specs.Owners.{IsSortedOut, IsTable, box_hits, hits, is_hit};
-ghost use Rattle.pb_links.specs.Spots.{AllWithin, IsWithin, meets};
+ghost use Rattle.pb_links.specs.Owners.{IsSortedOut, IsTable, box_hits, hits, is_hit, on};
+ghost use Rattle.pb_links.specs.Spots.{meets};
 
 use crate::owners::{Owned, Owners};
 use crate::places::{Places, Spot};
@@ -37,6 +37,16 @@ fn find(found: &mut Vec<u32>, owners: &[Owned], rect: &Rect, task: u32) -> Resul
     Ok(())
 }
 
+/// The parts on a matrix.
+fn on(table: &[Owners], base: u32) -> &[Owned]
+    ensures { result.now ≡ on table.now base }
+{
+    match table.get(base as usize) {
+        Some(owners) => owners.list(),
+        None => &[],
+    }
+}
+
 /// Finds the other tasks that make a part of one of these boxes, some of them several times.
 fn find_all(
     alloc: Global,
@@ -44,14 +54,13 @@ fn find_all(
     task: u32,
     boxes: &[Spot],
 ) -> Result<Vec<u32>, AllocError>
-    requires { All (IsWithin (length table.now)) boxes.now }
     ensures { IfOk result (λ found. found.items ≡ flat_map (box_hits table.now task) boxes.now) }
 {
     let mut found = Vec::new(alloc);
     for spot in boxes {
         find(
             &mut found,
-            table[spot.base as usize].list(),
+            on(table, spot.base),
             &spot.rect,
             task,
         )?;
@@ -75,7 +84,6 @@ pub(crate) fn predecessors_of(
     task: u32,
 ) -> Result<Vec<u32>, AllocError>
     requires table { IsTable tasks.now (length tasks.now) (length table.now) table.now }
-    requires bases { All (AllWithin (length table.now)) tasks.now }
     requires task { task < length tasks.now }
     ensures { IfOk result (λ found. found.items ≡ predecessors tasks.now task) }
 {

@@ -13,7 +13,7 @@ use crate::refusal::LinksRefusal;
 use crate::turned::turned;
 use std::alloc::{AllocError, Global};
 
-/// The predecessors and the successors of each task. `bases` is the number of matrices: each spot is of one of them. It
+/// The predecessors and the successors of each task. `bases` is the number of matrices: each part is of one of them. It
 /// refuses as soon as it has found more links than `most`. The time is that of looking, for each box, at all parts of its
 /// matrix.
 pub fn links(alloc: Global, bases: u32, tasks: &[Places], most: u64) -> Result<Links, LinksRefusal>
@@ -45,7 +45,6 @@ fn all_before(
     most: u64,
 ) -> Result<Vec<Numbers>, LinksRefusal>
     requires table { IsTable tasks.now (length tasks.now) (length table.now) table.now }
-    requires bases { All (AllWithin (length table.now)) tasks.now }
     requires few { length tasks.now < 2 ^ 32 }
     requires most { most ≤ 2 ^ 62 }
     ensures found { IfOk result (λ before. before.items ≡ all_predecessors tasks.now) }

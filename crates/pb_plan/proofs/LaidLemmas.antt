@@ -58,10 +58,10 @@ module _ (number : ℕ) (t : ProgTransform) (a : AnalysisValue) (sizes : List �
   none_at : (m : ℕ) (d : DeclValue) → slice_get t.matrices m ≡ Some d → HasNoNegative (leasts_of t.ranges) d
   none_at m d decl = all_at (HasNoNegative (leasts_of t.ranges)) t.matrices m d (all_at IsBounded i.program number t i.sound.bounded i.there).sides.each decl
 
-  wide_at : (m : ℕ) (d : DeclValue) → slice_get t.matrices m ≡ Some d → pos 0 ≤ℤ exact_value d.w sizes
+  pub wide_at : (m : ℕ) (d : DeclValue) → slice_get t.matrices m ≡ Some d → pos 0 ≤ℤ exact_value d.w sizes
   wide_at m d decl = all_at (IsNeverNegative (leasts_of t.ranges)) (sides d) 0 d.w (none_at m d decl).sides refl sizes i.in_range
 
-  tall_at : (m : ℕ) (d : DeclValue) → slice_get t.matrices m ≡ Some d → pos 0 ≤ℤ exact_value d.h sizes
+  pub tall_at : (m : ℕ) (d : DeclValue) → slice_get t.matrices m ≡ Some d → pos 0 ≤ℤ exact_value d.h sizes
   tall_at m d decl = tall (length t.sizes) d (leasts_of t.ranges) sizes (d.dims == 1) refl (at_place (IsDecl (length t.sizes)) t.matrices m d (at_place (IsTransform (length i.program)) i.program number t i.well_formed.transforms i.there).matrices decl) (none_at m d decl) i.in_range
 
   pub laid : (views : List View) → AreInARow 0 sizes t.matrices views → AreLaid t.matrices sizes views

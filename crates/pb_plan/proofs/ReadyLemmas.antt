@@ -54,17 +54,6 @@ module _ (t : ProgTransform) (sizes : List ℕ) where
   abbrev IsOf : Spot → Type 0
   IsOf = IsWithin (length t.matrices)
 
-  boxes_of_rule : (k : ℕ) (P : ProgRule → Type 0) (box : Read → Spot) → ((r : Read) → (box r).base ≡ r.matrix) → HasRule t k P → (s : Spot) → Contains (option_map_or (λ (rule : ProgRule). map box rule.reads) (slice_get t.rules k) []) s → IsOf s
-  boxes_of_rule k P box base h s c =
-      let r = map_in box h.rule.reads s (subst (λ l. Contains l s) (ap (λ o. option_map_or (λ (rule : ProgRule). map box rule.reads) o []) h.there) c) in
-      omega (arith, at_each (λ (q : Read). q.matrix < length t.matrices) h.rule.reads h.matrices r.0 r.1, base r.0, ap (λ (q : Spot). q.base) r.2)
-
-  boxes_within : (o : Option ℕ) (parts : List FramePart) → IsJob t sizes o parts → (s : Spot) → Contains (boxes_by t sizes o parts) s → IsOf s
-  boxes_within (Some k) parts h s c = boxes_of_rule k _ (whole_box t.matrices sizes) (λ r. refl) h s c
-  boxes_within None parts h s c =
-      let part = flat_in (part_boxes t sizes) parts s c in
-      boxes_of_rule part.0.rule _ (part_box t.matrices sizes part.0.rect) (λ r. refl) (at_each (λ (part : FramePart). HasRule t part.rule (λ rule. IsBoxed t.matrices sizes rule.reads part.rect)) parts h part.0 part.1) s part.2
-
 module _ (config : ConfigValue) (number : ℕ) (t : ProgTransform) (a : AnalysisValue) (sizes : List ℕ) (grain : ℕ) (i : IsInstance number t a sizes) (valid : IsValid i.program config) (views : List View) (row : AreInARow 0 sizes t.matrices views) where
   abbrev pub jobs : List JobValue
   jobs = jobs_for config number t a sizes grain
@@ -102,13 +91,10 @@ module _ (config : ConfigValue) (number : ℕ) (t : ProgTransform) (a : Analysis
     job_within : (job : JobValue) → Contains jobs job → AllWithin (length t.matrices) (places_of t a.nodes sizes job)
     job_within job h =
         let j = at_in jobs job h in
-        record {
-          parts = each_of (IsOf t sizes) (map (spot_of a.nodes) job.parts) (λ s c.
-              let part = map_in (spot_of a.nodes) job.parts s c in
-              let l = lies j.0 job j.1 part.0 part.1 in
-              omega (arith, slice_get_within t.matrices l.node.matrix l.decl l.declared, ap (λ o. option_map_or (λ (n : NodeValue). n.matrix) o 0) l.there, ap (λ (q : Spot). q.base) part.2));
-          boxes = each_of (IsOf t sizes) (boxes_by t sizes job.rule job.parts) (boxes_within t sizes job.rule job.parts (at_each (λ (job : JobValue). IsJob t sizes job.rule job.parts) jobs (are_jobs config number t a sizes grain i valid short) job h));
-        }
+        each_of (IsOf t sizes) (map (spot_of a.nodes) job.parts) (λ s c.
+            let part = map_in (spot_of a.nodes) job.parts s c in
+            let l = lies j.0 job j.1 part.0 part.1 in
+            omega (arith, slice_get_within t.matrices l.node.matrix l.decl l.declared, ap (λ o. option_map_or (λ (n : NodeValue). n.matrix) o 0) l.there, ap (λ (q : Spot). q.base) part.2))
 
     within : All (AllWithin (length t.matrices)) (map (places_of t a.nodes sizes) jobs)
     within = each_of (AllWithin (length t.matrices)) (map (places_of t a.nodes sizes) jobs) (λ p h. let job = map_in (places_of t a.nodes sizes) jobs p h in subst (AllWithin (length t.matrices)) job.2 (job_within job.0 job.1))

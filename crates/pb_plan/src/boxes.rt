@@ -1,4 +1,4 @@
-ghost use Rattle.std.specs.Prelude.{◌≡◌, ◌<◌, ◌≤◌, ◌^◌, ◌++◌, OnOk, length, map, pos};
+ghost use Rattle.std.specs.Prelude.{◌≡◌, ◌<◌, ◌≤◌, ◌^◌, ◌++◌, IfOk, OnOk, length, map, pos};
 ghost use Rattle.std.specs.List.{All};
 ghost use Rattle.pb_linear.specs.Sizes.{sizes_of};
 ghost use Rattle.pb_program.specs.declared.view.Read.{Read};
@@ -14,7 +14,7 @@ use pb_links::Spot;
 use pb_program::{Decl, Read};
 use pb_values::{Rect, View};
 use pb_views::Window;
-use std::alloc::AllocError;
+use std::alloc::{AllocError, Global};
 
 /// The box of a view over the corner cells of a part.
 fn box_over(read: &Read, view: &View, s: &Sizes, part: &Rect) -> Spot
@@ -91,4 +91,24 @@ pub(crate) fn add_whole(
         boxes.push(box_of(read, &views[read.matrix as usize], s))?;
     }
     Ok(())
+}
+
+/// What the views of a rule that isn't for single cells show of matrices that are these views, view by view.
+pub fn view_boxes(
+    alloc: Global,
+    matrices: &[Decl],
+    reads: &[Read],
+    views: &[View],
+    s: &Sizes,
+) -> Result<Vec<Spot>, AllocError>
+    requires sizes { All (λ size. size ≤ SIZE_TOP) s.now.of }
+    requires laid { AreLaid matrices.now (sizes_of s.now) views.now }
+    requires small { All IsSmallRead reads.now }
+    requires matrices { All (λ (r : Read). r.matrix < length matrices.now) reads.now }
+    requires readable { IsReadable matrices.now (sizes_of s.now) reads.now 0 0 }
+    ensures { IfOk result (λ boxes. boxes.items ≡ map (whole_box matrices.now (sizes_of s.now)) reads.now) }
+{
+    let mut boxes = Vec::new(alloc);
+    add_whole(&mut boxes, matrices, reads, views, s)?;
+    Ok(boxes)
 }

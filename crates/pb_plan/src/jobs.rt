@@ -135,7 +135,7 @@ fn boxes_of(
 }
 
 /// What a job makes and reads.
-fn places_of(
+pub fn job_places(
     alloc: Global,
     transform: &Transform,
     nodes: &[Node],
@@ -172,7 +172,7 @@ pub fn places(
 {
     let mut found = Vec::new(alloc);
     for job in jobs {
-        found.push(places_of(alloc, transform, nodes, views, s, job)?)?;
+        found.push(job_places(alloc, transform, nodes, views, s, job)?)?;
     }
     Ok(found)
 }

@@ -19,7 +19,8 @@ mod planned;
 mod refusal;
 mod tasks;
 
-pub use jobs::places;
+pub use boxes::view_boxes;
+pub use jobs::{job_places, places};
 pub use laid::{Laid, instance};
 pub use laws::the_tasks_of_an_instance_are_a_graph;
 pub use place_laws::{

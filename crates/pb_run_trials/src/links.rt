@@ -62,10 +62,10 @@ fn are_within(bases: u32, spots: &[Spot]) -> bool
 fn is_within(bases: u32, task: &Places) -> bool
     ensures { IsTrue result → AllWithin bases task.now }
 {
-    are_within(bases, &task.parts) && are_within(bases, &task.boxes)
+    are_within(bases, &task.parts)
 }
 
-// Whether all spots of the tasks are of so many matrices, and the tasks not too many to be numbered.
+// Whether all parts of the tasks are of so many matrices, and the tasks not too many to be numbered.
 fn can_be_linked(bases: u32, tasks: &[Places]) -> bool
     ensures within { IsTrue result → All (AllWithin bases) tasks.now }
     ensures few { IsTrue result → length tasks.now < 2 ^ 32 }

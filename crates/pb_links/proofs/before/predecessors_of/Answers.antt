@@ -1,16 +1,9 @@
 use Rattle.std.proofs.Common.{◌∙◌, ap, length}
 use Rattle.std.specs.List.{flat_map}
-use Rattle.std.proofs.lemmas.List.Elements.{All-same}
 use Rattle.pb_links.specs.Owners.{box_hits}
-use Rattle.pb_links.specs.Spots.{IsWithin}
 use Rattle.pb_links.proofs.HitLemmas.{found-predecessors}
-use Rattle.pb_links.proofs.LawLemmas.{boxes-at, within-at}
+use Rattle.pb_links.proofs.LawLemmas.{boxes-at}
 use Rattle.pb_links.proofs.before.predecessors_of.Goals as goal
-
-pub find_all-requires : goal.find_all-requires
-find_all-requires c =
-    let task = within-at c.args.tasks.now (length c.args.table.now) c.args.task c.index-tasks-task.result c.requires.task c.index-tasks-task.is c.requires.bases in
-    All-same (IsWithin (length c.args.table.now)) c.deref.result.now c.index-tasks-task.result.boxes (c.deref.ensures.value ∙ ap (λ p. p.boxes) c.places.view_is) task.boxes
 
 pub returns : goal.returns
 returns c =

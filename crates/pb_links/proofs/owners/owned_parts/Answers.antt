@@ -9,7 +9,7 @@ use Rattle.pb_links.proofs.owners.owned_parts.Goals as goal
 pub add_parts-requires : goal.add_parts-requires
 add_parts-requires c =
     let task = within-at c.args.tasks.now c.args.bases c.loop-task.task c.index-tasks-task.result c.loop-task-test.true c.index-tasks-task.is c.requires.bases in
-    All-same (IsWithin (length c.loop-task.table.items)) c.deref.result.now c.index-tasks-task.result.parts (c.deref.ensures.value ∙ ap (λ p. p.parts) c.places.view_is) (rw c.loop-task.invariant.room task.parts)
+    All-same (IsWithin (length c.loop-task.table.items)) c.deref.result.now c.index-tasks-task.result.parts (c.deref.ensures.value ∙ ap (λ p. p.parts) c.places.view_is) (rw c.loop-task.invariant.room task)
 
 pub loop-task-preserved : goal.loop-task-preserved
 loop-task-preserved c =

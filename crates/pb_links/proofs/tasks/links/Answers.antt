@@ -1,13 +1,6 @@
-use Rattle.std.proofs.Common.{◌∙◌, length, sym, subst, ap, arith}
-use Rattle.std.specs.List.{All}
-use Rattle.pb_links.specs.Spots.{AllWithin}
+use Rattle.std.proofs.Common.{◌∙◌, arith}
 use Rattle.pb_links.proofs.TurnLemmas.{all-inside, all-long, all-rising, turned-successors}
 use Rattle.pb_links.proofs.tasks.links.Goals as goal
-
-pub all_before-requires-clause-bases : goal.all_before-requires-clause-bases
-all_before-requires-clause-bases c =
-    let room = ap length c.deref.ensures.value ∙ c.in_ok-table.ensures.room in
-    subst (λ n. All (AllWithin n) c.args.tasks.now) (sym room) c.requires.bases
 
 pub turned-requires-clause-few : goal.turned-requires-clause-few
 turned-requires-clause-few c =
