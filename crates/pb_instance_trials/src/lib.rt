@@ -20,3 +20,5 @@ mod places;
 mod plans;
 #[cfg(test)]
 mod programs;
+#[cfg(test)]
+mod steps;

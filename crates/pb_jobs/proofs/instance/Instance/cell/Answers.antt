@@ -1,0 +1,19 @@
+use Rattle.std.proofs.Common.{◌∙◌, ap, subst, w64}
+use Rattle.std.proofs.lemmas.Int.{to_z-of_z}
+use Rattle.pb_values.specs.declared.outcome.Outcome.TheVariants.{Value}
+use Rattle.pb_eval.specs.Running.{Gives}
+use Rattle.pb_jobs.specs.Instances.{given_by}
+use Rattle.pb_jobs.proofs.CellLemmas.{one_number, one_room}
+use Rattle.pb_jobs.proofs.instance.Instance.cell.Goals as goal
+
+pub out-requires : goal.out-requires
+out-requires g c =
+    let can = c.requires.can in
+    let found = subst (λ r. Gives (given_by c.args.self.now c.args.rule can.rule c.args.x c.args.y (g.C.CellReader.turn c.args.port.now)) r c.gives.new.scratch.body) c.in-Ok.is (c.gives.ensures.found can.rule can.there) in
+    one_room c.args.self.now c.requires.ready c.args.rule c.args.x c.args.y _ can c.requires.one c.gives.new.scratch.body c.in-Ok.field-0 found
+
+pub returns-in-Ok-clause-outcome : goal.returns-in-Ok-clause-outcome
+returns-in-Ok-clause-outcome g c =
+    let can = c.requires.can in
+    let found = subst (λ r. Gives (given_by c.args.self.now c.args.rule can.rule c.args.x c.args.y (g.C.CellReader.turn c.args.port.now)) r c.gives.new.scratch.body) c.in-Ok.is (c.gives.ensures.found can.rule can.there) in
+    λ r at. ap (λ z. Value z) (to_z-of_z w64 c.out.result (record { sfits = c.out.type_inv })) ∙ one_number c.args.self.now c.requires.ready c.args.rule c.args.x c.args.y _ can c.requires.one c.gives.new.scratch.body c.in-Ok.field-0 c.out.result found c.out.ensures r at

@@ -1,0 +1,15 @@
+use Rattle.std.proofs.Common.{◌≡◌, [], length}
+use Rattle.pb_walk.specs.Walks.{walk_of}
+use Rattle.pb_jobs.specs.Rooms.{rooms_of}
+use Rattle.pb_jobs.proofs.StepLemmas.{IsAmong}
+use Rattle.pb_jobs.proofs.instance.Instance.run_whole.Given as goal
+
+abbrev pub invariant-loop-stop : goal.invariant-loop-stop
+invariant-loop-stop g l = record {
+  among : IsAmong (walk_of [] l.fn.parts) (g.C.CellReader.turn l.fn.port) (g.C.CellReader.turn l.port) l.scratch.walk.left;
+  room : rooms_of l.scratch ≡ rooms_of l.fn.scratch;
+  body : l.scratch.rule.body ≡ l.initial.scratch.rule.body;
+}
+
+abbrev pub decreases-loop-stop : goal.decreases-loop-stop
+decreases-loop-stop g l = length l.scratch.walk.left

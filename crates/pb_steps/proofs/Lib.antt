@@ -1,0 +1,11 @@
+pub mod ListLemmas
+pub mod MetLemmas
+pub mod NameLemmas
+pub mod GrowLemmas
+pub mod FoldLemmas
+pub mod CopyLemmas
+pub mod ShowLemmas
+pub mod EnterLemmas
+pub mod CallLemmas
+pub mod PlanLemmas
+pub mod AtLemmas

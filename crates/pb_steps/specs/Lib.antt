@@ -1,0 +1,4 @@
+pub mod Values
+pub mod Runs
+pub mod Stands
+pub mod Rules
