@@ -42,8 +42,15 @@ fn told(alloc: Global, run: &Unrolled) -> Result<String, AllocError> {
         }
     }
     let met = &run.met;
-    let (calls, matrices, cells, instances) = (met.calls, met.matrices, met.cells, run.instances.len());
-    format!(in alloc; "{calls} calls, {matrices} matrices, {cells} cells; {instances} instances; {jobs} jobs, {copies} copies, {traps} traps")
+    let (calls, matrices, cells, instances) = (
+        met.calls,
+        met.matrices,
+        met.cells,
+        run.instances.len(),
+    );
+    format!(in alloc;
+        "{calls} calls, {matrices} matrices, {cells} cells; {instances} instances; {jobs} jobs, {copies} copies, {traps} traps"
+    )
 }
 
 fn unrolled(
@@ -62,7 +69,15 @@ fn unrolled(
         Err(ConfigRefusal::Memory) => return Err(AllocError),
         Err(_) => return Ok(none),
     };
-    let run = unroll(alloc, a, &chosen, depth, 1, &[(side, side), (side, side)], 64)?;
+    let run = unroll(
+        alloc,
+        a,
+        &chosen,
+        depth,
+        1,
+        &[(side, side), (side, side)],
+        64,
+    )?;
     told(alloc, &run)
 }
 
@@ -77,7 +92,8 @@ fn said(alloc: Global, config: &str, depth: u32, side: i64) -> Result<String, Al
 fn a_run_is_unrolled(rt: HostRuntime) -> Result<(), Fail> {
     let alloc = rt.alloc();
     let split = "choose MatrixMultiply.AB {0,1,2,3} = 1\n";
-    let all = "choose MatrixMultiply.AB {0,1,2,3} = 0 until 4 then 1\nchoose MatrixMultiply.AB {0,2,3} = 0 until 4 then 3\nchoose MatrixMultiply.AB {0,2} = 0 until 4 then 2\n";
+    let all =
+        "choose MatrixMultiply.AB {0,1,2,3} = 0 until 4 then 1\nchoose MatrixMultiply.AB {0,2,3} = 0 until 4 then 3\nchoose MatrixMultiply.AB {0,2} = 0 until 4 then 2\n";
     assert_eq!(rt;
         said(alloc, all, 64, 8)?.as_str(),
         "518 calls, 520 matrices, 4096 cells; 518 instances; 263 jobs, 503 copies, 0 traps"

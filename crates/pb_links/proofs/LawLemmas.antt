@@ -56,7 +56,6 @@ pub boxes-at : (tasks : List PlacesValue) (t : ℕ) (task : PlacesValue) → t <
 unfolding boxes_of
 boxes-at tasks t task below is = ap (λ p. p.boxes) is ∙ sym (get_or-map (λ p. p.boxes) tasks t task [] below)
 
-
 pub within-at : (tasks : List PlacesValue) (bases t : ℕ) (task : PlacesValue) → t < length tasks → task ≡ get_or tasks t task → All (AllWithin bases) tasks → AllWithin bases task
 within-at tasks bases t task below is all = subst (AllWithin bases) (sym is) (All-get_or (AllWithin bases) tasks t task below all)
 

@@ -58,12 +58,7 @@ fn find_all(
 {
     let mut found = Vec::new(alloc);
     for spot in boxes {
-        find(
-            &mut found,
-            on(table, spot.base),
-            &spot.rect,
-            task,
-        )?;
+        find(&mut found, on(table, spot.base), &spot.rect, task)?;
     }
     Ok(found)
 }

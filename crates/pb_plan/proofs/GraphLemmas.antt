@@ -1,20 +1,20 @@
 -- The tasks of an instance are a graph.
 use Rattle.std.proofs.Common.{◌≡◌, ◌∙◌, refl, sym, ap, subst, ⊎_elim, ℕ, zero, suc, ◌+◌, ◌-◌, ◌≤◌, ◌<◌, ℤ, pos, negsuc, ◌<ℤ◌, List, [], ◌∷◌, length, map, slice_get, Some, arith}
 use Rattle.std.specs.Prelude.{slice_index_or}
-use Rattle.std.specs.List.{AllZip, Contains, fold, range_with_len, sum_by}
+use Rattle.std.specs.List.{Contains}
 use Rattle.std.proofs.lemmas.Bool.{cases_lt}
 use Rattle.std.proofs.lemmas.Int.{ints}
 use Rattle.std.proofs.lemmas.List.{length-map}
 use Rattle.std.proofs.lemmas.Option.{slice_get_within}
 use Rattle.pb_linear.specs.Numbers.{exact_value}
-use Rattle.pb_values.specs.Views.{cell_of, row_cells, view_cells}
+use Rattle.pb_values.specs.Views.{cell_of, view_cells}
 use Rattle.pb_values.specs.declared.shape.Shape.{Shape}
 use Rattle.pb_values.specs.declared.view.View.{View}
 use Rattle.pb_graph.specs.Nodes.{NodeValue}
 use Rattle.pb_program.specs.Configs.{ConfigValue, IsValid}
 use Rattle.pb_program.specs.Forms.{DeclValue}
 use Rattle.pb_program.specs.Trees.{ProgTransform}
-use Rattle.pb_base.proofs.ListLemmas.{at_in, flat_in, in_at, in_flat, in_map, in_none, in_range, map_in, range_in}
+use Rattle.pb_base.proofs.ListLemmas.{at_in, flat_in, in_at, in_flat}
 use Rattle.pb_model.specs.Cells.{Cell, natural}
 use Rattle.pb_check.specs.Orders.{AnalysisValue}
 use Rattle.pb_check.specs.Ranked.{IsMadeCell}
@@ -22,11 +22,9 @@ use Rattle.pb_check.proofs.FirstLemmas.{some_same}
 use Rattle.pb_frame.specs.Choices.{IsInstance}
 use Rattle.pb_frame.specs.Frames.{JobValue}
 use Rattle.pb_frame.specs.declared.part.FramePart.{FramePart}
-use Rattle.pb_links.specs.Links.{link_count as count_links, precedes, predecessors, successors}
+use Rattle.pb_links.specs.Links.{predecessors}
 use Rattle.pb_links.specs.Spots.{PlacesValue}
-use Rattle.pb_links.proofs.LawLemmas.{after-others, before-others, mirrored}
-use Rattle.pb_links.proofs.RisingLemmas.{rising-once, rising-picked}
-use Rattle.pb_taskgraph.specs.Graphs.{EachOnce, GraphValue, IsGraph, IsLinked, IsPartition, TaskValue, after_of, before_of, cells_of, link_count, task_cells}
+use Rattle.pb_taskgraph.specs.Graphs.{EachOnce, GraphValue, IsGraph, IsPartition, TaskValue, before_of, cells_of, task_cells}
 use Rattle.pb_taskgraph.specs.declared.task.Part.{Part}
 use Rattle.pb_plan.specs.Boxes.{places_of}
 use Rattle.pb_plan.specs.Made.{IsMadeBy, jobs_for}
@@ -37,7 +35,7 @@ use Rattle.pb_views.specs.Layouts.{AreInARow, cell_count, shape_of}
 use Rattle.pb_plan.specs.Tasks.{AreTasks, IsPartFor, IsTaskFor, IsWithinLimits, graph_of}
 use Rattle.pb_plan.proofs.LinkedLemmas.{HasLinksOf, at_zip, before_in as before_listed, in_index, in_view, index_is, is_linked, links_are, once_view, some_at, view_in, zip_at}
 use Rattle.pb_plan.proofs.NumberLemmas.{IsNumbered, before, number_below, number_once, number_some, number_within, view_at}
-use Rattle.pb_plan.proofs.OnceLemmas.{Once, once_each, once_flat, once_map, once_range}
+use Rattle.pb_plan.proofs.OnceLemmas.{Once, once_each, once_flat}
 
 module _ (config : ConfigValue) (number : ℕ) (t : ProgTransform) (a : AnalysisValue) (sizes : List ℕ) (grain : ℕ) (i : IsInstance number t a sizes) (valid : IsValid i.program config) (views : List View) (row : AreInARow 0 sizes t.matrices views) where
   abbrev pub jobs : List JobValue

@@ -3,8 +3,6 @@ use Rattle.std.proofs.Common.{◌≡◌, ◌∙◌, refl, sym, ap, subst, ⊎_el
 use Rattle.std.specs.Prelude.{slice_index_or}
 use Rattle.std.specs.List.{AllZip, Contains, fold, range_with_len, sum_by}
 use Rattle.std.proofs.lemmas.Bool.{cases_lt}
-use Rattle.std.proofs.lemmas.List.{length-map}
-use Rattle.std.proofs.lemmas.Option.{slice_get_within}
 use Rattle.pb_values.specs.Views.{cell_of, row_cells, view_cells}
 use Rattle.pb_values.specs.declared.view.View.{View}
 use Rattle.pb_base.proofs.ListLemmas.{flat_in, in_at, in_flat, in_map, in_none, in_range, map_in, range_in}

@@ -1,5 +1,5 @@
 -- What makes the tasks of an instance that is laid out can be called.
-use Rattle.std.proofs.Common.{◌≡◌, ◌∙◌, refl, sym, ap, subst, ℕ, ◌-◌, ◌<◌, List, [], length, map, get_or, slice_get, take, Option, Some, None, arith}
+use Rattle.std.proofs.Common.{◌≡◌, ◌∙◌, refl, sym, ap, subst, ℕ, ◌-◌, ◌<◌, List, length, map, get_or, slice_get, take, Some, arith}
 use Rattle.std.specs.List.{All, Contains}
 use Rattle.std.specs.Option.{option_map_or}
 use Rattle.std.proofs.lemmas.List.{get_or-take, length-take-le}
@@ -11,11 +11,10 @@ use Rattle.pb_values.specs.declared.view.View.{View}
 use Rattle.pb_graph.specs.Nodes.{NodeValue}
 use Rattle.pb_program.specs.Configs.{ConfigValue, IsValid}
 use Rattle.pb_program.specs.Transforms.{TransformValue}
-use Rattle.pb_program.specs.Trees.{ProgRule, ProgTransform, bare_transform}
+use Rattle.pb_program.specs.Trees.{ProgTransform, bare_transform}
 use Rattle.pb_program.specs.WellFormed.{IsTransform}
-use Rattle.pb_program.specs.declared.view.Read.{Read}
 use Rattle.pb_region.proofs.SmallLemmas.{at_place}
-use Rattle.pb_base.proofs.ListLemmas.{at_in, flat_in, in_at, map_in}
+use Rattle.pb_base.proofs.ListLemmas.{at_in, in_at, map_in}
 use Rattle.pb_model.specs.Cells.{Cell}
 use Rattle.pb_check.specs.Accepting.{AcceptedValue, IsAccepted}
 use Rattle.pb_check.specs.Orders.{AnalysisValue}
@@ -29,11 +28,10 @@ use Rattle.pb_frame.proofs.PartLemmas.{of_part, top_of}
 use Rattle.pb_links.specs.Spots.{AllWithin, IsWithin, PlacesValue}
 use Rattle.pb_links.specs.declared.places.Spot.{Spot}
 use Rattle.pb_taskgraph.specs.Graphs.{GraphValue}
-use Rattle.pb_plan.specs.Boxes.{HasRule, IsBoxed, IsJob, boxes_by, part_box, part_boxes, places_of, spot_of, whole_box}
+use Rattle.pb_plan.specs.Boxes.{places_of, spot_of}
 use Rattle.pb_plan.specs.Made.{IsMadeBy, jobs_for}
 use Rattle.pb_plan.proofs.BeforeLemmas.{home, some_places}
 use Rattle.pb_plan.proofs.MadeLemmas.{made_cell}
-use Rattle.pb_plan.proofs.ReadableLemmas.{are_jobs}
 use Rattle.pb_views.specs.Layouts.{AreInARow, HasShortSides}
 use Rattle.pb_plan.specs.Laid.{HasRoom, IsLaid, LaidValue}
 use Rattle.pb_plan.specs.Planned.{IsPlanned, IsReady, IsTooLarge, IsTooMany}
@@ -92,9 +90,9 @@ module _ (config : ConfigValue) (number : ℕ) (t : ProgTransform) (a : Analysis
     job_within job h =
         let j = at_in jobs job h in
         each_of (IsOf t sizes) (map (spot_of a.nodes) job.parts) (λ s c.
-            let part = map_in (spot_of a.nodes) job.parts s c in
-            let l = lies j.0 job j.1 part.0 part.1 in
-            omega (arith, slice_get_within t.matrices l.node.matrix l.decl l.declared, ap (λ o. option_map_or (λ (n : NodeValue). n.matrix) o 0) l.there, ap (λ (q : Spot). q.base) part.2))
+        let part = map_in (spot_of a.nodes) job.parts s c in
+        let l = lies j.0 job j.1 part.0 part.1 in
+        omega (arith, slice_get_within t.matrices l.node.matrix l.decl l.declared, ap (λ o. option_map_or (λ (n : NodeValue). n.matrix) o 0) l.there, ap (λ (q : Spot). q.base) part.2))
 
     within : All (AllWithin (length t.matrices)) (map (places_of t a.nodes sizes) jobs)
     within = each_of (AllWithin (length t.matrices)) (map (places_of t a.nodes sizes) jobs) (λ p h. let job = map_in (places_of t a.nodes sizes) jobs p h in subst (AllWithin (length t.matrices)) job.2 (job_within job.0 job.1))
