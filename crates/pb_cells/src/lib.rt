@@ -11,6 +11,7 @@ mod deal;
 mod first;
 mod laws;
 mod names;
+mod port;
 mod seats;
 mod steps;
 mod view;
@@ -23,6 +24,7 @@ pub use laws::{
     the_words_and_views_show_a_sound_snapshot,
 };
 pub use names::NamesTable;
+pub use port::JobPort;
 pub use seats::{Hand, Job};
 pub use steps::CellsRule;
 pub use view::{TaskView, View};
