@@ -7,6 +7,8 @@ mod bodies;
 #[cfg(test)]
 mod counts;
 #[cfg(test)]
+mod driven;
+#[cfg(test)]
 mod entering;
 #[cfg(test)]
 mod frames;
