@@ -11,5 +11,6 @@ pub mod BankLemmas
 pub mod OpeningLemmas
 pub mod RuleLemmas
 pub mod CallLemmas
+pub mod PortLemmas
 pub mod FirstLemmas
 pub mod ShownLemmas

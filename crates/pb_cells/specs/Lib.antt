@@ -4,5 +4,6 @@ pub mod Views
 pub mod Stories
 pub mod Steps
 pub mod Openings
+pub mod Ports
 pub mod Handles
 pub mod Shown

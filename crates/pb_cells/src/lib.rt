@@ -1,6 +1,7 @@
 //! In: a work and a number of hands. Out: `Cells`, one table of words, a `Job` for each task that waits for nothing, and the
-//! `Hand`s. Threads that share the table run the tasks: who has a Job reads cells, writes those of its task, finishes it and
-//! releases its successors; the release that makes a successor's count 0 gives a Job of it, and no other release does.
+//! `Hand`s. Threads that share the table run the tasks: who has a Job reads cells and writes those of its task, or has a work do so
+//! through the Job's port; then it finishes the task and releases its successors. The release that makes a successor's count 0
+//! gives a Job of it, and no other release does.
 //!
 //! The theorem is the rule of the table, `Holds`: between any two atomic steps of any threads, its words and what the Jobs and
 //! the Hands know tell a state of the machine of `pb_core`, with the solution's outcomes. The laws say what follows from it.
@@ -11,6 +12,7 @@ mod deal;
 mod first;
 mod laws;
 mod names;
+mod port;
 mod seats;
 mod steps;
 mod view;
@@ -23,6 +25,7 @@ pub use laws::{
     the_words_and_views_show_a_sound_snapshot,
 };
 pub use names::NamesTable;
+pub use port::JobPort;
 pub use seats::{Hand, Job};
 pub use steps::CellsRule;
 pub use view::{TaskView, View};

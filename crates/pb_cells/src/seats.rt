@@ -55,6 +55,13 @@ impl<N: NamesWork> Job<N> {
         }
     }
 
+    /// What is known of the task.
+    pub(crate) fn tell(&self)
+        ensures { self.now.at.task < length N.plan.graph.tasks }
+    {
+        let _seat = &self.seat;
+    }
+
     pub(crate) fn into_seat(self) -> Seat<(), View>
         ensures table { result.table_id ≡ self.table }
         ensures me { result.me ≡ (job_view self.at self.opened, []) }

@@ -89,16 +89,16 @@ module _ (n : ℕ) (g : GraphValue) (s : IsSplit n g) where
   pub before-two : before_of g 1 ≡ 0 ∷ []
   before-two = before-at g 1 s.two (omega (arith, size)) (sym (ap (λ ts. get_or ts 1 s.two) s.tasks)) ∙ s.two_is.before
 
-  after-one : after_of g 0 ≡ 1 ∷ []
+  pub after-one : after_of g 0 ≡ 1 ∷ []
   after-one = after-at g 0 s.one (omega (arith, size)) (sym (ap (λ ts. get_or ts 0 s.one) s.tasks)) ∙ s.one_is.after
 
-  after-two : after_of g 1 ≡ []
+  pub after-two : after_of g 1 ≡ []
   after-two = after-at g 1 s.two (omega (arith, size)) (sym (ap (λ ts. get_or ts 1 s.two) s.tasks)) ∙ s.two_is.after
 
-  pub successor : Contains (after_of g 0) 1
+  successor : Contains (after_of g 0) 1
   successor = subst (λ l. Contains l 1) (sym after-one) (in_head 1 [])
 
-  pub successors : (t u : ℕ) → Contains (after_of g t) u → (t ≡ 0) × (u ≡ 1)
+  successors : (t u : ℕ) → Contains (after_of g t) u → (t ≡ 0) × (u ≡ 1)
   successors zero u h = (refl, sym (one-in 1 u (subst (λ l. Contains l u) after-one h)))
   successors (suc zero) u h = absurd (in_none u (subst (λ l. Contains l u) after-two h))
   successors (suc (suc t)) u h = absurd (in_none u (subst (λ l. Contains l u) (after-past g (suc (suc t)) (omega (arith, size))) h))

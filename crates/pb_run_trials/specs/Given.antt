@@ -5,8 +5,6 @@ use Rattle.pb_values.specs.declared.outcome.Outcome.{Outcome}
 use Rattle.pb_taskgraph.specs.declared.limits.TheConstants.{MOST_CELLS}
 use Rattle.pb_taskgraph.specs.Graphs.{GraphValue, TaskValue, cells_of, task_cells}
 use Rattle.pb_taskgraph.specs.Plans.{IsSmall, Plan}
-use Rattle.pb_cells.specs.declared.view.TaskView.{TaskView}
-use Rattle.pb_cells.specs.Views.{untouched}
 
 -- a task of so many cells from the first on, with these links
 pub record IsPiece (first width : ℕ) (earlier later : List ℕ) (task : TaskValue) : Type 0 where
@@ -36,10 +34,6 @@ pub record GivenValue : Type 0 where
 -- what it stands for: each task writes its cells by number
 unfoldable pub given_plan : GivenValue → Plan
 given_plan w = record { graph = w.graph; solution = w.outcomes; order = cells_of w.graph }
-
--- a task all cells of which are written
-abbrev pub wholly : GraphValue → ℕ → TaskView
-wholly g t = record (untouched t) { written = length (cells_of g t) }
 
 -- its facts
 pub record IsGiven (w : GivenValue) : Type 0 where

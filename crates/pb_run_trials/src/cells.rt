@@ -1,11 +1,10 @@
 //! Cells, counts and turns as words of one table, driven by hand.
-ghost use Rattle.std.specs.Prelude.{◌≡◌, ◌<◌, IfOk, length};
-ghost use Rattle.pb_taskgraph.specs.Graphs.{cells_of};
+ghost use Rattle.std.specs.Prelude.{◌≡◌, ◌<◌, [], ◌∷◌, IfOk, length};
+ghost use Rattle.pb_taskgraph.specs.Graphs.{after_of};
 ghost use Rattle.pb_taskgraph.specs.Plans.{IsSmall};
 ghost use Rattle.pb_cells.specs.Handles.{new_job};
 ghost use Rattle.pb_run_trials.specs.Given.{IsGiven, given_plan};
 
-use crate::driven::run;
 use crate::given::Given;
 use pb_cells::{Cells, Hand, Job};
 use pb_taskgraph::{NamesWork, Work};
@@ -49,7 +48,7 @@ fn read<N: NamesWork>(
     requires name { given_plan work.now ≡ N.plan }
     requires table { job.old.table ≡ cells.now }
     requires at { job.old.at.task ≡ task }
-    requires written { job.old.at.written ≡ length (cells_of work.now.graph task) }
+    requires written { job.old.at.written ≡ length (N.plan.order task) }
     requires task { task < length work.now.graph.tasks }
     ensures { job.new ≡ job.old }
 {
@@ -61,31 +60,6 @@ fn read<N: NamesWork>(
     Ok(text)
 }
 
-// A hand runs both tasks; the first one's release gives a Job of the second.
-fn by_one_hand<N: NamesWork>(
-    alloc: Global,
-    work: &Given,
-    cells: &Cells<N>,
-    mut hand: Hand<N>,
-    mut job: Job<N>,
-) -> Result<String, AllocError>
-    requires name { given_plan work.now ≡ N.plan }
-    requires given { IsGiven work.now }
-    requires hand { hand.table ≡ cells.now }
-    requires job { job ≡ new_job cells.now 0 }
-{
-    let one = run(work, cells, &mut job, 0);
-    let Some(mut next) = cells.release(&mut job, 1) else {
-        return format!(in alloc; "not released");
-    };
-    cells.end(&mut hand, job);
-    let two = run(work, cells, &mut next, 1);
-    let text = read(alloc, work, cells, &mut next, 1)?;
-    cells.end(&mut hand, next);
-    let finished = cells.finished(&mut hand);
-    format!(in alloc; "{text}numbers {one} {two}, finished {finished}")
-}
-
 // Two hands by turns: the second runs the task that the first has released, before the first takes in its own Job.
 fn by_two_hands<N: NamesWork>(
     alloc: Global,
@@ -93,38 +67,31 @@ fn by_two_hands<N: NamesWork>(
     cells: &Cells<N>,
     mut first: Hand<N>,
     mut second: Hand<N>,
-    mut job: Job<N>,
+    job: Job<N>,
 ) -> Result<String, AllocError>
     requires name { given_plan work.now ≡ N.plan }
-    requires given { IsGiven work.now }
+    requires tasks { length work.now.graph.tasks ≡ 2 }
+    requires after_one { after_of N.plan.graph 0 ≡ 1 ∷ [] }
+    requires after_two { after_of N.plan.graph 1 ≡ [] }
     requires first { first.table ≡ cells.now }
     requires second { second.table ≡ cells.now }
     requires job { job ≡ new_job cells.now 0 }
 {
     let none = cells.finished(&mut second);
-    let _one = run(work, cells, &mut job, 0);
-    let one = cells.finished(&mut first);
-    let Some(mut next) = cells.release(&mut job, 1) else {
+    let mut own = cells.run(work, 0, job, &mut ());
+    let one = cells.finish(&mut own);
+    let before = cells.finished(&mut first);
+    let Some(released) = cells.release(&mut own, 1) else {
         return format!(in alloc; "not released");
     };
-    let _two = run(work, cells, &mut next, 1);
+    let mut next = cells.run(work, 1, released, &mut ());
+    let two = cells.finish(&mut next);
+    let text = read(alloc, work, cells, &mut next, 1)?;
     cells.end(&mut second, next);
-    let two = cells.finished(&mut second);
-    let text = read(alloc, work, cells, &mut job, 0)?;
-    cells.end(&mut first, job);
+    let after = cells.finished(&mut second);
+    cells.end(&mut first, own);
     let again = cells.finished(&mut first);
-    format!(in alloc; "{text}finished {none} {one} {two} {again}")
-}
-
-fn one_hand<N: NamesWork>(alloc: Global, work: &Given) -> Result<String, AllocError>
-    requires name { given_plan work.now ≡ N.plan }
-    requires given { IsGiven work.now }
-{
-    let (cells, mut hands, mut jobs) = Cells::<N>::new(alloc, work, 1)?;
-    match (hands.pop(), jobs.pop()) {
-        (Some(hand), Some(job)) => by_one_hand(alloc, work, &cells, hand, job),
-        _ => format!(in alloc; "no hand or no job"),
-    }
+    format!(in alloc; "{text}numbers {one} {two}, finished {none} {before} {after} {again}")
 }
 
 fn two_hands<N: NamesWork>(alloc: Global, work: &Given) -> Result<String, AllocError>
@@ -199,25 +166,14 @@ fn traps(alloc: Global) -> Result<Given, AllocError>
     Given::new(alloc, 3, outcomes)
 }
 
-// One hand or two run the tasks; more are only made.
+// Two hands run the tasks; fewer or more are only made.
 fn by_hands(alloc: Global, work: &Given, hands: u32) -> Result<String, AllocError>
     requires { IsGiven work.now }
 {
     match hands {
-        1 => one_hand::<Brand>(alloc, work),
         2 => two_hands::<Brand>(alloc, work),
         _ => counts::<Brand>(alloc, work, hands),
     }
-}
-
-#[test]
-fn a_hand_runs_what_a_release_opens(rt: HostRuntime) -> Result<(), Fail> {
-    let alloc = rt.alloc();
-    assert_eq!(rt;
-        by_hands(alloc, &sums(alloc)?, 1)?.as_str(),
-        "1, 2, 3, 4, 1, 3, 6, 10, numbers 0 1, finished 2"
-    );
-    Ok(())
 }
 
 #[test]
@@ -225,7 +181,7 @@ fn hands_take_in_jobs_by_turns(rt: HostRuntime) -> Result<(), Fail> {
     let alloc = rt.alloc();
     assert_eq!(rt;
         by_hands(alloc, &sums(alloc)?, 2)?.as_str(),
-        "1, 2, 3, 4, 1, finished 0 1 2 2"
+        "1, 2, 3, 4, 1, 3, 6, 10, numbers 0 1, finished 0 1 2 2"
     );
     Ok(())
 }
@@ -234,10 +190,10 @@ fn hands_take_in_jobs_by_turns(rt: HostRuntime) -> Result<(), Fail> {
 fn outcomes_come_back_from_words(rt: HostRuntime) -> Result<(), Fail> {
     let alloc = rt.alloc();
     assert_eq!(rt;
-        by_hands(alloc, &traps(alloc)?, 1)?.as_str(),
+        by_hands(alloc, &traps(alloc)?, 2)?.as_str(),
         "overflow 63 31 8388607 8388607, divide by zero 63 31 8388607 8388607, out of view 63 31 8388607 8388607, \
         9223372036854775807, loop limit 63 31 8388607 8388607, bad shape 63 31 8388607 8388607, \
-        depth ended 63 31 8388607 8388607, -9223372036854775808, -1, numbers 0 1, finished 2"
+        depth ended 63 31 8388607 8388607, -9223372036854775808, -1, numbers 0 1, finished 0 1 2 2"
     );
     Ok(())
 }

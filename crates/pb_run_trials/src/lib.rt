@@ -5,7 +5,6 @@
 mod boards;
 #[cfg(test)]
 mod cells;
-pub mod driven;
 pub mod given;
 #[cfg(test)]
 mod links;
