@@ -4,3 +4,7 @@ pub mod CopyLemmas
 pub mod PlacedLemmas
 pub mod ReadyLemmas
 pub mod LinkedLemmas
+pub mod StopLemmas
+pub mod BlockLemmas
+pub mod WholeLemmas
+pub mod SeenLemmas

@@ -17,7 +17,7 @@ use Rattle.pb_views.specs.Seats.{across, cell_at, down, no_seat}
 use Rattle.pb_walk.specs.Walks.{IsIn, IsPlace, walk_of}
 use Rattle.pb_walk.specs.declared.stop.Stop.{Stop}
 use Rattle.pb_walk.proofs.WalkLemmas.{walk_in}
-use Rattle.pb_runs.specs.Steps.{Instance, stop_number}
+use Rattle.pb_runs.specs.Steps.{Instance, seat_in, stop_number}
 use Rattle.pb_steps.specs.Stands.{AreViewsOf}
 use Rattle.pb_run_graph.specs.Ready.{IsSeatedPart}
 use Rattle.pb_jobs.proofs.ListLemmas.{all_at, some_at}
@@ -51,5 +51,5 @@ module _ (i : Instance) (views : List View) (laid : AreViewsOf i.transform.matri
         view = view.0;
         at = view.1;
         inside = (subst (λ (z : Shape). s.x < z.w) (sym shows.shape) on_x, subst (λ (z : Shape). s.y < z.h) (sym shows.shape) on_y);
-        cell = shows.cells s.x s.y on_x on_y ∙ ap (λ z. cell_at z s.x s.y) (sym (get_or_from_slice_get i.seats s.base q.seat no_seat seat));
+        cell = shows.cells s.x s.y on_x on_y ∙ ap (λ z. cell_at z s.x s.y) (sym {a = seat_in i s.base} (get_or_from_slice_get i.seats s.base q.seat no_seat seat));
       }

@@ -1,3 +1,4 @@
 pub mod Copies
 pub mod Traps
 pub mod Planned
+pub mod Seen

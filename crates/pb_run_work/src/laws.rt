@@ -14,6 +14,10 @@ ghost use Rattle.pb_steps.specs.Runs.{UnrolledValue};
 ghost use Rattle.pb_steps.specs.Stands.{AreViewsOf};
 ghost use Rattle.pb_steps.specs.Values.{CopiedValue, FailedValue, InstanceValue};
 ghost use Rattle.pb_steps.specs.declared.step.Step.TheVariants as step;
+ghost use Rattle.pb_frame.specs.Frames.{JobValue};
+ghost use Rattle.pb_jobs.specs.Instances.{InstanceValue as Seen};
+ghost use Rattle.pb_jobs.specs.Jobs.{CanBeMade};
+ghost use Rattle.pb_run_work.specs.Seen.{IsSeenAs, job_as};
 ghost use Rattle.pb_run_plan.specs.RunTasks.{AreTasksOf};
 ghost use Rattle.pb_run_graph.specs.Linking.{CanBeLinked};
 ghost use Rattle.pb_run_work.specs.Copies.{IsCopy};
@@ -37,4 +41,12 @@ pub fn a_task_of_a_run_that_copies_can_be_run()
         → (v : InstanceValue) → slice_get u.instances x.instance ≡ Some v → (t : ProgTransform) → slice_get (bare_prog a.program) v.transform ≡ Some t
         → (found : AnalysisValue) → slice_get a.found v.transform ≡ Some found → (views : List View) → AreViewsOf t.matrices v.seats views
         → IsCopy views x.corner x.source (walk_of [] (map (spot_of found.nodes) x.parts)) start }
+{}
+
+/// A law: when the turn of the task of a job begins, its cells can be made.
+pub fn a_task_of_a_run_that_computes_can_be_run()
+    ensures { (a : AcceptedValue) (u : UnrolledValue) (inputs : ℕ) (c : CanBeLinked a u inputs) (tasks : List TaskValue) → AreTasksOf (steps_for c) tasks
+        → (k : ℕ) (start : Turn) → Begins (plan_for c tasks) k start → (m j : ℕ) → slice_get u.steps k ≡ Some (step.Job m j)
+        → (v : InstanceValue) → slice_get u.instances m ≡ Some v → (job : JobValue) → slice_get v.jobs j ≡ Some job
+        → (found : AnalysisValue) → slice_get a.found v.transform ≡ Some found → (seen : Seen) → IsSeenAs a.program v seen → CanBeMade seen (job_as found job) start }
 {}
