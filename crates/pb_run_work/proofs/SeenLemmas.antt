@@ -1,12 +1,24 @@
 -- The jobs of an unrolled run, as the code holds them.
-use Rattle.std.proofs.Common.{◌≡◌, ◌∙◌, refl, sym, ap, subst, ℕ, List, map, slice_get, Option, Some, None}
+use Rattle.std.proofs.Common.{◌≡◌, ◌∙◌, refl, sym, ap, subst, ℕ, List, get_or, length, map, slice_get, Option, Some, None, arith}
+use Rattle.std.proofs.lemmas.Option.{slice_get-get_or}
 use Rattle.std.specs.List.{All, AllZip}
-use Rattle.pb_linear.specs.Sizes.{sizes_of}
+use Rattle.pb_linear.specs.Sizes.{InRange, leasts_of, sizes_of}
 use Rattle.pb_linear.specs.declared.sizes.Sizes.{Sizes}
 use Rattle.pb_values.specs.Cells.{Turn}
+use Rattle.pb_program.specs.Transforms.{ProgValue}
 use Rattle.pb_program.specs.Trees.{ProgTransform, bare_prog}
+use Rattle.pb_program.specs.WellFormed.{IsTransform}
+use Rattle.pb_region.proofs.SmallLemmas.{at_place}
 use Rattle.pb_check.specs.Accepting.{AcceptedValue}
-use Rattle.pb_check.specs.Orders.{AnalysisValue}
+use Rattle.pb_check.specs.Orders.{AnalysisValue, IsAnalysis}
+use Rattle.pb_frame.specs.Choices.{IsInstance}
+use Rattle.pb_frame.proofs.PartLemmas.{top_of}
+use Rattle.pb_plan.proofs.LaidLemmas.{tall_at, wide_at}
+use Rattle.pb_plan.proofs.LinkedLemmas.{at_zip, zip_at}
+use Rattle.pb_views.specs.Layouts.{HasShortSides}
+use Rattle.pb_views.specs.Seats.{IsSmall}
+use Rattle.pb_run_graph.proofs.MadeLemmas.{are_laid}
+use Rattle.pb_jobs.specs.Shown.{AreRuleWindows}
 use Rattle.pb_frame.specs.Frames.{JobValue}
 use Rattle.pb_frame.specs.declared.part.FramePart.{FramePart}
 use Rattle.pb_taskgraph.specs.Graphs.{TaskValue}
@@ -22,7 +34,7 @@ use Rattle.pb_steps.specs.Values.{InstanceValue}
 use Rattle.pb_steps.specs.declared.step.Step.TheVariants as step
 use Rattle.pb_run_plan.specs.RunTasks.{AreTasksOf}
 use Rattle.pb_run_graph.specs.Linking.{CanBeLinked}
-use Rattle.pb_jobs.specs.Instances.{InstanceValue as Seen, of_sizes, of_transform}
+use Rattle.pb_jobs.specs.Instances.{InstanceValue as Seen, IsReady, of_sizes, of_transform}
 use Rattle.pb_jobs.specs.Jobs.{CanBeMade, IsBlock, IsMadeBy, IsWhole}
 use Rattle.pb_jobs.proofs.ListLemmas.{all_at, some_same}
 use Rattle.pb_jobs.proofs.TaskLemmas.{as_block, as_whole}
@@ -30,7 +42,7 @@ use Rattle.pb_run_work.specs.Planned.{plan_for, steps_for}
 use Rattle.pb_run_work.specs.Seen.{IsSeenAs, job_as}
 use Rattle.pb_run_work.proofs.BlockLemmas.{block_task}
 use Rattle.pb_run_work.proofs.LinkedLemmas.{step_is}
-use Rattle.pb_run_work.proofs.StopLemmas.{IsStanding, instance_as}
+use Rattle.pb_run_work.proofs.StopLemmas.{IsStanding, instance_as, short_sides}
 use Rattle.pb_run_work.proofs.WholeLemmas.{whole_task}
 
 module _ (a : AcceptedValue) (u : UnrolledValue) (inputs : ℕ) (c : CanBeLinked a u inputs) (m : ℕ) (v : InstanceValue) (at_v : slice_get u.instances m ≡ Some v) (w : Seen) (seen : IsSeenAs a.program v w) where
@@ -48,6 +60,47 @@ module _ (a : AcceptedValue) (u : UnrolledValue) (inputs : ℕ) (c : CanBeLinked
         small = is_seated.small;
         views = seen.views;
       }
+
+  -- ---- it is ready
+  abbrev sizes : List ℕ
+  sizes = of_sizes w
+
+  there : slice_get p v.transform ≡ Some (of_transform w)
+  there = seen.transform
+
+  inst : IsInstance v.transform (of_transform w) is_seated.analysis sizes
+  inst =
+      let transform = some_same is_seated.transform (of_transform w) (sym is_seated.there ∙ seen.transform) in
+      let x = zip_at IsAnalysis p a.found c.entered.are_found v.transform is_seated.analysis is_seated.is_found in
+      record {
+        program = p;
+        well_formed = c.entered.well;
+        sound = c.entered.sound;
+        there = there;
+        found = subst (λ q. IsAnalysis q is_seated.analysis) (some_same x.0 (of_transform w) (sym x.1 ∙ there)) x.2;
+        in_range = subst (λ (q : ProgTransform × Sizes). InRange (leasts_of q.0.ranges) (sizes_of q.1)) (λ z. (transform z, sym seen.sizes z)) is_seated.in_range;
+      }
+
+  short : All (HasShortSides sizes) (of_transform w).matrices
+  short k d below =
+      let declared = slice_get-get_or (of_transform w).matrices k d below in
+      let seat = at_zip (IsSeatFor sizes) (of_transform w).matrices v.seats standing.sides k (get_or (of_transform w).matrices k d) declared in
+      let sides = short_sides seat.0 (all_at IsSmall v.seats k seat.0 standing.small seat.1) in
+      record { width = omega (arith, sides.0, seat.2.width); height = omega (arith, sides.1, seat.2.height) }
+
+  pub is_ready : AreRuleWindows sizes (of_transform w).rules w.windows → IsReady w
+  is_ready windows = record {
+    there = ap (λ (q : ProgValue). slice_get (bare_prog q) w.number) seen.program ∙ ap (slice_get p) seen.number ∙ there;
+    fits = subst (λ (q : ProgValue). IsTransform (length (bare_prog q)) (of_transform w)) (sym seen.program) (at_place (IsTransform (length p)) p v.transform (of_transform w) c.entered.well.transforms there);
+    top = top_of v.transform (of_transform w) is_seated.analysis w.sizes inst;
+    sides = short;
+    laid = are_laid (of_transform w).matrices v.seats sizes (record {
+      small = standing.small;
+      sides = standing.sides;
+      natural = λ k d declared. (wide_at v.transform (of_transform w) is_seated.analysis sizes inst k d declared, tall_at v.transform (of_transform w) is_seated.analysis sizes inst k d declared);
+    }) w.views seen.views;
+    windows = windows;
+  }
 
   module _ (tasks : List TaskValue) (are : AreTasksOf (steps_for c) tasks) (k : ℕ) (start : Turn) (b : Begins (plan_for c tasks) k start) (j : ℕ) (at : slice_get u.steps k ≡ Some (step.Job m j)) (job : JobValue) (at_job : slice_get v.jobs j ≡ Some job) (found : AnalysisValue) (at_found : slice_get a.found v.transform ≡ Some found) where
     module _ (call : ℕ) (e : slice_get (steps_for c) k ≡ Some (by_job (instance_as w call found v.seats) job)) where

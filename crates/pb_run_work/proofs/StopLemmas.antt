@@ -63,7 +63,7 @@ use Rattle.pb_jobs.proofs.ListLemmas.{all_at, some_at}
 use Rattle.pb_run_work.proofs.PlacedLemmas.{IsShownAt}
 use Rattle.pb_run_work.proofs.ReadyLemmas.{plan}
 
-short_sides : (s : Seat) → IsSmall s → (across s ≤ MOST_SIDE) × (down s ≤ MOST_SIDE)
+pub short_sides : (s : Seat) → IsSmall s → (across s ≤ MOST_SIDE) × (down s ≤ MOST_SIDE)
 short_sides s small = by s.turned
   where
     by : (b : Bool) → ((if b then s.rect.y1 - s.rect.y0 else s.rect.x1 - s.rect.x0) ≤ MOST_SIDE) × ((if b then s.rect.x1 - s.rect.x0 else s.rect.y1 - s.rect.y0) ≤ MOST_SIDE)

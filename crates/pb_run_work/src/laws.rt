@@ -15,8 +15,9 @@ ghost use Rattle.pb_steps.specs.Stands.{AreViewsOf};
 ghost use Rattle.pb_steps.specs.Values.{CopiedValue, FailedValue, InstanceValue};
 ghost use Rattle.pb_steps.specs.declared.step.Step.TheVariants as step;
 ghost use Rattle.pb_frame.specs.Frames.{JobValue};
-ghost use Rattle.pb_jobs.specs.Instances.{InstanceValue as Seen};
+ghost use Rattle.pb_jobs.specs.Instances.{InstanceValue as Seen, IsReady, of_sizes, of_transform};
 ghost use Rattle.pb_jobs.specs.Jobs.{CanBeMade};
+ghost use Rattle.pb_jobs.specs.Shown.{AreRuleWindows};
 ghost use Rattle.pb_run_work.specs.Seen.{IsSeenAs, job_as};
 ghost use Rattle.pb_run_plan.specs.RunTasks.{AreTasksOf};
 ghost use Rattle.pb_run_graph.specs.Linking.{CanBeLinked};
@@ -41,6 +42,12 @@ pub fn a_task_of_a_run_that_copies_can_be_run()
         → (v : InstanceValue) → slice_get u.instances x.instance ≡ Some v → (t : ProgTransform) → slice_get (bare_prog a.program) v.transform ≡ Some t
         → (found : AnalysisValue) → slice_get a.found v.transform ≡ Some found → (views : List View) → AreViewsOf t.matrices v.seats views
         → IsCopy views x.corner x.source (walk_of [] (map (spot_of found.nodes) x.parts)) start }
+{}
+
+/// A law: rules can be run over the instances of a run.
+pub fn an_instance_of_a_run_is_ready()
+    ensures { (a : AcceptedValue) (u : UnrolledValue) (inputs : ℕ) → CanBeLinked a u inputs → (m : ℕ) (v : InstanceValue) → slice_get u.instances m ≡ Some v
+        → (seen : Seen) → IsSeenAs a.program v seen → AreRuleWindows (of_sizes seen) (of_transform seen).rules seen.windows → IsReady seen }
 {}
 
 /// A law: when the turn of the task of a job begins, its cells can be made.

@@ -13,6 +13,6 @@ mod traps;
 pub use copies::run_copy;
 pub use laws::{
     a_task_of_a_run_that_computes_can_be_run, a_task_of_a_run_that_copies_can_be_run,
-    a_task_of_a_run_that_traps_can_be_run,
+    a_task_of_a_run_that_traps_can_be_run, an_instance_of_a_run_is_ready,
 };
 pub use traps::run_trap;
