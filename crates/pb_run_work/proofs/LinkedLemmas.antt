@@ -2,7 +2,6 @@
 use Rattle.std.proofs.Common.{◌≡◌, ◌∙◌, sym, ap, subst, ℕ, List, [], map, slice_get, Some}
 use Rattle.std.specs.List.{All, flat_map}
 use Rattle.pb_values.specs.Cells.{Turn}
-use Rattle.pb_values.specs.declared.outcome.Outcome.TheVariants.{Trapped}
 use Rattle.pb_values.specs.declared.view.View.{View}
 use Rattle.pb_program.specs.Trees.{ProgTransform, bare_prog}
 use Rattle.pb_check.specs.Accepting.{AcceptedValue}
@@ -15,9 +14,9 @@ use Rattle.pb_plan.proofs.LinkedLemmas.{at_zip}
 use Rattle.pb_views.specs.Seats.{seat_cells}
 use Rattle.pb_views.specs.declared.seat.Seat.{Seat}
 use Rattle.pb_walk.specs.Walks.{walk_of}
-use Rattle.pb_runs.specs.Steps.{Copied, Failed, Instance, Step, by_copy, by_job, by_trap}
+use Rattle.pb_runs.specs.Steps.{Copied, Failed, Step, by_copy, by_job, by_trap}
 use Rattle.pb_steps.specs.Runs.{UnrolledValue}
-use Rattle.pb_steps.specs.Stands.{AreViewsOf, IsCopyAt, IsStep}
+use Rattle.pb_steps.specs.Stands.{AreViewsOf, IsStep}
 use Rattle.pb_steps.specs.Values.{CopiedValue, FailedValue, InstanceValue}
 use Rattle.pb_steps.specs.declared.step.Step.{Step as StepValue}
 use Rattle.pb_steps.specs.declared.step.Step.TheVariants as step

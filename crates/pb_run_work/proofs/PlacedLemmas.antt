@@ -1,5 +1,5 @@
 -- The place of a stop among the views of an instance's matrices.
-use Rattle.std.proofs.Common.{◌≡◌, ◌∙◌, sym, ap, subst, ℕ, ◌<◌, List, length, map, slice_get, Option, Some, None, refl, arith}
+use Rattle.std.proofs.Common.{◌≡◌, ◌∙◌, sym, ap, subst, ◌<◌, List, map, slice_get, Option, Some, None, refl, arith}
 use Rattle.std.specs.Prelude.{IsSomeAnd}
 use Rattle.std.specs.List.{All, Contains}
 use Rattle.std.specs.Option.{option_map_or}
@@ -14,7 +14,7 @@ use Rattle.pb_frame.specs.declared.part.FramePart.{FramePart}
 use Rattle.pb_plan.specs.Boxes.{spot_of}
 use Rattle.pb_plan.proofs.JobLemmas.{map_at}
 use Rattle.pb_views.specs.Seats.{across, cell_at, down, no_seat}
-use Rattle.pb_walk.specs.Walks.{IsIn, IsPlace, walk_of}
+use Rattle.pb_walk.specs.Walks.{IsIn, walk_of}
 use Rattle.pb_walk.specs.declared.stop.Stop.{Stop}
 use Rattle.pb_walk.proofs.WalkLemmas.{walk_in}
 use Rattle.pb_runs.specs.Steps.{Instance, seat_in, stop_number}

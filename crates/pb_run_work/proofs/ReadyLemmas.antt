@@ -1,10 +1,9 @@
 -- When the turn of a task begins, its traps can be written, and its cells can be copied.
-use Rattle.std.proofs.Common.{◌≡◌, ◌∙◌, refl, sym, ap, subst, inl, inr, ⊎_elim, ℕ, ◌<◌, ◌≤◌, ◌^◌, List, [], length, map, take, slice_get, Some, arith}
+use Rattle.std.proofs.Common.{◌≡◌, ◌∙◌, refl, sym, ap, inl, inr, ℕ, ◌<◌, ◌≤◌, ◌^◌, List, [], length, map, slice_get, Some, arith}
 use Rattle.std.specs.List.{All, Contains, flat_map}
 use Rattle.std.proofs.lemmas.List.{length-map}
 use Rattle.pb_base.proofs.ListLemmas.{in_at, in_none}
 use Rattle.pb_values.specs.Cells.{Turn}
-use Rattle.pb_values.specs.Views.{cell_of}
 use Rattle.pb_values.specs.declared.outcome.Outcome.{Outcome}
 use Rattle.pb_values.specs.declared.outcome.Outcome.TheVariants.{Trapped}
 use Rattle.pb_values.specs.declared.outcome.Trap.{Trap}

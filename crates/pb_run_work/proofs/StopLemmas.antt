@@ -1,11 +1,10 @@
 -- A stop of a job of a run: the rule of its cell may be run, and what it gives of the run's outcomes is the cell's outcome.
-use Rattle.std.proofs.Common.{◌≡◌, ◌∙◌, refl, sym, ap, subst, ℕ, ◌+◌, ◌-◌, ◌<◌, ◌≤◌, ◌^◌, pos, ◌<ℤ◌, Bool, true, false, List, [], map, slice_get, Some, None, arith}
+use Rattle.std.proofs.Common.{◌≡◌, ◌∙◌, refl, sym, ap, subst, ℕ, ◌-◌, ◌<◌, ◌≤◌, ◌^◌, pos, Bool, true, false, List, [], map, slice_get, Some, None, arith}
 use Rattle.std.specs.Prelude.{◌≢◌, if◌then◌else◌}
 use Rattle.std.specs.List.{All, AllZip, Contains}
 use Rattle.std.specs.Option.{option_map_or}
 use Rattle.std.proofs.lemmas.Option.{get_or_from_slice_get, slice_get_within}
 use Rattle.pb_linear.specs.Numbers.{exact_value}
-use Rattle.pb_values.specs.Cells.{Turn}
 use Rattle.pb_values.specs.Views.{cell_of}
 use Rattle.pb_values.specs.declared.outcome.Outcome.{Outcome}
 use Rattle.pb_values.specs.declared.shape.Shape.{Shape}
@@ -48,7 +47,7 @@ use Rattle.pb_walk.specs.declared.stop.Stop.{Stop}
 use Rattle.pb_runs.specs.Laws.{IsEntered}
 use Rattle.pb_runs.specs.Placed.{outcome_of}
 use Rattle.pb_runs.specs.Right.{no_plans}
-use Rattle.pb_runs.specs.Steps.{Instance, Step, by_job, cells_of, number_at, stop_number}
+use Rattle.pb_runs.specs.Steps.{Instance, by_job, number_at, stop_number}
 use Rattle.pb_runs.proofs.OriginLemmas.{IsJobOf}
 use Rattle.pb_runs.proofs.OwnLemmas.{side_below}
 use Rattle.pb_runs.proofs.RunLemmas.{ms, run, run_right}
@@ -57,7 +56,6 @@ use Rattle.pb_steps.specs.Stands.{AreViewsOf, IsSeatFor}
 use Rattle.pb_run_plan.specs.RunTasks.{AreTasksOf, plan_of_run}
 use Rattle.pb_run_plan.proofs.PlanLemmas.{may_read}
 use Rattle.pb_jobs.specs.Instances.{InstanceValue, of_sizes, of_transform}
-use Rattle.pb_jobs.specs.Shown.{ReadsWithin}
 use Rattle.pb_jobs.specs.Tasks.{MayRun, solved_by}
 use Rattle.pb_jobs.proofs.ListLemmas.{all_at, some_at}
 use Rattle.pb_run_work.proofs.PlacedLemmas.{IsShownAt}

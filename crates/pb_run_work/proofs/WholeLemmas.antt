@@ -1,5 +1,5 @@
 -- The task of a job that makes all its cells at once.
-use Rattle.std.proofs.Common.{◌≡◌, ◌∙◌, refl, sym, ap, subst, ◌≢◌, ℕ, ◌≤◌, pos, true, false, List, length, map, slice_get, Option, Some, None, arith}
+use Rattle.std.proofs.Common.{◌≡◌, ◌∙◌, refl, sym, ap, subst, ◌≢◌, ℕ, pos, true, false, List, length, map, slice_get, Some, None, arith}
 use Rattle.std.specs.List.{Contains}
 use Rattle.std.specs.Option.{option_map_or}
 use Rattle.pb_base.proofs.ListLemmas.{at_in, in_at}
@@ -36,7 +36,7 @@ use Rattle.pb_views.specs.Windows.{number_in}
 use Rattle.pb_views.specs.declared.seat.Seat.{Seat}
 use Rattle.pb_walk.specs.declared.stop.Stop.{Stop}
 use Rattle.pb_runs.specs.Laws.{IsEntered}
-use Rattle.pb_runs.specs.Steps.{Step, by_job}
+use Rattle.pb_runs.specs.Steps.{by_job}
 use Rattle.pb_runs.proofs.OriginLemmas.{IsJobOf}
 use Rattle.pb_runs.proofs.RunLemmas.{ms, run}
 use Rattle.pb_run_plan.specs.RunTasks.{AreTasksOf}

@@ -1,5 +1,5 @@
 -- The instances and jobs of an unrolled run, as those see them who make their cells.
-use Rattle.std.specs.Prelude.{◌≡◌, List, Some, map, slice_get}
+use Rattle.std.specs.Prelude.{◌≡◌, Some, map, slice_get}
 use Rattle.pb_program.specs.Transforms.{ProgValue}
 use Rattle.pb_program.specs.Trees.{bare_prog}
 use Rattle.pb_graph.specs.Layerings.{steps_at}
