@@ -6,11 +6,15 @@
 #![tactic(auto)]
 
 mod copies;
+mod drawn;
+mod jobs;
 mod laws;
 mod seats;
 mod traps;
 
 pub use copies::run_copy;
+pub use drawn::{Pieces, Sight};
+pub use jobs::run_job_of;
 pub use laws::{
     a_task_of_a_run_that_computes_can_be_run, a_task_of_a_run_that_copies_can_be_run,
     a_task_of_a_run_that_traps_can_be_run, an_instance_of_a_run_is_ready,
