@@ -2,3 +2,4 @@ pub mod Copies
 pub mod Traps
 pub mod Planned
 pub mod Seen
+pub mod Steps

@@ -1,8 +1,11 @@
 //! The tasks of a run with plans.
 //!
-//! In: for a task, what it copies or the cells that a call that can't be made would have filled, and a port, which tells what has been
-//! made and takes the cells of the task one after another. Out: all that the port still has to be given, has been given. The theorems
-//! are `run_copy` and `run_trap`, which take no memory; and laws: when the turn of a task of a run begins, what they ask for holds.
+//! In: a step of an unrolled run, which is a job of an instance, a copy, or a call that can't be made; what is held of the run's
+//! instances; and a port, which tells what has been made, and takes the cells of the step one after another. Out: all that the port still
+//! has to be given, has been given. The theorem is `run_step`, and laws say that when the turn of a task of a run begins, what it
+//! asks for holds.
+//!
+//! Only `StepScratch::new` takes memory.
 #![tactic(auto)]
 
 mod copies;
@@ -10,6 +13,7 @@ mod drawn;
 mod jobs;
 mod laws;
 mod seats;
+mod steps;
 mod traps;
 
 pub use copies::run_copy;
@@ -19,4 +23,5 @@ pub use laws::{
     a_task_of_a_run_that_computes_can_be_run, a_task_of_a_run_that_copies_can_be_run,
     a_task_of_a_run_that_traps_can_be_run, an_instance_of_a_run_is_ready,
 };
+pub use steps::{StepScratch, run_step};
 pub use traps::run_trap;
