@@ -4,7 +4,7 @@ use Rattle.pb_taskgraph.specs.Plans.{Plan, outcome_at}
 use Rattle.pb_cells.specs.declared.view.TaskView.{TaskView}
 use Rattle.pb_cells.specs.declared.view.View.{View}
 use Rattle.pb_cells.specs.Banks.{Bank}
-use Rattle.pb_cells.specs.Stories.{Fits, FitsJob, FitsOpened, FitsRan, FitsTask, FitsTurns, HoldsTurn, Runs, Story}
+use Rattle.pb_cells.specs.Stories.{Fits, FitsJob, FitsLeft, FitsOpened, FitsRan, FitsTask, FitsTurns, HasOpened, HoldsTurn, Runs, Story}
 use Rattle.pb_cells.specs.Words.{word_of}
 
 -- for a seat, two stories say the same of the task that it runs, and a value word that was right is right
@@ -20,7 +20,8 @@ pub record SameTask (p : Plan) (b c : Bank) (y z : Story) (id : ℕ) : Type 0 wh
 pub record SameRest (b c : Bank) (y z : Story) (id : ℕ) : Type 0 where
   pub holds : (t : ℕ) → HoldsTurn y.core.holder y.core.runner t id → HoldsTurn z.core.holder z.core.runner t id
   pub held : (t : ℕ) → HoldsTurn z.core.holder z.core.runner t id → HoldsTurn y.core.holder y.core.runner t id
-  pub opened : (t : ℕ) → y.opener t ≡ Some id → z.opener t ≡ Some id
+  pub opened : (t : ℕ) → HasOpened y t id → HasOpened z t id
+  pub opens : (t : ℕ) → HasOpened z t id → HasOpened y t id
   pub takes : (t : ℕ) → y.taker t ≡ Some id → z.taker t ≡ Some id
   pub taken : (t : ℕ) → z.taker t ≡ Some id → y.taker t ≡ Some id
   pub ended : (t : ℕ) → y.taker t ≡ Some id → z.core.number t ≡ y.core.number t
@@ -45,8 +46,8 @@ module _ (p : Plan) (b c : Bank) (y z : Story) (id : ℕ) where
     pub same-turns : (turns : _) → FitsTurns y.core.holder y.core.runner id turns → FitsTurns z.core.holder z.core.runner id turns
     same-turns turns fits = record { each = λ t. (λ h. same.holds t ((fits.each t).0 h), λ h. (fits.each t).1 (same.held t h)); once = fits.once }
 
-    pub same-opened : (opened : _) → FitsOpened y.opener id opened → FitsOpened z.opener id opened
-    same-opened opened fits = record { each = λ t h. same.opened t (fits.each t h); once = fits.once }
+    pub same-opened : (opened : _) → FitsOpened y id opened → FitsOpened z id opened
+    same-opened opened fits = record { each = λ t. (λ h. same.opened t ((fits.each t).0 h), λ h. (fits.each t).1 (same.opens t h)); once = fits.once }
 
     pub same-ran : (ran : _) → FitsRan y.taker y.core.number id ran → FitsRan z.taker z.core.number id ran
     same-ran ran fits = record {
@@ -62,16 +63,18 @@ module _ (p : Plan) (b c : Bank) (y z : Story) (id : ℕ) where
       job = same-job v.job task fits.job;
       turns = same-turns v.turns fits.turns;
       opened = same-opened v.opened fits.opened;
+      left = fits.left;
       ran = same-ran v.ran fits.ran;
       seen = let more = same.finish in let was = fits.seen in omega arith;
     }
 
     -- the seat whose own task has gone on
-    pub next-fits : (v : View) (j : TaskView) → FitsTask p c z id j → Fits p b y id v → Fits p c z id (record v { job = Some j })
-    next-fits v j job fits = record {
+    pub next-fits : (v : View) (j : TaskView) → FitsTask p c z id j → FitsLeft (Some j) v.opened → Fits p b y id v → Fits p c z id (record v { job = Some j })
+    next-fits v j job left fits = record {
       job = job;
       turns = same-turns v.turns fits.turns;
       opened = same-opened v.opened fits.opened;
+      left = left;
       ran = same-ran v.ran fits.ran;
       seen = let more = same.finish in let was = fits.seen in omega arith;
     }

@@ -31,6 +31,7 @@ module _ (p : Plan) (is : IsPlan p) (b : Bank) (views : List View) (y : Story) (
     holds = λ t h. h;
     held = λ t h. h;
     opened = λ t h. h;
+    opens = λ t h. h;
     takes = λ t h. h;
     taken = λ t h. h;
     ended = λ t h. with-other y.core.number j.task (Some y.core.finished) t (λ same. none-some (y.taker t) o (ap y.taker same ∙ fits.runs.1) h);
@@ -57,10 +58,11 @@ module _ (p : Plan) (is : IsPlan p) (b : Bank) (views : List View) (y : Story) (
         order = ok.tells.order;
         unbegun = ok.tells.unbegun;
         opened = ok.tells.opened;
+        opens = ok.tells.opens;
         taken = λ t o h. (some-stays y.core.number j.task y.core.finished t (ok.tells.taken t o h).0, (ok.tells.taken t o h).1);
       }
       ok.seats
-      (next-fits p b finish_bank y finish_story id (finish-rest id) (job_view j opened) (after_finish b.finish j) finished (ok.fits id (job_view j opened) at))
+      (next-fits p b finish_bank y finish_story id (finish-rest id) (job_view j opened) (after_finish b.finish j) finished (ok.fits id (job_view j opened) at).left (ok.fits id (job_view j opened) at))
       (λ o u apart was. same-fits p b finish_bank y finish_story o (finish-rest o) u (finish-task o apart) was)
     where
       finished : FitsTask p finish_bank finish_story id (after_finish b.finish j)

@@ -1,10 +1,9 @@
 -- A hand looks at the finish count, and takes in a Job.
-use Rattle.std.proofs.Common.{◌≡◌, ◌∙◌, refl, sym, ap, subst, inl, inr, ◌⊎◌, ⊎_elim, ℕ, ◌<◌, Bool, true, false, List, [], ◌∷◌, ◌++◌, length, map, Some, None, IsSome, set, arith}
+use Rattle.std.proofs.Common.{◌≡◌, ◌∙◌, refl, sym, ap, subst, inl, inr, ⊎_elim, ℕ, ◌<◌, true, false, List, [], ◌∷◌, ◌++◌, length, map, Some, None, IsSome, set, arith}
 use Rattle.std.specs.List.{Contains}
-use Rattle.std.proofs.Math.Bool.{cond}
 use Rattle.std.proofs.lemmas.Bool.{cases_eq}
 use Rattle.std.proofs.lemmas.Bool.Decides.{nat_tests}
-use Rattle.std.proofs.lemmas.List.Elements.{Contains-append_cases, Contains-append_left, Contains-push, Contains-push_cases}
+use Rattle.std.proofs.lemmas.List.Elements.{Contains-append_cases, Contains-append_left, Contains-append_right, Contains-push, Contains-push_cases}
 use mathlib.Core.Option.{some}
 use lib.ListN.{get_elem?}
 use Rattle.pb_base.proofs.ListLemmas.{in_cases, in_head, in_none, in_tail, map_in}
@@ -12,15 +11,15 @@ use Rattle.pb_taskgraph.specs.Graphs.{EachOnce, after_of}
 use Rattle.pb_taskgraph.specs.Plans.{IsPlan, Plan}
 use Rattle.pb_core.specs.States.{with}
 use Rattle.pb_core.proofs.CountLemmas.{once-head, once-rest, one-more}
-use Rattle.pb_core.proofs.WithLemmas.{some-of, with-each, with-other, with-same}
+use Rattle.pb_core.proofs.WithLemmas.{of-some, some-of, with-each, with-other, with-same}
 use Rattle.pb_cells.specs.declared.view.TaskView.{TaskView}
 use Rattle.pb_cells.specs.declared.view.View.{View}
 use Rattle.pb_cells.specs.Banks.{Bank}
-use Rattle.pb_cells.specs.Stories.{Fits, FitsOpened, FitsRan, FitsTask, IsStory, Story, is_listed}
+use Rattle.pb_cells.specs.Stories.{Fits, FitsOpened, FitsRan, FitsTask, HasOpened, IsStory, Keeps, Story, is_listed}
 use Rattle.pb_cells.specs.Views.{hand_view, job_view, joined_view, no_view, numbered}
 use Rattle.pb_cells.proofs.CarryLemmas.{SameRest, SameTask, same-fits}
 use Rattle.pb_cells.proofs.ReleaseLemmas.{once-push}
-use Rattle.pb_cells.proofs.SeatLemmas.{none-some, seat-inside, seat-joins, seat-steps, some-one}
+use Rattle.pb_cells.proofs.SeatLemmas.{keeps-same, none-some, seat-inside, seat-joins, seat-steps, some-one}
 
 -- ---- whether a number is listed
 pub in-listed : (xs : List ℕ) (n : ℕ) → Contains xs n → is_listed xs n ≡ true
@@ -55,7 +54,7 @@ module _ (p : Plan) (is : IsPlan p) (b : Bank) (views : List View) (y : Story) (
   -- ---- a look at the finish count
   pub look-keeps : IsStory p b (set views id (hand_view opened ran b.finish)) y
   look-keeps = seat-steps p b views y ok id (hand_view opened ran seen) at b y (hand_view opened ran b.finish) ok.tells ok.seats
-      record { job = own.job; turns = own.turns; opened = own.opened; ran = own.ran; seen = omega arith }
+      record { job = own.job; turns = own.turns; opened = own.opened; left = tt; ran = own.ran; seen = omega arith }
       (λ o u apart was. was)
 
   -- ---- a Job is taken in
@@ -67,28 +66,23 @@ module _ (p : Plan) (is : IsPlan p) (b : Bank) (views : List View) (y : Story) (
     fits = theirs.job
 
     abbrev pub join_story : Story
-    join_story = record y { taker = with y.taker j.task (Some id); opener = λ t. cond (is_listed more t) (Some id) (y.opener t) }
+    join_story = record y { taker = with y.taker j.task (Some id) }
 
     taker-none : (t : ℕ) → join_story.taker t ≡ None → (t ≡ j.task → ⊥) × (y.taker t ≡ None)
     taker-none t e = with-each y.taker j.task (Some id) t (λ a. a ≡ None → (t ≡ j.task → ⊥) × (y.taker t ≡ None))
         (λ same h. absurd (none-some (Some id) id h refl))
         (λ apart_ h. (apart_, h)) e
 
-    opener-is : (t o : ℕ) (listed : Bool) → is_listed more t ≡ listed → cond listed (Some id) (y.opener t) ≡ Some o → ((id ≡ o) × (y.opener t ≡ Some other)) ⊎ (y.opener t ≡ Some o)
-    opener-is t o true e h = inl (cc, theirs.opened.each t (listed-in more t e))
-    opener-is t o false e h = inr h
+    taken-back : (t o : ℕ) → (o ≡ id → ⊥) → join_story.taker t ≡ Some o → y.taker t ≡ Some o
+    taken-back t o apart_ = with-each y.taker j.task (Some id) t (λ a. a ≡ Some o → y.taker t ≡ Some o) (λ same e. absurd (let wrong : id ≡ o = cc in apart_ (sym wrong))) (λ else_ e. e)
 
-    opener-own : (t : ℕ) (listed : Bool) → y.opener t ≡ Some id → cond listed (Some id) (y.opener t) ≡ Some id
-    opener-own t true h = refl
-    opener-own t false h = h
+    -- the Job's seat has taken in nothing, and knows of no task but its own
+    none-taken : (t : ℕ) → y.taker t ≡ Some other → ⊥
+    none-taken t h = let there = of-some (y.core.number t) (ok.tells.taken t other h).0 in in_none (t, there.0) ((theirs.ran.each t there.0).1 (h, there.1))
 
-    opener-more : (t : ℕ) (listed : Bool) → is_listed more t ≡ listed → Contains more t → cond listed (Some id) (y.opener t) ≡ Some id
-    opener-more t true e h = refl
-    opener-more t false e h = let wrong : false ≡ true = sym e ∙ in-listed more t h in absurd (cc)
-
-    opener-else : (t o : ℕ) (listed : Bool) → is_listed more t ≡ listed → (o ≡ other → ⊥) → y.opener t ≡ Some o → cond listed (Some id) (y.opener t) ≡ Some o
-    opener-else t o true e apart_ h = absurd (apart_ (some-one (y.opener t) o other h (theirs.opened.each t (listed-in more t e))))
-    opener-else t o false e apart_ h = h
+    own-task : (t : ℕ) → Keeps y.core.runner y.taker t other → t ≡ j.task
+    own-task t (inl runs) = fits.only t runs
+    own-task t (inr taken) = absurd (none-taken t taken)
 
     join-task : (o : ℕ) → (o ≡ other → ⊥) → SameTask p b b y join_story o
     join-task o apart_ = record {
@@ -103,13 +97,26 @@ module _ (p : Plan) (is : IsPlan p) (b : Bank) (views : List View) (y : Story) (
     takes-on : (t o : ℕ) → y.taker t ≡ Some o → join_story.taker t ≡ Some o
     takes-on t o h = with-other y.taker j.task (Some id) t (λ same. none-some (y.taker t) o (ap y.taker same ∙ fits.runs.1) h) ∙ h
 
+    keeps-on : (t o : ℕ) → (o ≡ other → ⊥) → Keeps y.core.runner y.taker t o → Keeps y.core.runner join_story.taker t o
+    keeps-on t o another (inl runs) = inl ((join-task o another).runs t runs)
+    keeps-on t o another (inr taken) = inr (takes-on t o taken)
+
+    keeps-back : (t o : ℕ) → (o ≡ id → ⊥) → Keeps y.core.runner join_story.taker t o → Keeps y.core.runner y.taker t o
+    keeps-back t o apart_ (inl runs) = inl (runs.0, (taker-none t runs.1).1)
+    keeps-back t o apart_ (inr taken) = inr (taken-back t o apart_ taken)
+
+    left-none : (t : ℕ) → Keeps y.core.runner join_story.taker t other → ⊥
+    left-none t (inl runs) = let was = taker-none t runs.1 in was.0 (fits.only t (runs.0, was.1))
+    left-none t (inr taken) = none-taken t (taken-back t other apart taken)
+
     join-rest : (o : ℕ) → (o ≡ id → ⊥) → (o ≡ other → ⊥) → SameRest b b y join_story o
     join-rest o apart_ another = record {
       holds = λ t h. h;
       held = λ t h. h;
-      opened = λ t h. opener-else t o (is_listed more t) refl another h;
+      opened = λ t h. (h.0, h.1, keeps-on h.0 o another h.2);
+      opens = λ t h. (h.0, h.1, keeps-back h.0 o apart_ h.2);
       takes = λ t h. takes-on t o h;
-      taken = λ t. with-each y.taker j.task (Some id) t (λ a. a ≡ Some o → y.taker t ≡ Some o) (λ same e. absurd (let wrong : id ≡ o = cc in apart_ (sym wrong))) (λ else_ e. e);
+      taken = λ t. taken-back t o apart_;
       ended = λ t h. refl;
       finish = omega arith;
     }
@@ -118,7 +125,8 @@ module _ (p : Plan) (is : IsPlan p) (b : Bank) (views : List View) (y : Story) (
     left-fits = record {
       job = λ t h. let was = taker-none t h.1 in was.0 (fits.only t (h.0, was.1));
       turns = theirs.turns;
-      opened = record { each = λ t h. absurd (in_none t h); once = theirs.turns.once };
+      opened = record { each = λ t. (λ h. absurd (in_none t h), λ h. absurd (left-none h.0 h.2)); once = theirs.turns.once };
+      left = tt;
       ran = record {
         each = λ t n. (
           λ h. absurd (in_none (t, n) h),
@@ -153,13 +161,26 @@ module _ (p : Plan) (is : IsPlan p) (b : Bank) (views : List View) (y : Story) (
           never h = let found = map_in (λ (e : ℕ × ℕ). e.0) ran j.task h in
               none-some (y.taker j.task) id fits.runs.1 (ap y.taker (sym found.2) ∙ ((own.ran.each found.0.0 found.0.1).0 found.1).0)
 
-      joined-opened : FitsOpened join_story.opener id (opened ++ more)
+      joined-back : (t : ℕ) → HasOpened join_story t id → Contains (opened ++ more) t
+      joined-back t (u, opener, inl runs) = Contains-append_left opened more t ((own.opened.each t).1 (u, opener, inl (runs.0, (taker-none u runs.1).1)))
+      joined-back t (u, opener, inr taken) = with-each y.taker j.task (Some id) u (λ a. a ≡ Some id → Contains (opened ++ more) t)
+          (λ same e. Contains-append_right opened more t ((theirs.opened.each t).1 (u, opener, subst (λ k. Keeps y.core.runner y.taker k other) (sym same) (inl fits.runs))))
+          (λ else_ e. Contains-append_left opened more t ((own.opened.each t).1 (u, opener, inr e)))
+          taken
+
+      joined-opened : FitsOpened join_story id (opened ++ more)
       joined-opened = record {
-        each = λ t h. elim (Contains-append_cases opened more t h) [
-          | inl mine ↦ opener-own t (is_listed more t) (own.opened.each t mine)
-          | inr new ↦ opener-more t (is_listed more t) refl new
-        ];
-        once = once-append opened more own.opened.once theirs.opened.once (λ t mine new. apart (some-one (y.opener t) other id (theirs.opened.each t new) (own.opened.each t mine)));
+        each = λ t. (
+          λ h. elim (Contains-append_cases opened more t h) [
+            | inl mine ↦ let was = (own.opened.each t).0 mine in (was.0, was.1, keeps-on was.0 id (λ same. apart (sym same)) was.2)
+            | inr new ↦ let was = (theirs.opened.each t).0 new in (was.0, was.1, inr (with-same y.taker j.task (Some id) was.0 (own-task was.0 was.2)))
+          ],
+          λ h. joined-back t h,
+        );
+        once = once-append opened more own.opened.once theirs.opened.once (λ t mine new.
+            let first = (own.opened.each t).0 mine in
+            let second = (theirs.opened.each t).0 new in
+            apart (keeps-same y.core.runner y.taker second.0 id other (subst (λ u. Keeps y.core.runner y.taker u id) (some-one (y.opener t) first.0 second.0 first.1 second.1) first.2) second.2));
       }
 
       joined-fits : Fits p b join_story id (joined_view (hand_view opened ran seen) (job_view j more))
@@ -167,6 +188,7 @@ module _ (p : Plan) (is : IsPlan p) (b : Bank) (views : List View) (y : Story) (
         job = λ t h. own.job t (h.0, (taker-none t h.1).1);
         turns = own.turns;
         opened = joined-opened;
+        left = tt;
         ran = subst (λ o. FitsRan join_story.taker y.core.number id (ran ++ numbered j.task o)) (sym ended) joined-ran;
         seen = own.seen;
       }
@@ -180,7 +202,8 @@ module _ (p : Plan) (is : IsPlan p) (b : Bank) (views : List View) (y : Story) (
             cells = ok.tells.cells;
             order = ok.tells.order;
             unbegun = ok.tells.unbegun;
-            opened = λ t o e. ⊎_elim (λ (new : (id ≡ o) × (y.opener t ≡ Some other)). ok.tells.opened t other new.1) (λ (was : y.opener t ≡ Some o). ok.tells.opened t o was) (opener-is t o (is_listed more t) refl e);
+            opened = ok.tells.opened;
+            opens = ok.tells.opens;
             taken = λ t o. with-each y.taker j.task (Some id) t (λ a. a ≡ Some o → IsSome (y.core.number t) × ((u : ℕ) → Contains (after_of p.graph t) u → y.core.released t u ≡ true))
                 (λ same e. (some-of (y.core.number t) n (ap y.core.number same ∙ (fits.number ∙ ended)), λ u h. ap (λ k. y.core.released k u) same ∙ (fits.released u ∙ paid u (subst (λ k. Contains (after_of p.graph k) u) same h))))
                 (λ else_ e. ok.tells.taken t o e);

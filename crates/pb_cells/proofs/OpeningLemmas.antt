@@ -88,7 +88,8 @@ module _ (p : Plan) where
         );
         once = open-once;
       };
-      opened = record { each = λ t h. absurd (in_none t h); once = λ i k below. absurd (omega arith) };
+      opened = record { each = λ t. (λ h. absurd (in_none t h), λ h. absurd (no-value h.0 h.1)); once = λ i k below. absurd (omega arith) };
+      left = tt;
       ran = record { each = λ t n. (λ h. absurd (in_none (t, n) h), λ h. absurd (no-value 0 h.0)); once = λ i k below. absurd (omega arith) };
       seen = omega arith;
     }
@@ -110,7 +111,8 @@ module _ (p : Plan) where
           cells = first-cells;
           order = λ t below c h. (λ there. absurd (first-order t c below h there), λ h. absurd (in_none c h));
           unbegun = λ t e. (refl, refl);
-          opened = λ t id e. absurd (no-value id e);
+          opened = λ t u e. absurd (no-value u e);
+          opens = λ t below waits some_before. absurd (omega arith);
           taken = λ t id e. absurd (no-value id e);
         };
         seats = record {

@@ -1,10 +1,10 @@
 -- A seat releases a successor of its finished task.
-use Rattle.std.proofs.Common.{◌≡◌, ◌∙◌, refl, sym, ap, subst, inl, inr, ⊎_elim, ℕ, zero, suc, ◌-◌, ◌<◌, eqb, Bool, true, false, List, [], ◌∷◌, ◌++◌, length, Option, Some, None, set, arith}
+use Rattle.std.proofs.Common.{◌≡◌, ◌∙◌, refl, sym, ap, subst, inl, inr, ⊎_elim, ℕ, zero, suc, ◌-◌, ◌<◌, eqb, Bool, true, false, List, [], ◌∷◌, ◌++◌, length, Option, Some, None, IsSome, set, arith}
 use Rattle.std.specs.List.{Contains}
 use Rattle.std.proofs.Math.Bool.{cond}
 use Rattle.std.proofs.lemmas.Bool.{cases_eq}
 use Rattle.std.proofs.lemmas.Bool.Decides.{nat_tests}
-use Rattle.std.proofs.lemmas.List.Elements.{Contains-push_cases}
+use Rattle.std.proofs.lemmas.List.Elements.{Contains-append_left, Contains-push, Contains-push_cases}
 use mathlib.Core.Option.{some}
 use lib.ListN.{get_elem?}
 use Rattle.pb_base.proofs.ListLemmas.{in_cases, in_head, in_none, in_tail}
@@ -18,10 +18,10 @@ use Rattle.pb_core.proofs.WithLemmas.{some-of, with-each, with-other, with-same}
 use Rattle.pb_cells.specs.declared.view.TaskView.{TaskView}
 use Rattle.pb_cells.specs.declared.view.View.{View}
 use Rattle.pb_cells.specs.Banks.{Bank}
-use Rattle.pb_cells.specs.Stories.{Fits, FitsOpened, FitsTask, FitsTurns, HoldsTurn, IsStory, Story, is_listed}
+use Rattle.pb_cells.specs.Stories.{Fits, FitsOpened, FitsTask, FitsTurns, HasOpened, HoldsTurn, IsStory, Keeps, Story, is_listed}
 use Rattle.pb_cells.specs.Views.{after_release, job_view, released_view, with_opened}
 use Rattle.pb_cells.proofs.CarryLemmas.{SameRest, SameTask, same-fits}
-use Rattle.pb_cells.proofs.SeatLemmas.{none-some, seat-inside, seat-steps, some-one, with-both}
+use Rattle.pb_cells.proofs.SeatLemmas.{keeps-same, none-some, seat-inside, seat-steps, some-one, with-both}
 use Rattle.pb_cells.proofs.TaskLemmas.{before-next, next-below, next-free, next-unbegun, next-unopened, next-waits}
 
 -- ---- who holds what a release opens
@@ -68,7 +68,7 @@ module _ (p : Plan) (is : IsPlan p) (b : Bank) (views : List View) (y : Story) (
   release_bank = record b { count = with b.count next (b.count next - 1) }
 
   abbrev pub release_story : Story
-  release_story = record y { core = happens p y.core (Release id j.task next); opener = with y.opener next (holder_at (y.core.count next - 1) id (y.opener next)) }
+  release_story = record y { core = happens p y.core (Release id j.task next); opener = with y.opener next (holder_at (y.core.count next - 1) j.task (y.opener next)) }
 
   pub count-is : b.count next ≡ y.core.count next
   count-is = ok.tells.counts next (next-below p is b y ok.tells j.task next after owed)
@@ -82,6 +82,9 @@ module _ (p : Plan) (is : IsPlan p) (b : Bank) (views : List View) (y : Story) (
   unopened : y.opener next ≡ None
   unopened = next-unopened p is b y ok.tells j.task next after owed
 
+  opened-on : (t o : ℕ) → HasOpened y t o → HasOpened release_story t o
+  opened-on t o h = (h.0, with-other y.opener next (holder_at left j.task (y.opener next)) t (λ same. none-some (y.opener t) h.0 (ap y.opener same ∙ unopened) h.1) ∙ h.1, h.2)
+
   release-rest : (o : ℕ) → (o ≡ id → ⊥) → SameRest b release_bank y release_story o
   release-rest o apart = record {
     holds = λ t h. (with-other y.core.holder next (holder_at left id (y.core.holder next)) t (λ same. none-some (y.core.holder t) o (ap y.core.holder same ∙ free) h.0) ∙ h.0, h.1);
@@ -91,7 +94,14 @@ module _ (p : Plan) (is : IsPlan p) (b : Bank) (views : List View) (y : Story) (
           (λ other e. e) h.0,
       h.1,
     );
-    opened = λ t h. with-other y.opener next (holder_at left id (y.opener next)) t (λ same. none-some (y.opener t) o (ap y.opener same ∙ unopened) h) ∙ h;
+    opened = λ t h. opened-on t o h;
+    opens = λ t h. (
+      h.0,
+      with-each y.opener next (holder_at left j.task (y.opener next)) t (λ a. a ≡ Some h.0 → y.opener t ≡ Some h.0)
+          (λ same e. absurd (apart (keeps-same y.core.runner y.taker j.task id o (inl fits.runs) (subst (λ u. Keeps y.core.runner y.taker u o) (at-seat left j.task h.0 (y.opener next) unopened e).1 h.2))))
+          (λ other e. e) h.1,
+      h.2,
+    );
     takes = λ t h. h;
     taken = λ t h. h;
     ended = λ t h. refl;
@@ -150,16 +160,37 @@ module _ (p : Plan) (is : IsPlan p) (b : Bank) (views : List View) (y : Story) (
     once = own.turns.once;
   }
 
-  opened-stays : (t : ℕ) → Contains opened t → release_story.opener t ≡ Some id
-  opened-stays t h = let was = own.opened.each t h in with-other y.opener next (holder_at left id (y.opener next)) t (λ same. none-some (y.opener t) id (ap y.opener same ∙ unopened) was) ∙ was
+  opened-was : (t : ℕ) → (t ≡ next → ⊥) → HasOpened release_story t id → Contains opened t
+  opened-was t other h = (own.opened.each t).1 (h.0, sym (with-other y.opener next (holder_at left j.task (y.opener next)) t other) ∙ h.1, h.2)
 
-  opened-more : left ≡ 0 → FitsOpened release_story.opener id (opened ++ next ∷ [])
+  never-opened : Contains opened next → ⊥
+  never-opened h = let was = (own.opened.each next).0 h in none-some (y.opener next) was.0 unopened was.1
+
+  opened-more : left ≡ 0 → FitsOpened release_story id (opened ++ next ∷ [])
   opened-more e = record {
-    each = λ t h. elim (Contains-push_cases opened next t h) [
-      | inl there ↦ opened-stays t there
-      | inr same ↦ with-same y.opener next (holder_at left id (y.opener next)) t (sym same) ∙ at-none left id (y.opener next) e
-    ];
-    once = once-push opened next own.opened.once (λ h. none-some (y.opener next) id unopened (own.opened.each next h));
+    each = λ t. (
+      λ h. elim (Contains-push_cases opened next t h) [
+        | inl there ↦ opened-on t id ((own.opened.each t).0 there)
+        | inr same ↦ subst (λ u. HasOpened release_story u id) same (j.task, with-same y.opener next (holder_at left j.task (y.opener next)) next refl ∙ at-none left j.task (y.opener next) e, inl fits.runs)
+      ],
+      λ h. ⊎_elim
+          (λ (same : t ≡ next). subst (Contains (opened ++ next ∷ [])) (sym same) (Contains-push opened next))
+          (λ (other : t ≡ next → ⊥). Contains-append_left opened (next ∷ []) t (opened-was t other h))
+          (cases_eq t next),
+    );
+    once = once-push opened next own.opened.once never-opened;
+  }
+
+  opened-same : (left ≡ 0 → ⊥) → FitsOpened release_story id opened
+  opened-same e = record {
+    each = λ t. (
+      λ h. opened-on t id ((own.opened.each t).0 h),
+      λ h. ⊎_elim
+          (λ (same : t ≡ next). absurd (none-some (y.opener next) h.0 unopened (sym (with-same y.opener next (holder_at left j.task (y.opener next)) t same ∙ at-more left j.task (y.opener next) e) ∙ h.1)))
+          (λ (other : t ≡ next → ⊥). opened-was t other h)
+          (cases_eq t next),
+    );
+    once = own.opened.once;
   }
 
   released-fits : Fits p release_bank release_story id (released_view (b.count next) next (job_view j opened))
@@ -167,14 +198,19 @@ module _ (p : Plan) (is : IsPlan p) (b : Bank) (views : List View) (y : Story) (
       (λ (one : b.count next ≡ 1). record {
         job = released;
         turns = subst (FitsTurns release_story.core.holder y.core.runner id) (sym (opened-one (b.count next) next [] one)) (turns-one (omega (arith, count-is)));
-        opened = subst (FitsOpened release_story.opener id) (sym (opened-one (b.count next) next opened one)) (opened-more (omega (arith, count-is)));
+        opened = subst (FitsOpened release_story id) (sym (opened-one (b.count next) next opened one)) (opened-more (omega (arith, count-is)));
+        left = (λ e. subst (λ l. Contains l next) (sym (opened-one (b.count next) next opened one)) (Contains-push opened next), λ h. omega arith);
         ran = own.ran;
         seen = own.seen;
       })
       (λ (more : b.count next ≡ 1 → ⊥). record {
         job = released;
         turns = subst (FitsTurns release_story.core.holder y.core.runner id) (sym (opened-not (b.count next) next [] more)) (turns-none (λ e. more (last e)));
-        opened = subst (FitsOpened release_story.opener id) (sym (opened-not (b.count next) next opened more)) record { each = opened-stays; once = own.opened.once };
+        opened = subst (FitsOpened release_story id) (sym (opened-not (b.count next) next opened more)) (opened-same (λ e. more (last e)));
+        left = (
+          λ e. absurd (more (last (ap (λ k. k - 1) (sym count-is) ∙ e))),
+          λ h. absurd (never-opened (subst (λ l. Contains l next) (opened-not (b.count next) next opened more) h)),
+        );
         ran = own.ran;
         seen = own.seen;
       })
@@ -196,9 +232,13 @@ module _ (p : Plan) (is : IsPlan p) (b : Bank) (views : List View) (y : Story) (
         cells = ok.tells.cells;
         order = ok.tells.order;
         unbegun = ok.tells.unbegun;
-        opened = λ t o. with-both y.opener y.core.count next (holder_at left id (y.opener next)) left t (λ a c. a ≡ Some o → (c ≡ 0) × (0 < length (before_of p.graph t)))
-            (λ same e. ((at-seat left id o (y.opener next) unopened e).0, subst (λ u. 0 < length (before_of p.graph u)) (sym same) some-before))
-            (λ other. ok.tells.opened t o);
+        opened = λ t u. with-both y.opener y.core.count next (holder_at left j.task (y.opener next)) left t (λ a c. a ≡ Some u → (c ≡ 0) × Contains (before_of p.graph t) u)
+            (λ same e. let there = at-seat left j.task u (y.opener next) unopened e in
+            (there.0, subst (λ k. Contains (before_of p.graph k) u) (sym same) (subst (Contains (before_of p.graph next)) (sym there.1) (before-next p is b y ok.tells j.task next after owed))))
+            (λ other. ok.tells.opened t u);
+        opens = λ t below waits some_before. with-both y.opener y.core.count next (holder_at left j.task (y.opener next)) left t (λ a c. c ≡ 0 → IsSome a)
+            (λ same e. some-of (holder_at left j.task (y.opener next)) j.task (at-none left j.task (y.opener next) e))
+            (λ other e. ok.tells.opens t below e some_before) waits;
         taken = λ t o h. let was = ok.tells.taken t o h in (
           was.0,
           λ u there. with-each y.core.released j.task (with (y.core.released j.task) next true) t (λ row. row u ≡ true)
@@ -215,6 +255,3 @@ module _ (p : Plan) (is : IsPlan p) (b : Bank) (views : List View) (y : Story) (
       }
       released-fits
       (λ o u apart was. same-fits p b release_bank y release_story o (release-rest o apart) u (release-task o apart) was)
-    where
-      some-before : 0 < length (before_of p.graph next)
-      some-before = let there = (before-next p is b y ok.tells j.task next after owed).1 in omega arith

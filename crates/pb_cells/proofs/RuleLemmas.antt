@@ -246,7 +246,7 @@ module _ (p : Plan) (id : ℕ) where
             let y = holds.story in
             let own = holds.is.fits id hand at in
             record {
-              opened = λ t h. let told = holds.is.tells.opened t id (own.opened.each t h) in (before-task p t told.1, told.1);
+              opened = λ t h. let opener = ((own.opened.each t).0 h) in let there = (holds.is.tells.opened t opener.0 opener.1).1.1 in let some_before : 0 < length (before_of p.graph t) = omega arith in (before-task p t some_before, some_before);
               opened_once = own.opened.once;
               ran = λ t n h.
                   let told = ((own.ran.each t n).0 h).1 in

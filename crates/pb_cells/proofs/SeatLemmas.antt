@@ -10,7 +10,7 @@ use Rattle.pb_core.specs.States.{with}
 use Rattle.pb_core.proofs.WithLemmas.{with-other, with-same}
 use Rattle.pb_cells.specs.declared.view.View.{View}
 use Rattle.pb_cells.specs.Banks.{Bank}
-use Rattle.pb_cells.specs.Stories.{AreSeats, Fits, IsStory, Story, Tells}
+use Rattle.pb_cells.specs.Stories.{AreSeats, Fits, IsStory, Keeps, Story, Tells}
 
 -- two functions that differ from others at the same number
 pub with-both : {X Y : Type 0} (f : ℕ → X) (h : ℕ → Y) (n : ℕ) (x : X) (z : Y) (k : ℕ) (P : X → Y → Type 0) → (k ≡ n → P x z) → ((k ≡ n → ⊥) → P (f k) (h k)) → P (with f n x k) (with h n z k)
@@ -38,6 +38,13 @@ some-one o x z e f = let same : Some x ≡ Some z = sym e ∙ f in cc
 
 pub none-some : {X : Type 0} (o : Option X) (x : X) → o ≡ None → o ≡ Some x → ⊥
 none-some o x empty is = let wrong : None ≡ Some x = sym empty ∙ is in cc
+
+-- one seat knows of a task
+pub keeps-same : (runner taker : ℕ → Option ℕ) (t id o : ℕ) → Keeps runner taker t id → Keeps runner taker t o → o ≡ id
+keeps-same runner taker t id o (inl mine) (inl theirs) = some-one (runner t) o id theirs.0 mine.0
+keeps-same runner taker t id o (inl mine) (inr taken) = absurd (none-some (taker t) o mine.1 taken)
+keeps-same runner taker t id o (inr mine) (inl theirs) = absurd (none-some (taker t) id theirs.1 mine)
+keeps-same runner taker t id o (inr mine) (inr taken) = some-one (taker t) o id taken mine
 
 module _ (p : Plan) (b : Bank) (views : List View) (y : Story) (ok : IsStory p b views y) where
   module _ (id : ℕ) (v : View) (at : get_elem? views id ≡ some v) (c : Bank) (z : Story) where

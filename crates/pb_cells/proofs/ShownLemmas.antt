@@ -22,10 +22,10 @@ use Rattle.pb_cells.specs.declared.view.View.{View}
 use Rattle.pb_cells.specs.Banks.{Bank}
 use Rattle.pb_cells.specs.Shown.{HasTurn, IsOpened, IsTurn, OnTask, OneSeat, SaysFinished, SaysOwed, SeatWith, ShowsIt, SomeSeat}
 use Rattle.pb_cells.specs.Steps.{IsNext}
-use Rattle.pb_cells.specs.Stories.{FitsJob, FitsTask, IsStory, Runs, Story, Tells, TellsCell, is_listed, next_cell}
+use Rattle.pb_cells.specs.Stories.{FitsJob, FitsTask, HasOpened, IsStory, Keeps, Runs, Story, Tells, TellsCell, is_listed, next_cell}
 use Rattle.pb_cells.specs.Words.{word_of}
 use Rattle.pb_cells.proofs.JoinLemmas.{in-listed, listed-in}
-use Rattle.pb_cells.proofs.SeatLemmas.{none-some, some-one}
+use Rattle.pb_cells.proofs.SeatLemmas.{keeps-same, none-some, some-one}
 use Rattle.pb_cells.proofs.TaskLemmas.{next-cell-below, next-empty}
 
 seat-there : {A : Type 0} (xs : List A) (i : ℕ) → i < length xs → (x : A) × (get_elem? xs i ≡ some x)
@@ -170,14 +170,18 @@ module _ (p : Plan) (is : IsPlan p) (b : Bank) (views : List View) (y : Story) (
       one id seat = (id, seat, λ other theirs. turn-one t id other seat theirs)
 
   -- ---- opened tasks
+  opened-one : (t id other : ℕ) → HasOpened y t id → HasOpened y t other → other ≡ id
+  opened-one t id other mine theirs = keeps-same y.core.runner y.taker theirs.0 id other (subst (λ u. Keeps y.core.runner y.taker u id) (some-one (y.opener t) mine.0 theirs.0 mine.1 theirs.1) mine.2) theirs.2
+
   pub opened-is : (t id : ℕ) → SeatWith views (λ v. Contains v.opened t) id → IsOpened p b views id t
   opened-is t id (v, at, h) =
-      let opener = (ok.fits id v at).opened.each t h in
-      let told = ok.tells.opened t id opener in
+      let opener = ((ok.fits id v at).opened.each t).0 h in
+      let told = ok.tells.opened t opener.0 opener.1 in
+      let some_before : 0 < length (before_of p.graph t) = let there = told.1.1 in omega arith in
       record {
-        count = ok.tells.counts t (task told.0 told.1) ∙ told.0;
-        before = told.1;
-        one = λ other seat. some-one (y.opener t) other id ((ok.fits other seat.0 seat.1).opened.each t seat.2) opener;
+        count = ok.tells.counts t (task told.0 some_before) ∙ told.0;
+        before = some_before;
+        one = λ other seat. opened-one t id other opener (((ok.fits other seat.0 seat.1).opened.each t).0 seat.2);
       }
     where
       task : y.core.count t ≡ 0 → 0 < length (before_of p.graph t) → t < length p.graph.tasks

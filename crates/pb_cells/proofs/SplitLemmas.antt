@@ -10,12 +10,12 @@ use Rattle.pb_taskgraph.specs.Plans.{IsPlan, Plan}
 use Rattle.pb_core.specs.declared.event.Event.TheVariants.{Give, Start}
 use Rattle.pb_core.specs.States.{State, happens, with}
 use Rattle.pb_core.proofs.CountLemmas.{once-head, once-rest}
-use Rattle.pb_core.proofs.KeepLemmas.{keeps}
+use Rattle.pb_core.proofs.KeepLemmas.{finished-before, keeps}
 use Rattle.pb_core.proofs.ListedLemmas.{not-true}
 use Rattle.pb_core.proofs.WithLemmas.{none-of, not-none, of-some, with-each, with-other, with-same}
 use Rattle.pb_cells.specs.declared.view.View.{View}
 use Rattle.pb_cells.specs.Banks.{Bank}
-use Rattle.pb_cells.specs.Stories.{Fits, FitsTask, FitsTurns, HoldsTurn, IsStory, Story}
+use Rattle.pb_cells.specs.Stories.{Fits, FitsTask, FitsTurns, HasOpened, HoldsTurn, IsStory, Keeps, Story}
 use Rattle.pb_cells.specs.Views.{job_view, no_view, untouched}
 use Rattle.pb_cells.proofs.CarryLemmas.{SameRest, SameTask, same-fits, same-job}
 use Rattle.pb_cells.proofs.SeatLemmas.{none-some, seat-inside, seat-splits, some-one, with-both}
@@ -30,12 +30,17 @@ module _ (p : Plan) (is : IsPlan p) (b : Bank) (views : List View) (y : Story) (
   inside : id < length views
   inside = seat-inside views id v at
 
+  unknown : (t : ℕ) → Keeps y.core.runner y.taker t new → ⊥
+  unknown t (inl runs) = let below = ok.seats.runners t new runs.0 in omega arith
+  unknown t (inr taken) = let below = ok.seats.takers t new taken in omega arith
+
   -- ---- a seat that knows nothing
   new-hand : Fits p b y new no_view
   new-hand = record {
     job = λ t h. absurd (let below = ok.seats.runners t new h.0 in omega arith);
     turns = record { each = λ t. (λ h. absurd (in_none t h), λ h. absurd (let below = ok.seats.holders t new h.0 in omega arith)); once = λ i k below. absurd (omega arith) };
-    opened = record { each = λ t h. absurd (in_none t h); once = λ i k below. absurd (omega arith) };
+    opened = record { each = λ t. (λ h. absurd (in_none t h), λ h. absurd (unknown h.0 h.2)); once = λ i k below. absurd (omega arith) };
+    left = tt;
     ran = record { each = λ t n. (λ h. absurd (in_none (t, n) h), λ h. absurd (let below = ok.seats.takers t new h.0 in omega arith)); once = λ i k below. absurd (omega arith) };
     seen = omega arith;
   }
@@ -89,11 +94,26 @@ module _ (p : Plan) (is : IsPlan p) (b : Bank) (views : List View) (y : Story) (
     held-on : (u o : ℕ) → (u ≡ t → ⊥) → HoldsTurn y.core.holder y.core.runner u o → HoldsTurn holder runner u o
     held-on u o other h = (with-other y.core.holder t (Some new) u other ∙ h.0, with-other y.core.runner t (Some new) u other ∙ h.1)
 
+    keeps-on : (u o : ℕ) → o < length views → Keeps y.core.runner y.taker u o → Keeps runner y.taker u o
+    keeps-on u o there (inl runs) = inl ((split-task o there).runs u runs)
+    keeps-on u o there (inr taken) = inr taken
+
+    keeps-back : (u o : ℕ) → o < length views → Keeps runner y.taker u o → Keeps y.core.runner y.taker u o
+    keeps-back u o there (inl runs) = inl ((split-task o there).back u runs)
+    keeps-back u o there (inr taken) = inr taken
+
+    opened-on : (u o : ℕ) → o < length views → HasOpened y u o → HasOpened split_story u o
+    opened-on u o there h = (h.0, h.1, keeps-on h.0 o there h.2)
+
+    opened-back : (u o : ℕ) → o < length views → HasOpened split_story u o → HasOpened y u o
+    opened-back u o there h = (h.0, h.1, keeps-back h.0 o there h.2)
+
     split-rest : (o : ℕ) → (o ≡ id → ⊥) → o < length views → SameRest b b y split_story o
     split-rest o apart there = record {
       holds = λ u h. held-on u o (λ same. apart (some-one (y.core.holder u) o id h.0 (ap y.core.holder same ∙ turn.0))) h;
       held = λ u h. (held-back u o there h).1;
-      opened = λ u h. h;
+      opened = λ u h. opened-on u o there h;
+      opens = λ u h. opened-back u o there h;
       takes = λ u h. h;
       taken = λ u h. h;
       ended = λ u h. refl;
@@ -119,7 +139,8 @@ module _ (p : Plan) (is : IsPlan p) (b : Bank) (views : List View) (y : Story) (
     left-fits = record {
       job = same-job p b b y split_story id v.job (split-task id inside) own.job;
       turns = left-turns;
-      opened = own.opened;
+      opened = record { each = λ u. (λ h. opened-on u id inside ((own.opened.each u).0 h), λ h. (own.opened.each u).1 (opened-back u id inside h)); once = own.opened.once };
+      left = own.left;
       ran = own.ran;
       seen = own.seen;
     }
@@ -141,11 +162,20 @@ module _ (p : Plan) (is : IsPlan p) (b : Bank) (views : List View) (y : Story) (
     new-fits = record {
       job = new-task;
       turns = record { each = λ u. (λ h. absurd (in_none u h), λ h. absurd (new-turn u h)); once = λ i k below. absurd (omega arith) };
-      opened = new-hand.opened;
+      opened = record { each = λ u. (λ h. absurd (in_none u h), λ h. absurd (new-opened u h)); once = λ i k below. absurd (omega arith) };
+      left = tt;
       ran = new-hand.ran;
       seen = omega arith;
     }
       where
+        -- its task hasn't released any
+        new-opened : (u : ℕ) → HasOpened split_story u new → ⊥
+        new-opened u (w, opener, inl runs) = with-each y.core.runner t (Some new) w (λ a. a ≡ Some new → ⊥)
+            (λ same e. let told = ok.tells.opened u w opener in not-none (y.core.number w) (ap y.core.number same ∙ unfinished) (finished-before p is y.core ok.tells.sound u w told.0 told.1))
+            (λ other e. let below = ok.seats.runners w new e in omega arith)
+            runs.0
+        new-opened u (w, opener, inr taken) = let below = ok.seats.takers w new taken in omega arith
+
         new-turn : (u : ℕ) → HoldsTurn holder runner u new → ⊥
         new-turn u h = ⊎_elim
             (λ (same : u ≡ t). none-some (runner u) new h.1 (with-same y.core.runner t (Some new) u same))
@@ -165,6 +195,7 @@ module _ (p : Plan) (is : IsPlan p) (b : Bank) (views : List View) (y : Story) (
               (λ same e. absurd (none-some (Some new) new e refl))
               (λ other e. ok.tells.unbegun u e);
           opened = ok.tells.opened;
+          opens = ok.tells.opens;
           taken = ok.tells.taken;
         }
         record {

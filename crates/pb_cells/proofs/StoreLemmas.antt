@@ -46,7 +46,7 @@ module _ (p : Plan) (is : IsPlan p) (b : Bank) (views : List View) (y : Story) (
   value-task o = record { runs = λ t h. h; back = λ t h. h; wrote = λ t h. refl; number = λ t h. refl; released = λ t u h. refl; right = right }
 
   value-rest : (o : ℕ) → SameRest b value_bank y y o
-  value-rest o = record { holds = λ t h. h; held = λ t h. h; opened = λ t h. h; takes = λ t h. h; taken = λ t h. h; ended = λ t h. refl; finish = omega arith }
+  value-rest o = record { holds = λ t h. h; held = λ t h. h; opened = λ t h. h; opens = λ t h. h; takes = λ t h. h; taken = λ t h. h; ended = λ t h. refl; finish = omega arith }
 
   pub value-keeps : j.written < length (p.order j.task) → IsStory p value_bank (set views id (job_view (after_store j) opened)) y
   value-keeps more = seat-steps p b views y ok id (job_view j opened) at value_bank y (job_view (after_store j) opened)
@@ -60,10 +60,11 @@ module _ (p : Plan) (is : IsPlan p) (b : Bank) (views : List View) (y : Story) (
         order = ok.tells.order;
         unbegun = ok.tells.unbegun;
         opened = ok.tells.opened;
+        opens = ok.tells.opens;
         taken = ok.tells.taken;
       }
       ok.seats
-      (next-fits p b value_bank y y id (value-rest id) (job_view j opened) (after_store j) stored own)
+      (next-fits p b value_bank y y id (value-rest id) (job_view j opened) (after_store j) stored own.left own)
       (λ o u apart was. same-fits p b value_bank y y o (value-rest o) u (value-task o) was)
     where
       unwritten : (o : Option Outcome) (mark word new : ℕ) → o ≡ None → TellsCell o mark word → TellsCell o mark new
@@ -88,7 +89,7 @@ module _ (p : Plan) (is : IsPlan p) (b : Bank) (views : List View) (y : Story) (
   mark_story = record y { core = happens p y.core (Write id (next_cell p j)); wrote = with y.wrote j.task (j.written + 1) }
 
   mark-rest : (o : ℕ) → SameRest b mark_bank y mark_story o
-  mark-rest o = record { holds = λ t h. h; held = λ t h. h; opened = λ t h. h; takes = λ t h. h; taken = λ t h. h; ended = λ t h. refl; finish = omega arith }
+  mark-rest o = record { holds = λ t h. h; held = λ t h. h; opened = λ t h. h; opens = λ t h. h; takes = λ t h. h; taken = λ t h. h; ended = λ t h. refl; finish = omega arith }
 
   mark-task : (o : ℕ) → (o ≡ id → ⊥) → SameTask p b mark_bank y mark_story o
   mark-task o apart = record {
@@ -152,10 +153,11 @@ module _ (p : Plan) (is : IsPlan p) (b : Bank) (views : List View) (y : Story) (
           order = mark-order;
           unbegun = λ t none. (with-other y.wrote j.task (j.written + 1) t (λ same. none-some (y.core.runner t) id none (ap y.core.runner same ∙ fits.runs.0)) ∙ (ok.tells.unbegun t none).0, (ok.tells.unbegun t none).1);
           opened = ok.tells.opened;
+          opens = ok.tells.opens;
           taken = ok.tells.taken;
         }
         ok.seats
-        (next-fits p b mark_bank y mark_story id (mark-rest id) (job_view j opened) (after_mark j) marked own)
+        (next-fits p b mark_bank y mark_story id (mark-rest id) (job_view j opened) (after_mark j) marked own.left own)
         (λ o u apart was. same-fits p b mark_bank y mark_story o (mark-rest o) u (mark-task o apart) was)
       where
         marked : FitsTask p mark_bank mark_story id (after_mark j)

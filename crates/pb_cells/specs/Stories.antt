@@ -1,5 +1,5 @@
 -- What the words of a table and the views of its seats stand for: a state of the machine whose hands are the seats.
-use Rattle.std.specs.Prelude.{◌≡◌, ℕ, ◌<◌, ◌≤◌, ◌==◌, ◌↔◌, Bool, true, false, List, [], ◌∷◌, length, map, slice_index, take, Option, Some, None, IsSome, if◌then◌else◌}
+use Rattle.std.specs.Prelude.{◌≡◌, ℕ, ◌<◌, ◌≤◌, ◌==◌, ◌↔◌, ◌⊎◌, Bool, true, false, List, [], ◌∷◌, length, map, slice_index, take, Option, Some, None, IsSome, if◌then◌else◌}
 use Rattle.std.specs.List.{Contains}
 use mathlib.Core.Option.{some}
 use lib.ListN.{get_elem?}
@@ -19,7 +19,7 @@ pub record Story : Type 0 where
   pub core : State
   -- how many cells of its own order each task has written
   pub wrote : ℕ → ℕ
-  -- the seat whose release has opened a task, and the seat that has taken in a finished one
+  -- the task whose release has opened a task, and the seat that has taken in a finished one
   pub opener : ℕ → Option ℕ
   pub taker : ℕ → Option ℕ
 
@@ -45,8 +45,10 @@ pub record Tells (p : Plan) (b : Bank) (y : Story) : Type 0 where
   pub order : (t : ℕ) → t < length p.graph.tasks → AreFirst y.core.value (y.wrote t) (p.order t)
   -- a task that nobody has begun has written nothing and never changed hands
   pub unbegun : (t : ℕ) → y.core.runner t ≡ None → (y.wrote t ≡ 0) × (y.core.given t ≡ false)
-  -- an opened task waits for no release, and has a predecessor
-  pub opened : (t id : ℕ) → y.opener t ≡ Some id → (y.core.count t ≡ 0) × (0 < length (before_of p.graph t))
+  -- an opened task waits for no release, and a predecessor has opened it
+  pub opened : (t u : ℕ) → y.opener t ≡ Some u → (y.core.count t ≡ 0) × Contains (before_of p.graph t) u
+  -- each task that has predecessors and waits for no release is opened
+  pub opens : (t : ℕ) → t < length p.graph.tasks → y.core.count t ≡ 0 → 0 < length (before_of p.graph t) → IsSome (y.opener t)
   -- a task that was taken in is finished and owes no release
   pub taken : (t id : ℕ) → y.taker t ≡ Some id → IsSome (y.core.number t) × ((u : ℕ) → Contains (after_of p.graph t) u → y.core.released t u ≡ true)
 
@@ -57,6 +59,14 @@ HoldsTurn holder runner t id = (holder t ≡ Some id) × (runner t ≡ None)
 -- a seat has begun a task, which no other seat has taken in
 abbrev pub Runs : (ℕ → Option ℕ) → (ℕ → Option ℕ) → ℕ → ℕ → Type 0
 Runs runner taker t id = (runner t ≡ Some id) × (taker t ≡ None)
+
+-- a seat knows what has come of a task: it runs it, or has taken it in
+abbrev pub Keeps : (ℕ → Option ℕ) → (ℕ → Option ℕ) → ℕ → ℕ → Type 0
+Keeps runner taker t id = Runs runner taker t id ⊎ (taker t ≡ Some id)
+
+-- a seat has opened a task: it knows of the task whose release did
+abbrev pub HasOpened : Story → ℕ → ℕ → Type 0
+HasOpened y t id = (u : ℕ) × (y.opener t ≡ Some u) × Keeps y.core.runner y.taker u id
 
 -- whether a number stands in a list
 abbrev pub is_listed : List ℕ → ℕ → Bool
@@ -89,10 +99,19 @@ pub record FitsTurns (holder runner : ℕ → Option ℕ) (id : ℕ) (turns : Li
   pub each : (t : ℕ) → Contains turns t ↔ HoldsTurn holder runner t id
   pub once : EachOnce turns
 
--- tasks that a seat has opened, each once
-pub record FitsOpened (opener : ℕ → Option ℕ) (id : ℕ) (opened : List ℕ) : Type 0 where
-  pub each : (t : ℕ) → Contains opened t → opener t ≡ Some id
+-- just the tasks that a seat has opened, each once
+pub record FitsOpened (y : Story) (id : ℕ) (opened : List ℕ) : Type 0 where
+  pub each : (t : ℕ) → Contains opened t ↔ HasOpened y t id
   pub once : EachOnce opened
+
+-- what the last of some releases has left of a count is 0 just where it has opened the successor
+abbrev pub IsLeft : List ℕ → ℕ → List ℕ → Type 0
+IsLeft [] left opened = Unit {0}
+IsLeft (next ∷ others) left opened = (left ≡ 0) ↔ Contains opened next
+
+abbrev pub FitsLeft : Option TaskView → List ℕ → Type 0
+FitsLeft None opened = Unit {0}
+FitsLeft (Some j) opened = IsLeft j.released j.left opened
 
 -- just the tasks that a seat has taken in, with their numbers, each once
 pub record FitsRan (taker number : ℕ → Option ℕ) (id : ℕ) (ran : List (ℕ × ℕ)) : Type 0 where
@@ -103,7 +122,8 @@ pub record FitsRan (taker number : ℕ → Option ℕ) (id : ℕ) (ran : List (�
 pub record Fits (p : Plan) (b : Bank) (y : Story) (id : ℕ) (v : View) : Type 0 where
   pub job : FitsJob p b y id v.job
   pub turns : FitsTurns y.core.holder y.core.runner id v.turns
-  pub opened : FitsOpened y.opener id v.opened
+  pub opened : FitsOpened y id v.opened
+  pub left : FitsLeft v.job v.opened
   pub ran : FitsRan y.taker y.core.number id v.ran
   pub seen : v.seen ≤ b.finish
 
