@@ -10,6 +10,7 @@ pub mod JoinLemmas
 pub mod BankLemmas
 pub mod OpeningLemmas
 pub mod RuleLemmas
+pub mod LookLemmas
 pub mod CallLemmas
 pub mod PortLemmas
 pub mod FirstLemmas

@@ -1,5 +1,5 @@
 -- Each step on a word keeps the rule of the table, and tells what its seat knows then.
-use Rattle.std.proofs.Common.{⊎_elim, ◌≡◌, ◌∙◌, refl, sym, ap, subst, ℕ, ◌+◌, ◌-◌, ◌%◌, ◌^◌, ◌<◌, ◌≤◌, true, false, List, [], ◌∷◌, ◌++◌, length, drop, get_or, Some, None, set, arith}
+use Rattle.std.proofs.Common.{◌≡◌, ◌∙◌, refl, sym, ap, subst, ℕ, ◌+◌, ◌-◌, ◌%◌, ◌^◌, ◌<◌, ◌≤◌, true, false, List, [], ◌∷◌, ◌++◌, length, drop, get_or, Some, None, set, arith}
 use Rattle.std.specs.List.{Contains}
 use Rattle.std.proofs.Math.ListN.{length-set}
 use Rattle.std.proofs.lemmas.List.{set-get_or}
@@ -8,11 +8,7 @@ use lib.ListN.{get_elem?}
 use Rattle.atomic_table.specs.Table as table
 use Rattle.atomic_table.specs.Table.{Allows, Joins, Splits, keeps, step}
 use Rattle.atomic_table.proofs.Lists.{set_again, set_else}
-use Rattle.pb_taskgraph.specs.Graphs.{GraphValue, after_of, before_of}
-use Rattle.pb_taskgraph.proofs.GraphLemmas.{before-past}
-use Rattle.pb_core.proofs.OrderLemmas.{is-task}
-use Rattle.pb_core.proofs.WithLemmas.{some-of}
-use Rattle.std.proofs.lemmas.Bool.{cases_lt}
+use Rattle.pb_taskgraph.specs.Graphs.{GraphValue, after_of}
 use Rattle.pb_taskgraph.specs.Plans.{Plan, outcome_at}
 use Rattle.pb_core.specs.States.{with}
 use Rattle.pb_core.proofs.FinishLemmas.{finished-few}
@@ -20,7 +16,7 @@ use Rattle.pb_cells.specs.declared.view.TaskView.{TaskView}
 use Rattle.pb_cells.specs.declared.view.View.{View}
 use Rattle.pb_cells.specs.Banks.{Bank, bank_of, count_at, finish_at, mark_at, value_at}
 use Rattle.pb_cells.specs.Stories.{Holds, IsStory, Story, is_listed, next_cell}
-use Rattle.pb_cells.specs.Steps.{AreTasks, Finishes, Looks, Marks, Reads, Releases, Stores}
+use Rattle.pb_cells.specs.Steps.{Finishes, Looks, Marks, Reads, Releases, Stores}
 use Rattle.pb_cells.specs.Views.{after_finish, after_mark, after_store, first_turn, hand_view, job_view, joined_view, no_view, released_view, turn_view, untouched, without_turn}
 use Rattle.pb_cells.specs.Words.{mark_of, word_of}
 use Rattle.pb_cells.proofs.BankLemmas.{get-count, get-finish, get-mark, get-value, set-count, set-finish, set-mark, set-value}
@@ -30,13 +26,6 @@ use Rattle.pb_cells.proofs.ReleaseLemmas.{count-is, count-waits, owed, release-k
 use Rattle.pb_cells.proofs.SplitLemmas.{hand-keeps, split_story, turn-keeps}
 use Rattle.pb_cells.proofs.StoreLemmas.{mark-keeps, mark_story, value-keeps}
 use Rattle.pb_cells.proofs.TaskLemmas.{next-below, next-cell-below, next-unfinished, read-below, read-word}
-
--- a task with a predecessor is one
-before-task : (p : Plan) (t : ℕ) → 0 < length (before_of p.graph t) → t < length p.graph.tasks
-before-task p t some_before = ⊎_elim
-    (λ (inside : t < length p.graph.tasks). inside)
-    (λ (past : length p.graph.tasks ≤ t). absurd (let empty = ap (λ (l : List ℕ). length l) (before-past p.graph t past) in omega arith))
-    (cases_lt t (length p.graph.tasks))
 
 abbrev Table : Type 0
 Table = table.State (Unit {0}) View
@@ -237,27 +226,8 @@ module _ (p : Plan) (id : ℕ) where
             is = subst (λ (l : List ℕ). IsStory p (bank_of p.graph l) (set s.views id (hand_view opened ran (get_or s.words (finish_at p.graph) 0))) holds.story) (sym (set-get_or s.words (finish_at p.graph) 0))
                 (subst (λ n. IsStory p b (set s.views id (hand_view opened ran n)) holds.story) (sym found) (look-keeps p holds.plan b s.views holds.story holds.is id opened ran seen at));
           },
-          (few s holds, refl, tasks s holds at),
+          (refl, record { state = s; holds = holds; id = id; knows = at; count = sym found }),
         )
-      where
-        tasks : (s : Table) (holds : Holds p s) → get_elem? s.views id ≡ some hand → AreTasks p opened ran
-        tasks s holds at =
-            let b = bank_of p.graph s.words in
-            let y = holds.story in
-            let own = holds.is.fits id hand at in
-            record {
-              opened = λ t h. let opener = ((own.opened.each t).0 h) in let there = (holds.is.tells.opened t opener.0 opener.1).1.1 in let some_before : 0 < length (before_of p.graph t) = omega arith in (before-task p t some_before, some_before);
-              opened_once = own.opened.once;
-              ran = λ t n h.
-                  let told = ((own.ran.each t n).0 h).1 in
-                  let below = holds.is.tells.sound.numbers.below t n told in
-                  let most = finished-few p y.core holds.is.tells.sound in
-                  (is-task p y.core holds.is.tells.sound t (some-of (y.core.number t) n told), omega arith);
-              ran_once = own.ran.once;
-            }
-
-        few : (s : Table) (holds : Holds p s) → get_or s.words (finish_at p.graph) 0 ≤ length p.graph.tasks
-        few s holds = let most = finished-few p holds.story.core holds.is.tells.sound in let found = get-finish p.graph s.words holds.width in omega (arith, holds.is.tells.finish)
 
     -- ---- a Job is taken in
     pub join-joins : (other : ℕ) (j : TaskView) (more : List ℕ) (n : ℕ) → j.number ≡ Some n → ((u : ℕ) → Contains (after_of p.graph j.task) u → is_listed j.released u ≡ true)

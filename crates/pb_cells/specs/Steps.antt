@@ -1,13 +1,16 @@
 -- What a step on a word of the table tells of its seat.
 use Rattle.std.specs.Prelude.{◌≡◌, ℕ, ◌<◌, ◌≤◌, List, length, map, slice_index, Option, Some, None}
 use Rattle.std.specs.List.{Contains}
+use mathlib.Core.Option.{some}
+use lib.ListN.{get_elem?}
 use Rattle.atomic_table.specs.Table as table
 use Rattle.pb_taskgraph.specs.Graphs.{EachOnce, before_of}
 use Rattle.pb_taskgraph.specs.Plans.{Plan, outcome_at}
 use Rattle.pb_taskgraph.specs.Turns.{MayRead}
 use Rattle.pb_cells.specs.declared.view.TaskView.{TaskView}
 use Rattle.pb_cells.specs.declared.view.View.{View}
-use Rattle.pb_cells.specs.Banks.{count_at, mark_at, value_at}
+use Rattle.pb_cells.specs.Banks.{bank_of, count_at, mark_at, value_at}
+use Rattle.pb_cells.specs.Stories.{Holds}
 use Rattle.pb_cells.specs.Views.{after_finish, after_mark, after_store, released_view, with_task}
 use Rattle.pb_cells.specs.Words.{mark_of, word_of}
 
@@ -42,9 +45,24 @@ pub record AreTasks (p : Plan) (tasks : List ℕ) (ended : List (ℕ × ℕ)) : 
   pub ran : (t n : ℕ) → Contains ended (t, n) → (t < length p.graph.tasks) × (n < length p.graph.tasks)
   pub ran_once : EachOnce (map (λ e. e.0) ended)
 
--- the finish count is seen, and what the seat has opened and taken in are tasks
+-- a number of finished tasks isn't below the one that was seen before; the numbers of the tasks that were taken in are below it,
+-- and these tasks are no more
+pub record IsPast (before : ℕ) (ended : List (ℕ × ℕ)) (n : ℕ) : Type 0 where
+  pub risen : before ≤ n
+  pub numbers : (t m : ℕ) → Contains ended (t, m) → m < n
+  pub many : length ended ≤ n
+
+-- a state of the table that meets its rule, in which a seat knows just this, and the finish count is this number
+pub record IsCount (p : Plan) (v : View) (n : ℕ) : Type 0 where
+  pub state : table.State (Unit {0}) View
+  pub holds : Holds p state
+  pub id : ℕ
+  pub knows : get_elem? state.views id ≡ some v
+  pub count : (bank_of p.graph state.words).finish ≡ n
+
+-- the finish count is seen
 abbrev pub Looks : Plan → Step → Me → ℕ → Me → Type 0
-Looks p s me n after = (n ≤ length p.graph.tasks) × (after ≡ (record me.0 { seen = n }, me.1)) × AreTasks p me.0.opened me.0.ran
+Looks p s me n after = (after ≡ (record me.0 { seen = n }, me.1)) × IsCount p me.0 n
 
 -- a successor is released, whose count was the number that was found
 abbrev pub Releases : Plan → Step → Me → ℕ → Me → Type 0

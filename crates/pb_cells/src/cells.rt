@@ -3,8 +3,8 @@ ghost use Rattle.std.specs.List.{Contains};
 ghost use Rattle.pb_taskgraph.specs.Graphs.{after_of};
 ghost use Rattle.pb_taskgraph.specs.Plans.{outcome_at};
 ghost use Rattle.pb_cells.specs.Handles.{HasReleased, hand_with, new_hand, new_job, turn_at};
-ghost use Rattle.pb_cells.specs.Steps.{AreTasks};
-ghost use Rattle.pb_cells.specs.Views.{after_finish, after_mark, ready_tasks};
+ghost use Rattle.pb_cells.specs.Steps.{AreTasks, IsCount, IsPast};
+ghost use Rattle.pb_cells.specs.Views.{after_finish, after_mark, hand_view, ready_tasks};
 
 use crate::deal::{deal_hands, deal_jobs};
 use crate::first::{first_words, ready_list};
@@ -153,10 +153,12 @@ impl<N: NamesWork> Cells<N> {
             .join_seat::<TakeIn>(&mut hand.seat, job.into_seat());
     }
 
-    /// How many tasks are finished by now. What the Hand's Jobs have opened are tasks with predecessors, and what it has taken in
-    /// are tasks, each once.
+    /// How many tasks are finished by now: no less than the Hand has seen before, and past the numbers of all that it has taken in.
+    /// What the Hand's Jobs have opened are tasks with predecessors, and what it has taken in are tasks, each once.
     pub fn finished(&self, hand: &mut Hand<N>) -> u64
         requires table { hand.old.table ≡ self.now }
+        ensures count { IsCount N.plan (hand_view hand.old.opened hand.old.ran hand.old.seen) result }
+        ensures past { IsPast hand.old.seen hand.old.ran result }
         ensures few { result ≤ length N.plan.graph.tasks }
         ensures seen { hand.new ≡ record hand.old { seen = result } }
         ensures told { AreTasks N.plan hand.new.opened hand.new.ran }
