@@ -28,12 +28,12 @@ use Rattle.pb_cells.proofs.JoinLemmas.{in-listed, listed-in}
 use Rattle.pb_cells.proofs.SeatLemmas.{keeps-same, none-some, some-one}
 use Rattle.pb_cells.proofs.TaskLemmas.{next-cell-below, next-empty}
 
-seat-there : {A : Type 0} (xs : List A) (i : ℕ) → i < length xs → (x : A) × (get_elem? xs i ≡ some x)
+pub seat-there : {A : Type 0} (xs : List A) (i : ℕ) → i < length xs → (x : A) × (get_elem? xs i ≡ some x)
 seat-there [] i below = absurd (omega arith)
 seat-there (x ∷ xs) zero below = (x, refl)
 seat-there (x ∷ xs) (suc i) below = seat-there xs i (omega arith)
 
-option-cases : {X : Type 0} (o : Option X) → (o ≡ None) ⊎ ((x : X) × (o ≡ Some x))
+pub option-cases : {X : Type 0} (o : Option X) → (o ≡ None) ⊎ ((x : X) × (o ≡ Some x))
 option-cases None = inl refl
 option-cases (Some x) = inr (x, refl)
 
@@ -42,7 +42,7 @@ module _ (p : Plan) (is : IsPlan p) (b : Bank) (views : List View) (y : Story) (
   q = snapshot_of p.graph y.core
 
   -- the seat that runs a task
-  runs-task : (t id : ℕ) (v : View) → Runs y.core.runner y.taker t id → FitsJob p b y id v.job → (F : TaskView → Type 0) → ((j : TaskView) → FitsTask p b y id j → j.task ≡ t → F j) → OnTask F v.job
+  pub runs-task : (t id : ℕ) (v : View) → Runs y.core.runner y.taker t id → FitsJob p b y id v.job → (F : TaskView → Type 0) → ((j : TaskView) → FitsTask p b y id j → j.task ≡ t → F j) → OnTask F v.job
   runs-task t id v runs fits F on = go v.job fits
     where
       go : (o : Option TaskView) → FitsJob p b y id o → OnTask F o
@@ -170,7 +170,7 @@ module _ (p : Plan) (is : IsPlan p) (b : Bank) (views : List View) (y : Story) (
       one id seat = (id, seat, λ other theirs. turn-one t id other seat theirs)
 
   -- ---- opened tasks
-  opened-one : (t id other : ℕ) → HasOpened y t id → HasOpened y t other → other ≡ id
+  pub opened-one : (t id other : ℕ) → HasOpened y t id → HasOpened y t other → other ≡ id
   opened-one t id other mine theirs = keeps-same y.core.runner y.taker theirs.0 id other (subst (λ u. Keeps y.core.runner y.taker u id) (some-one (y.opener t) mine.0 theirs.0 mine.1 theirs.1) mine.2) theirs.2
 
   pub opened-is : (t id : ℕ) → SeatWith views (λ v. Contains v.opened t) id → IsOpened p b views id t

@@ -58,6 +58,11 @@ pub record IsOpened (p : Plan) (b : Bank) (views : List View) (id t : ℕ) : Typ
   pub before : 0 < length (before_of p.graph t)
   pub one : (other : ℕ) → SeatWith views (λ v. Contains v.opened t) other → other ≡ id
 
+-- a seat's finished task is a predecessor of a task and has released it, or the seat has taken in a predecessor
+abbrev pub KnowsBefore : Plan → ℕ → View → Type 0
+KnowsBefore p t v =
+    OnTask (λ j. Contains (before_of p.graph t) j.task × IsSome j.number × Contains j.released t) v.job ⊎ ((u : ℕ) × (n : ℕ) × Contains v.ran (u, n) × Contains (before_of p.graph t) u)
+
 -- a task whose turn a seat has waits for no release, and no seat says that it is finished
 pub record IsTurn (p : Plan) (b : Bank) (views : List View) (t : ℕ) : Type 0 where
   pub task : t < length p.graph.tasks

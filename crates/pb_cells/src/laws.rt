@@ -1,17 +1,19 @@
-ghost use Rattle.std.specs.Prelude.{◌≡◌, ◌<◌, true, [], ◌∷◌, ℕ, List, length};
+ghost use Rattle.std.specs.Prelude.{◌≡◌, ◌<◌, ◌↔◌, true, [], ◌∷◌, ℕ, List, length};
 ghost use Rattle.std.specs.List.{Contains};
-ghost use Rattle.atomic_table.specs.Table.{State};
+ghost use mathlib.Core.Option.{some};
+ghost use lib.ListN.{get_elem?};
+ghost use Rattle.atomic_table.specs.Table.{State, keeps, stepped};
 ghost use Rattle.pb_values.specs.declared.outcome.Outcome.{Outcome};
-ghost use Rattle.pb_taskgraph.specs.Graphs.{EachOnce, cells_of};
+ghost use Rattle.pb_taskgraph.specs.Graphs.{EachOnce, before_of, cells_of};
 ghost use Rattle.pb_taskgraph.specs.Plans.{IsPlan, IsSmall, Plan, outcome_at};
 ghost use Rattle.pb_core.specs.Listed.{WritesInOrder};
 ghost use Rattle.pb_core.specs.Snapshots.{IsSoundSnapshot, Snapshot};
 ghost use Rattle.pb_cells.specs.declared.view.View.{View};
-ghost use Rattle.pb_cells.specs.Banks.{bank_of};
+ghost use Rattle.pb_cells.specs.Banks.{bank_of, count_at};
 ghost use Rattle.pb_cells.specs.Openings.{IsFirst};
-ghost use Rattle.pb_cells.specs.Shown.{EverySeat, HasTurn, IsOpened, IsTurn, OnTask, OneSeat, SaysFinished, SeatWith, ShowsIt, SomeSeat};
+ghost use Rattle.pb_cells.specs.Shown.{EverySeat, HasTurn, IsOpened, IsTurn, KnowsBefore, OnTask, OneSeat, SaysFinished, SeatWith, ShowsIt, SomeSeat};
 ghost use Rattle.pb_cells.specs.Steps.{IsNext};
-ghost use Rattle.pb_cells.specs.Stories.{Holds};
+ghost use Rattle.pb_cells.specs.Stories.{FitsLeft, Holds};
 ghost use Rattle.pb_cells.specs.Views.{first_view};
 ghost use Rattle.pb_cells.specs.Words.{mark_of, outcome_in, word_of};
 
@@ -44,6 +46,18 @@ pub fn each_turn_is_in_one_view()
 pub fn each_task_is_opened_at_most_once()
     ensures one { (p : Plan) (s : State (Unit {0}) View) (t id : ℕ) → Holds p s → SeatWith s.views (λ v. Contains v.opened t) id → IsOpened p (bank_of p.graph s.words) s.views id t }
     ensures once { (p : Plan) (s : State (Unit {0}) View) → Holds p s → EverySeat s.views (λ v. EachOnce v.opened) }
+{}
+
+/// A law: whatever step of a seat changes the count of a task that waits for releases, it leaves 0 just where the seat says then that
+/// it has opened the task, and what a Job says that its last release has left is 0 just there. A task that waits for no release
+/// and has predecessors is opened by just one view, which knows of a predecessor that has released it.
+pub fn a_task_is_opened_just_where_its_count_becomes_0()
+    ensures step { (p : Plan) (s : State (Unit {0}) View) (t n id : ℕ) (v w : View) → Holds p s → t < length p.graph.tasks → 0 < (bank_of p.graph s.words).count t → get_elem? s.views id ≡ some v
+        → Holds p (stepped s (count_at p.graph t) n id [] w keeps) → (n ≡ 0) ↔ Contains w.opened t }
+    ensures left { (p : Plan) (s : State (Unit {0}) View) → Holds p s → EverySeat s.views (λ v. FitsLeft v.job v.opened) }
+    ensures one { (p : Plan) (s : State (Unit {0}) View) (t : ℕ) → Holds p s → t < length p.graph.tasks → (bank_of p.graph s.words).count t ≡ 0 → 0 < length (before_of p.graph t)
+        → OneSeat s.views (λ v. Contains v.opened t) }
+    ensures by { (p : Plan) (s : State (Unit {0}) View) (t id : ℕ) → Holds p s → SeatWith s.views (λ v. Contains v.opened t) id → SeatWith s.views (KnowsBefore p t) id }
 {}
 
 /// A law: a cell isn't written before its turn. The next cell of a task that a view has begun isn't written, and where the view

@@ -1,0 +1,15 @@
+use Rattle.pb_cells.specs.Banks.{bank_of}
+use Rattle.pb_cells.proofs.OpenedLemmas.{count-step, opened-before, opened-there}
+use Rattle.pb_cells.proofs.laws.a_task_is_opened_just_where_its_count_becomes_0.Goals as goal
+
+pub returns-clause-step : goal.returns-clause-step
+returns-clause-step c = count-step
+
+pub returns-clause-left : goal.returns-clause-left
+returns-clause-left c = λ p s holds id v at. (holds.is.fits id v at).left
+
+pub returns-clause-one : goal.returns-clause-one
+returns-clause-one c = λ p s t holds below waits some_before. opened-there p holds.plan (bank_of p.graph s.words) s.views holds.story holds.is t below waits some_before
+
+pub returns-clause-by : goal.returns-clause-by
+returns-clause-by c = λ p s t id holds seat. opened-before p holds.plan (bank_of p.graph s.words) s.views holds.story holds.is t id seat
