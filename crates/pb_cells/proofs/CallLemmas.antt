@@ -21,7 +21,7 @@ use Rattle.pb_core.proofs.WithLemmas.{of-some}
 use Rattle.pb_cells.specs.declared.view.TaskView.{TaskView}
 use Rattle.pb_cells.specs.Banks.{count_at, finish_at, mark_at}
 use Rattle.pb_cells.specs.Handles.{HandValue, IsHand, IsJob, IsTable, JobValue, task_of, turn_at}
-use Rattle.pb_cells.specs.Steps.{AreTasks, CanRead, Finishes, IsCount, IsPast, Looks, Marks, Me, Reads, Releases, Stores}
+use Rattle.pb_cells.specs.Steps.{AreTasks, CanRead, Finishes, IsFinishCount, IsPast, Looks, Marks, Me, Reads, Releases, Stores}
 use Rattle.pb_cells.specs.Stories.{Holds, is_listed}
 use Rattle.pb_cells.specs.Views.{after_store, hand_view, job_view, joined_view, no_view, released_view, turn_view, without_turn}
 use Rattle.pb_cells.specs.Words.{mark_of, outcome_in, word_of}
@@ -152,14 +152,14 @@ module _ (p : Plan) (id : ℕ) (me : Me) (hand : IsHand me) where
       (look-allows p id table.slots me.0.opened me.0.ran me.0.seen))
 
   -- what a look tells
-  module _ (own : TableId) (v : HandValue) (view_is : record { table = own; opened = me.0.opened; ran = me.0.ran; seen = me.0.seen } ≡ v) (n : ℕ) (told : IsCount p me.0 n) where
-    pub look-count : IsCount p (hand_view v.opened v.ran v.seen) n
-    look-count = subst (λ (w : HandValue). IsCount p (hand_view w.opened w.ran w.seen) n) view_is (subst (λ (m : Me). IsCount p m.0 n) hand told)
+  module _ (own : TableId) (v : HandValue) (view_is : record { table = own; opened = me.0.opened; ran = me.0.ran; seen = me.0.seen } ≡ v) (n : ℕ) (told : IsFinishCount p me.0 n) where
+    pub look-count : IsFinishCount p (hand_view v.opened v.ran v.seen) n
+    look-count = subst (λ (w : HandValue). IsFinishCount p (hand_view w.opened w.ran w.seen) n) view_is (subst (λ (m : Me). IsFinishCount p m.0 n) hand told)
 
     pub look-tells : (after : Me) → after ≡ (record me.0 { seen = n }, me.1) → (n ≤ length p.graph.tasks) × AreTasks p after.0.opened after.0.ran × IsPast v.seen v.ran n
     look-tells after same = (
       look-few p v.opened v.ran v.seen n look-count,
-      subst (λ (m : Me). AreTasks p m.0.opened m.0.ran) (sym same) (look-tasks p me.0.opened me.0.ran me.0.seen n (subst (λ (m : Me). IsCount p m.0 n) hand told)),
+      subst (λ (m : Me). AreTasks p m.0.opened m.0.ran) (sym same) (look-tasks p me.0.opened me.0.ran me.0.seen n (subst (λ (m : Me). IsFinishCount p m.0 n) hand told)),
       look-past p v.opened v.ran v.seen n look-count,
     )
 

@@ -12,7 +12,7 @@ use Rattle.pb_core.proofs.FinishLemmas.{few, finished-few}
 use Rattle.pb_core.proofs.OrderLemmas.{is-task}
 use Rattle.pb_core.proofs.WithLemmas.{some-of}
 use Rattle.pb_cells.specs.Banks.{Bank, bank_of}
-use Rattle.pb_cells.specs.Steps.{AreTasks, IsCount, IsPast}
+use Rattle.pb_cells.specs.Steps.{AreTasks, IsFinishCount, IsPast}
 use Rattle.pb_cells.specs.Stories.{Fits, Story}
 use Rattle.pb_cells.specs.Views.{hand_view}
 
@@ -23,7 +23,7 @@ before-task p t some_before = ⊎_elim
     (λ (past : length p.graph.tasks ≤ t). absurd (let empty = ap (λ (l : List ℕ). length l) (before-past p.graph t past) in omega arith))
     (cases_lt t (length p.graph.tasks))
 
-module _ (p : Plan) (opened : List ℕ) (ran : List (ℕ × ℕ)) (seen n : ℕ) (is : IsCount p (hand_view opened ran seen) n) where
+module _ (p : Plan) (opened : List ℕ) (ran : List (ℕ × ℕ)) (seen n : ℕ) (is : IsFinishCount p (hand_view opened ran seen) n) where
   abbrev b : Bank
   b = bank_of p.graph is.state.words
 
@@ -34,7 +34,7 @@ module _ (p : Plan) (opened : List ℕ) (ran : List (ℕ × ℕ)) (seen n : ℕ)
   own = is.holds.is.fits is.id (hand_view opened ran seen) is.knows
 
   finished-is : y.core.finished ≡ n
-  finished-is = sym is.holds.is.tells.finish ∙ is.count
+  finished-is = sym is.holds.is.tells.finish ∙ is.so
 
   pub look-few : n ≤ length p.graph.tasks
   look-few = let most = finished-few p y.core is.holds.is.tells.sound in omega (arith, finished-is)
@@ -77,7 +77,7 @@ module _ (p : Plan) (opened : List ℕ) (ran : List (ℕ × ℕ)) (seen n : ℕ)
 
   pub look-past : IsPast seen ran n
   look-past = record {
-    risen = omega (arith, own.seen, is.count);
+    risen = omega (arith, own.seen, is.so);
     numbers = number-below;
     many = omega (
       arith,

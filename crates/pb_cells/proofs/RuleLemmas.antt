@@ -7,22 +7,24 @@ use mathlib.Core.Option.{Option as Maybe, none, some}
 use lib.ListN.{get_elem?}
 use Rattle.atomic_table.specs.Table as table
 use Rattle.atomic_table.specs.Table.{Allows, Joins, Splits, keeps, step}
-use Rattle.atomic_table.proofs.Lists.{set_again, set_else}
+use Rattle.atomic_table.proofs.Lists.{set_again, set_else, set_here}
 use Rattle.pb_taskgraph.specs.Graphs.{GraphValue, after_of}
 use Rattle.pb_taskgraph.specs.Plans.{Plan, outcome_at}
 use Rattle.pb_core.specs.States.{with}
 use Rattle.pb_core.proofs.FinishLemmas.{finished-few}
+use Rattle.pb_core.proofs.WithLemmas.{with-same}
 use Rattle.pb_cells.specs.declared.view.TaskView.{TaskView}
 use Rattle.pb_cells.specs.declared.view.View.{View}
 use Rattle.pb_cells.specs.Banks.{Bank, bank_of, count_at, finish_at, mark_at, value_at}
 use Rattle.pb_cells.specs.Stories.{Holds, IsStory, Story, is_listed, next_cell}
-use Rattle.pb_cells.specs.Steps.{Finishes, Looks, Marks, Reads, Releases, Stores}
+use Rattle.pb_cells.specs.Steps.{Finishes, Looks, Marks, Reads, Releases, Stores, WaitsFor}
 use Rattle.pb_cells.specs.Views.{after_finish, after_mark, after_store, first_turn, hand_view, job_view, joined_view, no_view, released_view, turn_view, untouched, without_turn}
 use Rattle.pb_cells.specs.Words.{mark_of, word_of}
 use Rattle.pb_cells.proofs.BankLemmas.{get-count, get-finish, get-mark, get-value, set-count, set-finish, set-mark, set-value}
 use Rattle.pb_cells.proofs.FinishLemmas.{finish-keeps, finish_story}
 use Rattle.pb_cells.proofs.JoinLemmas.{join-keeps, join_story, look-keeps}
 use Rattle.pb_cells.proofs.ReleaseLemmas.{count-is, count-waits, owed, release-keeps, release_story}
+use Rattle.pb_cells.proofs.SeatLemmas.{seat-inside}
 use Rattle.pb_cells.proofs.SplitLemmas.{hand-keeps, split_story, turn-keeps}
 use Rattle.pb_cells.proofs.StoreLemmas.{mark-keeps, mark_story, value-keeps}
 use Rattle.pb_cells.proofs.TaskLemmas.{next-below, next-cell-below, next-unfinished, read-below, read-word}
@@ -162,14 +164,26 @@ module _ (p : Plan) (slots id : ℕ) (j : TaskView) (opened : List ℕ) where
       one-less : found < 2 ^ 64 → (found + (2 ^ 64 - 1)) % 2 ^ 64 ≡ b.count next - 1
       one-less small = let some_left = found-some in let is = found-is in omega arith
 
+      after-bank : found < 2 ^ 64 → bank_of p.graph (set s.words at_word ((found + (2 ^ 64 - 1)) % 2 ^ 64)) ≡ record b { count = with b.count next (b.count next - 1) }
+      after-bank small = ap (λ i. bank_of p.graph (set s.words i ((found + (2 ^ 64 - 1)) % 2 ^ 64))) is_word ∙ (set-count p.graph s.words holds.width next ((found + (2 ^ 64 - 1)) % 2 ^ 64) below ∙ (λ i. record b { count = with b.count next (one-less small i) }))
+
       released-holds : found < 2 ^ 64 → Holds p (record { words = set s.words at_word ((found + (2 ^ 64 - 1)) % 2 ^ 64); homes = s.homes; views = set s.views id (released_view found next (job_view j opened)) })
       released-holds small = set-holds p s holds at_word ((found + (2 ^ 64 - 1)) % 2 ^ 64) s.homes (set s.views id (released_view found next (job_view j opened)))
           (record b { count = with b.count next (b.count next - 1) })
           (release_story p holds.plan b s.views holds.story holds.is id j opened at m next ended after fresh)
-          (ap (λ i. bank_of p.graph (set s.words i ((found + (2 ^ 64 - 1)) % 2 ^ 64))) is_word ∙ (set-count p.graph s.words holds.width next ((found + (2 ^ 64 - 1)) % 2 ^ 64) below ∙ (λ i. record b { count = with b.count next (one-less small i) })))
+          (after-bank small)
           (subst (λ n. IsStory p (record b { count = with b.count next (b.count next - 1) }) (set s.views id (released_view n next (job_view j opened)))
           (release_story p holds.plan b s.views holds.story holds.is id j opened at m next ended after fresh)) (sym found-is)
           (release-keeps p holds.plan b s.views holds.story holds.is id j opened at m next ended after fresh))
+
+      released-waits : found < 2 ^ 64 → WaitsFor p (released_view found next (job_view j opened)) next (found - 1)
+      released-waits small = record {
+        state = record { words = set s.words at_word ((found + (2 ^ 64 - 1)) % 2 ^ 64); homes = s.homes; views = set s.views id (released_view found next (job_view j opened)) };
+        holds = released-holds small;
+        id = id;
+        knows = set_here s.views id (released_view found next (job_view j opened)) (seat-inside s.views id (job_view j opened) at);
+        so = ap (λ (d : Bank). d.count next) (after-bank small) ∙ (with-same b.count next (b.count next - 1) next refl ∙ sym (ap (λ k. k - 1) found-is));
+      }
 
     pub release-allows : Allows (Holds p) slots id me at_word (λ n. (n + (2 ^ 64 - 1)) % 2 ^ 64) (Releases p (step slots at_word 1 0 none) me)
     release-allows s holds homes at small = (
@@ -177,11 +191,10 @@ module _ (p : Plan) (slots id : ℕ) (j : TaskView) (opened : List ℕ) where
       keeps,
       tt,
       released-holds s holds at small,
-      λ other e. (found-some s holds at, same other (count-same p.graph next other (sym is_word ∙ e)) (get_or s.words at_word 0)),
+      λ other e. subst (λ t. (0 < found s holds at)
+          × (◌≡◌ {A = table.Me (Unit {0}) View} (released_view (found s holds at) next (job_view j opened), []) (released_view (found s holds at) t (job_view j opened), []))
+          × WaitsFor p (released_view (found s holds at) next (job_view j opened)) t (found s holds at - 1)) (count-same p.graph next other (sym is_word ∙ e)) (found-some s holds at, refl, released-waits s holds at small),
     )
-      where
-        same : (other : ℕ) → next ≡ other → (n : ℕ) → ◌≡◌ {A = table.Me (Unit {0}) View} (released_view n next (job_view j opened), []) (released_view n other (job_view j opened), [])
-        same other e n = λ i. (released_view n (e i) (job_view j opened), [])
 
 -- ---- a seat is cut in two
 module _ (p : Plan) (id : ℕ) where
@@ -226,7 +239,7 @@ module _ (p : Plan) (id : ℕ) where
             is = subst (λ (l : List ℕ). IsStory p (bank_of p.graph l) (set s.views id (hand_view opened ran (get_or s.words (finish_at p.graph) 0))) holds.story) (sym (set-get_or s.words (finish_at p.graph) 0))
                 (subst (λ n. IsStory p b (set s.views id (hand_view opened ran n)) holds.story) (sym found) (look-keeps p holds.plan b s.views holds.story holds.is id opened ran seen at));
           },
-          (refl, record { state = s; holds = holds; id = id; knows = at; count = sym found }),
+          (refl, record { state = s; holds = holds; id = id; knows = at; so = sym found }),
         )
 
     -- ---- a Job is taken in

@@ -1,5 +1,5 @@
 -- What a step on a word of the table tells of its seat.
-use Rattle.std.specs.Prelude.{◌≡◌, ℕ, ◌<◌, ◌≤◌, List, length, map, slice_index, Option, Some, None}
+use Rattle.std.specs.Prelude.{◌≡◌, ℕ, ◌-◌, ◌<◌, ◌≤◌, List, length, map, slice_index, Option, Some, None}
 use Rattle.std.specs.List.{Contains}
 use mathlib.Core.Option.{some}
 use lib.ListN.{get_elem?}
@@ -9,7 +9,7 @@ use Rattle.pb_taskgraph.specs.Plans.{Plan, outcome_at}
 use Rattle.pb_taskgraph.specs.Turns.{MayRead}
 use Rattle.pb_cells.specs.declared.view.TaskView.{TaskView}
 use Rattle.pb_cells.specs.declared.view.View.{View}
-use Rattle.pb_cells.specs.Banks.{bank_of, count_at, mark_at, value_at}
+use Rattle.pb_cells.specs.Banks.{Bank, bank_of, count_at, mark_at, value_at}
 use Rattle.pb_cells.specs.Stories.{Holds}
 use Rattle.pb_cells.specs.Views.{after_finish, after_mark, after_store, released_view, with_task}
 use Rattle.pb_cells.specs.Words.{mark_of, word_of}
@@ -52,21 +52,28 @@ pub record IsPast (before : ℕ) (ended : List (ℕ × ℕ)) (n : ℕ) : Type 0 
   pub numbers : (t m : ℕ) → Contains ended (t, m) → m < n
   pub many : length ended ≤ n
 
--- a state of the table that meets its rule, in which a seat knows just this, and the finish count is this number
-pub record IsCount (p : Plan) (v : View) (n : ℕ) : Type 0 where
+-- a state of the table that meets its rule, in which a seat knows just this, and of whose words this is so
+pub record SomeMoment (p : Plan) (v : View) (F : Bank → Type 0) : Type 0 where
   pub state : table.State (Unit {0}) View
   pub holds : Holds p state
   pub id : ℕ
   pub knows : get_elem? state.views id ≡ some v
-  pub count : (bank_of p.graph state.words).finish ≡ n
+  pub so : F (bank_of p.graph state.words)
+
+-- at a moment a seat knows this, and so many tasks are finished; or a task waits for so many releases
+abbrev pub IsFinishCount : Plan → View → ℕ → Type 0
+IsFinishCount p v n = SomeMoment p v (λ b. b.finish ≡ n)
+
+abbrev pub WaitsFor : Plan → View → ℕ → ℕ → Type 0
+WaitsFor p v t n = SomeMoment p v (λ b. b.count t ≡ n)
 
 -- the finish count is seen
 abbrev pub Looks : Plan → Step → Me → ℕ → Me → Type 0
-Looks p s me n after = (after ≡ (record me.0 { seen = n }, me.1)) × IsCount p me.0 n
+Looks p s me n after = (after ≡ (record me.0 { seen = n }, me.1)) × IsFinishCount p me.0 n
 
--- a successor is released, whose count was the number that was found
+-- a successor is released, whose count was the number that was found and is one less then
 abbrev pub Releases : Plan → Step → Me → ℕ → Me → Type 0
-Releases p s me n after = (next : ℕ) → s.word ≡ count_at p.graph next → (0 < n) × (after ≡ (released_view n next me.0, me.1))
+Releases p s me n after = (next : ℕ) → s.word ≡ count_at p.graph next → (0 < n) × (after ≡ (released_view n next me.0, me.1)) × WaitsFor p after.0 next (n - 1)
 
 -- a seat's task may read a cell
 abbrev pub CanRead : Plan → Option TaskView → ℕ → Type 0

@@ -3,8 +3,8 @@ ghost use Rattle.std.specs.List.{Contains};
 ghost use Rattle.pb_taskgraph.specs.Graphs.{after_of};
 ghost use Rattle.pb_taskgraph.specs.Plans.{outcome_at};
 ghost use Rattle.pb_cells.specs.Handles.{HasReleased, hand_with, new_hand, new_job, turn_at};
-ghost use Rattle.pb_cells.specs.Steps.{AreTasks, IsCount, IsPast};
-ghost use Rattle.pb_cells.specs.Views.{after_finish, after_mark, hand_view, ready_tasks};
+ghost use Rattle.pb_cells.specs.Steps.{AreTasks, IsFinishCount, IsPast, WaitsFor};
+ghost use Rattle.pb_cells.specs.Views.{after_finish, after_mark, hand_view, job_view, ready_tasks, released_view};
 
 use crate::deal::{deal_hands, deal_jobs};
 use crate::first::{first_words, ready_list};
@@ -121,7 +121,8 @@ impl<N: NamesWork> Cells<N> {
         requires finished { IsSome job.old.at.number }
         requires successor { Contains (after_of N.plan.graph job.old.at.task) next }
         requires owed { Contains job.old.at.released next → ⊥ }
-        ensures { HasReleased job.old next result job.new }
+        ensures job { HasReleased job.old next result job.new }
+        ensures count { WaitsFor N.plan (released_view (job.new.at.left + 1) next (job_view job.old.at job.old.opened)) next job.new.at.left }
     {
         let found = self
             .table
@@ -157,7 +158,7 @@ impl<N: NamesWork> Cells<N> {
     /// What the Hand's Jobs have opened are tasks with predecessors, and what it has taken in are tasks, each once.
     pub fn finished(&self, hand: &mut Hand<N>) -> u64
         requires table { hand.old.table ≡ self.now }
-        ensures count { IsCount N.plan (hand_view hand.old.opened hand.old.ran hand.old.seen) result }
+        ensures count { IsFinishCount N.plan (hand_view hand.old.opened hand.old.ran hand.old.seen) result }
         ensures past { IsPast hand.old.seen hand.old.ran result }
         ensures few { result ≤ length N.plan.graph.tasks }
         ensures seen { hand.new ≡ record hand.old { seen = result } }
