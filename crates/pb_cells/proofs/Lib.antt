@@ -15,4 +15,4 @@ pub mod CallLemmas
 pub mod PortLemmas
 pub mod FirstLemmas
 pub mod ShownLemmas
-pub mod OpenedLemmas
+pub mod StepLemmas

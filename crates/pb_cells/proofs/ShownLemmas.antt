@@ -6,6 +6,7 @@ use Rattle.std.specs.List.{Contains, list_any}
 use Rattle.std.proofs.lemmas.Bool.{cases_lt}
 use mathlib.Core.Option.{some}
 use lib.ListN.{get_elem?}
+use Rattle.pb_values.specs.declared.outcome.Outcome.{Outcome}
 use Rattle.pb_base.proofs.ListLemmas.{in_cases, in_head, in_none, in_tail}
 use Rattle.pb_core.specs.Listed.{WritesInOrder}
 use Rattle.pb_core.proofs.CountLemmas.{once-head, once-rest}
@@ -26,7 +27,7 @@ use Rattle.pb_cells.specs.Stories.{FitsJob, FitsTask, HasOpened, IsStory, Keeps,
 use Rattle.pb_cells.specs.Words.{word_of}
 use Rattle.pb_cells.proofs.JoinLemmas.{in-listed, listed-in}
 use Rattle.pb_cells.proofs.SeatLemmas.{keeps-same, none-some, some-one}
-use Rattle.pb_cells.proofs.TaskLemmas.{next-cell-below, next-empty}
+use Rattle.pb_cells.proofs.TaskLemmas.{next-cell-below, next-empty, written-word}
 
 pub seat-there : {A : Type 0} (xs : List A) (i : ℕ) → i < length xs → (x : A) × (get_elem? xs i ≡ some x)
 seat-there [] i below = absurd (omega arith)
@@ -193,6 +194,13 @@ module _ (p : Plan) (is : IsPlan p) (b : Bank) (views : List View) (y : Story) (
   -- ---- cells that aren't written
   empty : (c : ℕ) → c < p.graph.cells → y.core.value c ≡ None → b.mark c ≡ 0
   empty c below none = subst (λ o. TellsCell o (b.mark c) (b.value c)) none (ok.tells.cells c below)
+
+  -- a cell with a mark has the solution's value
+  pub marked-value : (c : ℕ) → c < p.graph.cells → 0 < b.mark c → b.value c ≡ word_of (outcome_at p.solution c)
+  marked-value c below marked = ⊎_elim
+      (λ (none : y.core.value c ≡ None). absurd (omega (arith, empty c below none)))
+      (λ (there : (v : Outcome) × (y.core.value c ≡ Some v)). (written-word p is b y ok.tells c (some-of (y.core.value c) there.0 there.1)).1)
+      (option-cases (y.core.value c))
 
   pub next-blank : (c id : ℕ) → SeatWith views (λ v. IsNext p v.job c) id → b.mark c ≡ 0
   next-blank c id (v, at, next) = go v.job (ok.fits id v at).job next

@@ -9,7 +9,7 @@ ghost use Rattle.pb_taskgraph.specs.Plans.{IsPlan, IsSmall, Plan, outcome_at};
 ghost use Rattle.pb_core.specs.Listed.{WritesInOrder};
 ghost use Rattle.pb_core.specs.Snapshots.{IsSoundSnapshot, Snapshot};
 ghost use Rattle.pb_cells.specs.declared.view.View.{View};
-ghost use Rattle.pb_cells.specs.Banks.{bank_of, count_at};
+ghost use Rattle.pb_cells.specs.Banks.{bank_of, count_at, value_at};
 ghost use Rattle.pb_cells.specs.Openings.{IsFirst};
 ghost use Rattle.pb_cells.specs.Shown.{EverySeat, HasTurn, IsOpened, IsTurn, KnowsBefore, OnTask, OneSeat, SaysFinished, SeatWith, ShowsIt, SomeSeat};
 ghost use Rattle.pb_cells.specs.Steps.{IsNext};
@@ -58,6 +58,12 @@ pub fn a_task_is_opened_just_where_its_count_becomes_0()
     ensures one { (p : Plan) (s : State (Unit {0}) View) (t : ℕ) → Holds p s → t < length p.graph.tasks → (bank_of p.graph s.words).count t ≡ 0 → 0 < length (before_of p.graph t)
         → OneSeat s.views (λ v. Contains v.opened t) }
     ensures by { (p : Plan) (s : State (Unit {0}) View) (t id : ℕ) → Holds p s → SeatWith s.views (λ v. Contains v.opened t) id → SeatWith s.views (KnowsBefore p t) id }
+{}
+
+/// A law: whatever step of a seat stores a value of a written cell, it is the value that stands there. So no step changes one.
+pub fn a_written_value_stays()
+    ensures { (p : Plan) (s : State (Unit {0}) View) (c n id : ℕ) (w : View) → Holds p s → c < p.graph.cells → 0 < (bank_of p.graph s.words).mark c
+        → Holds p (stepped s (value_at p.graph c) n id [] w keeps) → n ≡ (bank_of p.graph s.words).value c }
 {}
 
 /// A law: a cell isn't written before its turn. The next cell of a task that a view has begun isn't written, and where the view

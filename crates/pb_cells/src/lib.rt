@@ -21,7 +21,8 @@ mod words;
 pub use cells::Cells;
 pub use laws::{
     a_cell_is_written_in_its_turn, a_task_is_opened_just_where_its_count_becomes_0,
-    a_written_pair_gives_its_outcome_back, each_task_is_opened_at_most_once, each_turn_is_in_one_view, the_first_words_meet_the_rule,
+    a_written_pair_gives_its_outcome_back, a_written_value_stays, each_task_is_opened_at_most_once,
+    each_turn_is_in_one_view, the_first_words_meet_the_rule,
     the_words_and_views_show_a_sound_snapshot,
 };
 pub use names::NamesTable;

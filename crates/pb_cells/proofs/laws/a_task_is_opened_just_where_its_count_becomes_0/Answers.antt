@@ -1,5 +1,5 @@
 use Rattle.pb_cells.specs.Banks.{bank_of}
-use Rattle.pb_cells.proofs.OpenedLemmas.{count-step, opened-before, opened-there}
+use Rattle.pb_cells.proofs.StepLemmas.{count-step, opened-before, opened-there}
 use Rattle.pb_cells.proofs.laws.a_task_is_opened_just_where_its_count_becomes_0.Goals as goal
 
 pub returns-clause-step : goal.returns-clause-step

@@ -1,4 +1,4 @@
--- A task is opened just where its count becomes 0.
+-- What any step does that keeps the rule: a task is opened just where its count becomes 0, and a written value stays.
 use Rattle.std.proofs.Common.{◌≡◌, ◌≢◌, ◌∙◌, refl, sym, ap, subst, inl, inr, ⊎_elim, ℕ, ◌<◌, ◌↔◌, not, List, [], length, Some, None, IsSome, set, arith}
 use Rattle.std.specs.List.{Contains}
 use mathlib.Core.Option.{some}
@@ -11,13 +11,13 @@ use Rattle.pb_core.proofs.CountLemmas.{count-most}
 use Rattle.pb_core.proofs.KeepLemmas.{finished-before, released-all}
 use Rattle.pb_core.proofs.WithLemmas.{of-some, with-same}
 use Rattle.pb_cells.specs.declared.view.View.{View}
-use Rattle.pb_cells.specs.Banks.{Bank, bank_of, count_at}
+use Rattle.pb_cells.specs.Banks.{Bank, bank_of, count_at, value_at}
 use Rattle.pb_cells.specs.Shown.{KnowsBefore, OneSeat, SeatWith}
 use Rattle.pb_cells.specs.Stories.{Holds, IsStory, Keeps, Story}
-use Rattle.pb_cells.proofs.BankLemmas.{set-count}
+use Rattle.pb_cells.proofs.BankLemmas.{set-count, set-value}
 use Rattle.pb_cells.proofs.JoinLemmas.{listed-in}
 use Rattle.pb_cells.proofs.SeatLemmas.{seat-inside}
-use Rattle.pb_cells.proofs.ShownLemmas.{opened-one, option-cases, runs-task, seat-there}
+use Rattle.pb_cells.proofs.ShownLemmas.{marked-value, opened-one, option-cases, runs-task, seat-there}
 
 module _ (p : Plan) (is : IsPlan p) (b : Bank) (views : List View) (y : Story) (ok : IsStory p b views y) where
   -- some seat knows of a task that is begun
@@ -91,3 +91,14 @@ count-step p s t n id v w holds below waits at after =
       λ e. step-opens p holds.plan b c s.views holds.story after.story holds.is id w after.is t below waits (left ∙ e),
       λ h. sym left ∙ opens-step p holds.plan b c s.views holds.story after.story holds.is id w after.is t below waits (seat-inside s.views id v at) h,
     )
+
+-- a word is stored at the value of a written cell
+pub value-step : (p : Plan) (s : table.State (Unit {0}) View) (c n id : ℕ) (w : View) (holds : Holds p s) → c < p.graph.cells → 0 < (bank_of p.graph s.words).mark c
+    → Holds p (table.stepped s (value_at p.graph c) n id [] w table.keeps) → n ≡ (bank_of p.graph s.words).value c
+value-step p s c n id w holds below marked after =
+    let b = bank_of p.graph s.words in
+    let d = bank_of p.graph (set s.words (value_at p.graph c) n) in
+    let same = set-value p.graph s.words holds.width c n below in
+    let new : d.value c ≡ n = ap (λ (e : Bank). e.value c) same ∙ with-same b.value c n c refl in
+    let mark : d.mark c ≡ b.mark c = ap (λ (e : Bank). e.mark c) same in
+    sym new ∙ (marked-value p holds.plan d (set s.views id w) after.story after.is c below (omega (arith, mark, marked)) ∙ sym (marked-value p holds.plan b s.views holds.story holds.is c below marked))
