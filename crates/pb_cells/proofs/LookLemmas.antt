@@ -17,7 +17,7 @@ use Rattle.pb_cells.specs.Stories.{Fits, Story}
 use Rattle.pb_cells.specs.Views.{hand_view}
 
 -- a task with a predecessor is one
-before-task : (p : Plan) (t : ℕ) → 0 < length (before_of p.graph t) → t < length p.graph.tasks
+pub before-task : (p : Plan) (t : ℕ) → 0 < length (before_of p.graph t) → t < length p.graph.tasks
 before-task p t some_before = ⊎_elim
     (λ (inside : t < length p.graph.tasks). inside)
     (λ (past : length p.graph.tasks ≤ t). absurd (let empty = ap (λ (l : List ℕ). length l) (before-past p.graph t past) in omega arith))

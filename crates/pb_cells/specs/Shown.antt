@@ -1,5 +1,5 @@
 -- What words and views of a table show.
-use Rattle.std.specs.Prelude.{◌≡◌, ℕ, ◌<◌, ◌↔◌, ◌⊎◌, true, List, length, Option, Some, None, IsSome}
+use Rattle.std.specs.Prelude.{◌≡◌, ℕ, ◌<◌, ◌↔◌, ◌⊎◌, true, List, [], length, Option, Some, None, IsSome}
 use Rattle.std.specs.List.{Contains}
 use mathlib.Core.Option.{some}
 use lib.ListN.{get_elem?}
@@ -41,6 +41,14 @@ OneSeat views F = (id : ℕ) × SeatWith views F id × ((other : ℕ) → SeatWi
 
 abbrev pub EverySeat : List View → (View → Type 0) → Type 0
 EverySeat views F = (id : ℕ) (v : View) → get_elem? views id ≡ some v → F v
+
+-- the other seats know later what they know
+abbrev pub OthersKeep : ℕ → List View → List View → Type 0
+OthersKeep id views later = (o : ℕ) (v : View) → (o ≡ id → ⊥) → get_elem? views o ≡ some v → get_elem? later o ≡ some v
+
+-- a seat that runs a task and has taken in none runs the same task later
+abbrev pub GoesOn : View → View → Type 0
+GoesOn v w = (v.ran ≡ []) × OnTask (λ j. OnTask (λ k. k.task ≡ j.task) w.job) v.job
 
 -- The words and the views show a snapshot: the words are its counts, its number of finished tasks and its outcomes, and the
 -- views tell its finished tasks with their numbers and its owed releases, each of which one seat owes.

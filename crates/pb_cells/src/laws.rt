@@ -11,7 +11,7 @@ ghost use Rattle.pb_core.specs.Snapshots.{IsSoundSnapshot, Snapshot};
 ghost use Rattle.pb_cells.specs.declared.view.View.{View};
 ghost use Rattle.pb_cells.specs.Banks.{bank_of, count_at, value_at};
 ghost use Rattle.pb_cells.specs.Openings.{IsFirst};
-ghost use Rattle.pb_cells.specs.Shown.{EverySeat, HasTurn, IsOpened, IsTurn, KnowsBefore, OnTask, OneSeat, SaysFinished, SeatWith, ShowsIt, SomeSeat};
+ghost use Rattle.pb_cells.specs.Shown.{EverySeat, GoesOn, HasTurn, IsOpened, IsTurn, KnowsBefore, OnTask, OneSeat, OthersKeep, SaysFinished, SeatWith, ShowsIt, SomeSeat};
 ghost use Rattle.pb_cells.specs.Steps.{IsNext};
 ghost use Rattle.pb_cells.specs.Stories.{FitsLeft, Holds};
 ghost use Rattle.pb_cells.specs.Views.{first_view};
@@ -49,11 +49,14 @@ pub fn each_task_is_opened_at_most_once()
 {}
 
 /// A law: whatever step of a seat changes the count of a task that waits for releases, it leaves 0 just where the seat says then that
-/// it has opened the task, and what a Job says that its last release has left is 0 just there. A task that waits for no release
-/// and has predecessors is opened by just one view, which knows of a predecessor that has released it.
+/// it has opened the task, and what a Job says that its last release has left is 0 just there. Whatever steps a Job and new seats
+/// then take, it still says so. A task that waits for no release and has predecessors is opened by just one view, which knows of a
+/// predecessor that has released it.
 pub fn a_task_is_opened_just_where_its_count_becomes_0()
     ensures step { (p : Plan) (s : State (Unit {0}) View) (t n id : ℕ) (v w : View) → Holds p s → t < length p.graph.tasks → 0 < (bank_of p.graph s.words).count t → get_elem? s.views id ≡ some v
         → Holds p (stepped s (count_at p.graph t) n id [] w keeps) → (n ≡ 0) ↔ Contains w.opened t }
+    ensures kept { (p : Plan) (s later : State (Unit {0}) View) (t id : ℕ) (v w : View) → Holds p s → Holds p later → OthersKeep id s.views later.views → get_elem? s.views id ≡ some v → get_elem? later.views id ≡ some w
+        → GoesOn v w → Contains v.opened t → (bank_of p.graph later.words).count t ≡ 0 → Contains w.opened t }
     ensures left { (p : Plan) (s : State (Unit {0}) View) → Holds p s → EverySeat s.views (λ v. FitsLeft v.job v.opened) }
     ensures one { (p : Plan) (s : State (Unit {0}) View) (t : ℕ) → Holds p s → t < length p.graph.tasks → (bank_of p.graph s.words).count t ≡ 0 → 0 < length (before_of p.graph t)
         → OneSeat s.views (λ v. Contains v.opened t) }
