@@ -8,3 +8,12 @@ pub mod StopLemmas
 pub mod BlockLemmas
 pub mod WholeLemmas
 pub mod SeenLemmas
+pub mod WatchedLemmas
+mod BeginLemmas
+mod CountLemmas
+mod HoldLemmas
+mod InputLemmas
+mod MakeLemmas
+mod PieceLemmas
+mod RunningLemmas
+mod StartLemmas
