@@ -3,3 +3,7 @@ pub mod Traps
 pub mod Planned
 pub mod Seen
 pub mod Steps
+pub mod Given
+pub mod Limits
+pub mod Running
+pub mod Unrolled

@@ -12,9 +12,11 @@ mod copies;
 mod drawn;
 mod jobs;
 mod laws;
+mod run;
 mod seats;
 mod steps;
 mod traps;
+mod unrolled;
 
 pub use copies::run_copy;
 pub use drawn::{Pieces, Sight};
@@ -23,5 +25,7 @@ pub use laws::{
     a_task_of_a_run_that_computes_can_be_run, a_task_of_a_run_that_copies_can_be_run,
     a_task_of_a_run_that_traps_can_be_run, an_instance_of_a_run_is_ready,
 };
+pub use run::Run;
 pub use steps::{StepScratch, run_step};
 pub use traps::run_trap;
+pub use unrolled::unroll;
