@@ -10,13 +10,17 @@
 
 mod copies;
 mod drawn;
+mod inputs;
 mod jobs;
 mod laws;
+mod pieces;
 mod run;
 mod seats;
+mod sights;
 mod steps;
 mod traps;
 mod unrolled;
+mod work;
 
 pub use copies::run_copy;
 pub use drawn::{Pieces, Sight};
