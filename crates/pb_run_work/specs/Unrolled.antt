@@ -8,7 +8,7 @@ use Rattle.pb_check.specs.Ranked.{OfTransform}
 use Rattle.pb_entry.specs.Fitting.{AreBound, AreUnfit}
 use Rattle.pb_entry.specs.declared.refusal.RunRefusal.{RunRefusal}
 use Rattle.pb_run_work.specs.Given.{given_as}
-use Rattle.pb_run_work.specs.Limits.{IsTooLarge}
+use Rattle.pb_run_work.specs.Limits.{IsTooLarge, IsWithin}
 use Rattle.pb_run_work.specs.Running.{RunValue, of_sizes, of_transform}
 
 -- the run of the transform with this number, with these matrices, at the sizes that they bind
@@ -21,6 +21,7 @@ pub record IsUnrolled (a : AcceptedValue) (config : ConfigValue) (number : ℕ) 
   pub of_grain : r.grain ≡ grain
   pub there : slice_get (bare_prog a.program) number ≡ Some (of_transform r)
   pub bound : AreBound (of_transform r) inputs (of_sizes r)
+  pub within : IsWithin (bare_prog a.program) a.found config grain depth number (given_as inputs)
 
 -- the matrices don't fit the transform; or they do, and a count passes its limit
 abbrev pub IsRefused : AcceptedValue → ConfigValue → ℕ → List MatrixValue → ℕ → ℕ → RunRefusal → Type 0
