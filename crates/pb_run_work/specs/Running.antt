@@ -119,6 +119,10 @@ abbrev pub fits_run : RunValue → StepScratch → Type 0
 fits_run r s = fits_rooms r.rooms s
 
 -- ---- its facts
+-- temporary: there is no run yet
+unfoldable pub Never : Type 0
+Never = ⊥
+
 pub record IsRunning (r : RunValue) : Type 0 where
   pub there : slice_get r.accepted.program.transforms r.number ≡ Some r.transform
   pub entered : IsEntered (prog_of r) r.accepted.found r.config r.number (ins_of r)
@@ -135,4 +139,5 @@ pub record IsRunning (r : RunValue) : Type 0 where
   pub row : AreInARow 0 (of_sizes r) r.transform.matrices r.views
   pub sights : AllZip (IsSight r.accepted) r.unrolled.instances r.sights
   pub pieces : AllZip (ArePieces r.accepted r.unrolled.instances) r.unrolled.steps r.pieces
+  pub temporary : Never
   pub rooms : All (HasRoomForStep r.accepted r.unrolled.instances r.rooms) r.unrolled.steps

@@ -17,6 +17,7 @@ mod seats;
 mod steps;
 mod traps;
 mod unrolled;
+mod work;
 
 pub use copies::run_copy;
 pub use drawn::{Pieces, Sight};
