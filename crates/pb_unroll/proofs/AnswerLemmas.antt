@@ -6,6 +6,7 @@ use Rattle.std.specs.Prelude.{unwrap_or}
 use Rattle.std.proofs.lemmas.Grind.{flat_map-append}
 use Rattle.std.proofs.lemmas.List.{drop_at, length-drop, length-map, map-append, take_at}
 use Rattle.std.proofs.lemmas.List.Elements.{All-cons, All-drop, All-head, All-tail}
+use Rattle.std.proofs.lemmas.List.Quantifiers.{position-Some}
 use Rattle.std.proofs.lemmas.Option.{slice_get_within}
 use Rattle.pb_values.specs.declared.outcome.Outcome.{Outcome}
 use Rattle.pb_values.specs.declared.outcome.Outcome.TheVariants.{Value, Trapped}
@@ -40,7 +41,7 @@ use Rattle.pb_unroll.specs.Answers.{matrices_text, results_in, trapped_in}
 use Rattle.pb_unroll.specs.ShownCells.{IsShort, IsWritable, cells_shown, is_trapped, place_in, text_in}
 use Rattle.pb_unroll.proofs.CallLemmas.{call_is, stands_first}
 use Rattle.pb_unroll.proofs.PlaceLemmas.{as_place, matrix_count, place_is}
-use Rattle.pb_unroll.proofs.TrapLemmas.{found_first, found_placed, found_trapped, not_found}
+use Rattle.pb_unroll.proofs.TrapLemmas.{as_wanted, found_first, found_placed, found_trapped, not_found}
 use Rattle.pb_unroll.proofs.TextLemmas.{are_writable, shapes_fit, texts_are}
 
 -- ---- matrices in a row
@@ -117,7 +118,7 @@ module _ (v : RunValue) (is : IsRunning v) where
 
   deeper : (rest : List Outcomes) × (all_of v ≡ all ++ rest)
   deeper =
-      let first = stands_first (prog_of v) v.accepted.found v.config v.grain v.number ins t there found.0 found.1 v.depth in
+      let first = stands_first (prog_of v) v.config v.number ins t there v.accepted.found v.grain found.0 found.1 v.depth in
       (first.0, ap (λ l. ins ++ l) (first.1 ∙ ap (λ l. l ++ first.0) made_is) ∙ sym (append_assoc ins made first.0))
 
   abbrev later : List Outcome
@@ -199,6 +200,9 @@ module _ (v : RunValue) (is : IsRunning v) where
     none_trapped none = sym (rw first_is (not_found all part (made_cells t sizes) part_is none))
 
     module _ (k : ℕ) (found_at : position is_trapped part ≡ Some k) where
+      pub is_inside : k < count
+      is_inside = let below = (position-Some is_trapped part k no_outcome found_at).0 in omega (arith, below, as_wanted outcomes inputs count within)
+
       pub no_number : (z : ℤ) → get_or part k no_outcome ≡ Value z → ⊥
       no_number z at = found_trapped all part (made_cells t sizes) part_is k found_at z at
 

@@ -9,14 +9,14 @@ use Rattle.pb_plan.specs.Made.{jobs_for}
 use Rattle.pb_recursion.specs.Depths.{Call, call_at, made_by_transform, plans_at, sizes_given}
 use Rattle.pb_runs.specs.Matrices.{Below, below_at, jobs_matrices, matrices_at, matrices_by}
 
-module _ (p : List ProgTransform) (found : List AnalysisValue) (config : ConfigValue) (grain number : ℕ) (ins : List Outcomes) (t : ProgTransform) (at : slice_get p number ≡ Some t) where
+module _ (p : List ProgTransform) (config : ConfigValue) (number : ℕ) (ins : List Outcomes) (t : ProgTransform) (at : slice_get p number ≡ Some t) where
   -- it makes what its transform makes at the sizes that the matrices bind
   pub call_is : (depth : ℕ) → call_at p config depth number ins ≡ call_of config (plans_at p config depth number t (sizes_given t ins)) number t (sizes_given t ins) ins
   unfolding call_at
   call_is zero = ap (λ o. option_map_or (made_by_transform p config None number ins) o []) at
   call_is (suc d) = ap (λ o. option_map_or (made_by_transform p config (Some (call_at p config d)) number ins) o []) at
 
-  module _ (a : AnalysisValue) (there : slice_get found number ≡ Some a) where
+  module _ (found : List AnalysisValue) (grain : ℕ) (a : AnalysisValue) (there : slice_get found number ≡ Some a) where
     -- those of the calls below it
     abbrev below_it : ℕ → List Outcomes
     below_it depth = jobs_matrices p number t (sizes_given t ins) (below_at p found config grain depth) (ins ++ call_at p config depth number ins) (jobs_for config number t a (sizes_given t ins) grain)

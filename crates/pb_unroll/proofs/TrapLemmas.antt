@@ -102,7 +102,7 @@ module _ (os : List Outcome) (from count : ℕ) (room : from + count ≤ length 
   abbrev those : List Outcome
   those = take count (drop from os)
 
-  as_wanted : length those ≡ count
+  pub as_wanted : length those ≡ count
   as_wanted = omega (arith, room, length-take count (drop from os), length-drop from os)
 
   at_those : (j : ℕ) → j < count → get_or those j no_outcome ≡ get_or os (from + j) no_outcome
