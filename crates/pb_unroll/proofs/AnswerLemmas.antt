@@ -1,12 +1,13 @@
 -- What a run's outcomes and views say of its answer.
 use Rattle.std.proofs.Common.{◌≡◌, ◌∙◌, refl, sym, ap, subst, ℕ, zero, suc, ◌+◌, ◌^◌, ◌<◌, ◌≤◌, ℤ, List, [], ◌∷◌, ◌++◌, length, get_or, None, map, take, drop, slice_get, Some, arith, append_assoc, flat_map, length-append}
-use Rattle.std.specs.List.{All, position, sum_by}
+use Rattle.std.specs.List.{All, position}
 use Rattle.std.specs.Option.{option_map}
 use Rattle.std.specs.Prelude.{unwrap_or}
 use Rattle.std.proofs.lemmas.Grind.{flat_map-append}
 use Rattle.std.proofs.lemmas.List.{drop_at, length-drop, length-map, map-append, take_at}
 use Rattle.std.proofs.lemmas.List.Elements.{All-cons, All-drop, All-head, All-tail}
 use Rattle.std.proofs.lemmas.List.Quantifiers.{position-Some}
+use Rattle.std.proofs.lemmas.List.Sums.{sum_by-cons}
 use Rattle.std.proofs.lemmas.Option.{slice_get_within}
 use Rattle.pb_values.specs.declared.outcome.Outcome.{Outcome}
 use Rattle.pb_values.specs.declared.outcome.Outcome.TheVariants.{Value, Trapped}
@@ -19,7 +20,7 @@ use Rattle.pb_program.specs.Trees.{ProgTransform, bare_transform}
 use Rattle.pb_program.specs.WellFormed.{IsTransform}
 use Rattle.pb_region.proofs.SmallLemmas.{at_place}
 use Rattle.pb_matrix.specs.Header.{cell_count as cells_of_shape}
-use Rattle.pb_model.specs.Calls.{Outcomes, Plans, call_of, cell_outcome, cells_from, made_cells, made_from, matrix_cells, no_outcome, outcome_in}
+use Rattle.pb_model.specs.Calls.{Outcomes, Plans, call_of, cell_outcome, cells_from, first_trapped, made_cells, made_from, matrix_cells, no_outcome, outcome_in}
 use Rattle.pb_model.specs.Cells.{Cell}
 use Rattle.pb_model.proofs.CallLemmas.{here_is}
 use Rattle.pb_check.specs.Orders.{AnalysisValue}
@@ -37,11 +38,11 @@ use Rattle.pb_views.specs.Layouts.{AreInARow, HasShortSides, area_at, cell_count
 use Rattle.pb_solution.specs.Solutions.{all_matrices, outcomes_of}
 use Rattle.pb_solution.proofs.MayLemmas.{map_same}
 use Rattle.pb_solution.proofs.OutcomeLemmas.{AreSided, count_is, sides_are}
-use Rattle.pb_unroll.specs.Answers.{matrices_text, results_in, trapped_in}
+use Rattle.pb_unroll.specs.Answers.{matrices_text, results_in, results_of, trapped_in}
 use Rattle.pb_unroll.specs.ShownCells.{IsShort, IsWritable, cells_shown, is_trapped, place_in, text_in}
 use Rattle.pb_unroll.proofs.CallLemmas.{call_is, stands_first}
 use Rattle.pb_unroll.proofs.PlaceLemmas.{as_place, matrix_count, place_is}
-use Rattle.pb_unroll.proofs.TrapLemmas.{as_wanted, found_first, found_placed, found_trapped, not_found}
+use Rattle.pb_unroll.proofs.TrapLemmas.{as_wanted, at_part, found_first, found_placed, found_trapped, not_found}
 use Rattle.pb_unroll.proofs.TextLemmas.{are_writable, shapes_fit, texts_are}
 
 -- ---- matrices in a row
@@ -71,13 +72,21 @@ module _ (sizes : List ℕ) where
   shown_count : (first : ℕ) (ds : List DeclValue) (vs : List View) → AreInARow first sizes ds vs → cells_shown vs ≡ cell_count sizes ds
   shown_count first [] vs row = ap cells_shown row
   shown_count first (d ∷ ds) [] row = absurd row
-  shown_count first (d ∷ ds) (v ∷ vs) row = (λ i. cells_of_shape (row.0.shape i) + shown_count (first + area_at sizes d) ds vs row.1 i)
+  shown_count first (d ∷ ds) (v ∷ vs) row =
+      sum_by-cons (λ (w : View). cells_of_shape w.shape) v vs ∙ (λ i. cells_of_shape (row.0.shape i) + shown_count (first + area_at sizes d) ds vs row.1 i)
 
   made_count : (m : ℕ) (ds : List DeclValue) → length (cells_from sizes m ds) ≡ cell_count sizes ds
   made_count m [] = refl
   made_count m (d ∷ ds) = omega (arith, length-append (matrix_cells sizes m d) (cells_from sizes (m + 1) ds), matrix_count sizes m d, made_count (m + 1) ds)
 
 -- ---- a run
+-- what is looked at for its first trapped cell: its outcomes, how many of them are given, its watched matrices, and how many cells they have
+pub record IsLooked (v : RunValue) (outcomes : List Outcome) (given : ℕ) (watched : List View) (cells : ℕ) : Type 0 where
+  pub solved : outcomes ≡ (run_plan v).solution
+  pub inputs : given ≡ v.graph.inputs
+  pub views : watched ≡ drop v.transform.inputs v.views
+  pub count : cells ≡ cells_shown watched
+
 module _ (v : RunValue) (is : IsRunning v) where
   abbrev t : ProgTransform
   t = of_transform v
@@ -112,6 +121,9 @@ module _ (v : RunValue) (is : IsRunning v) where
 
   first_is : first_call v ≡ all
   first_is = ap (λ l. ins ++ l) made_is
+
+  same_trap : first_trapped all (made_cells t sizes) ≡ trapped_in v
+  same_trap = ap (λ ms. first_trapped ms (made_cells t sizes)) (sym first_is)
 
   found : (a : AnalysisValue) × (slice_get v.accepted.found v.number ≡ Some a)
   found = some_at v.accepted.found v.number (omega (arith, slice_get_within (prog_of v) v.number t there, found_length (prog_of v) v.accepted.found is.entered.are_found))
@@ -175,47 +187,56 @@ module _ (v : RunValue) (is : IsRunning v) where
       omega (arith, shown_count sizes row.0 (drop t.inputs t.matrices) watched row.1, made_count sizes t.inputs (drop t.inputs t.matrices), ap length outcomes_made, length-map (made_cells t sizes) (outcome_in all))
 
   -- ---- its first trapped cell, among those of the cells that rules of the first call make
-  module _ (outcomes : List Outcome) (solved : outcomes ≡ (run_plan v).solution) (inputs : ℕ) (given : inputs ≡ v.graph.inputs) (views : List View) (are_watched : views ≡ watched) (count : ℕ) (counted : count ≡ cells_shown views) where
+  module _ (outcomes : List Outcome) (inputs : ℕ) (views : List View) (count : ℕ) (looked : IsLooked v outcomes inputs views count) where
     given_count : length (outcomes_of ins) ≡ inputs
-    given_count = total_is ins ∙ sym (ap (λ (g : GraphValue). g.inputs) is.graph) ∙ sym given
+    given_count = total_is ins ∙ sym (ap (λ (g : GraphValue). g.inputs) is.graph) ∙ sym looked.inputs
 
     many : count ≡ length (outcomes_of made)
-    many = counted ∙ ap cells_shown are_watched ∙ watched_count
+    many = looked.count ∙ ap cells_shown looked.views ∙ watched_count
+
+    all_there : length outcomes ≡ length (outcomes_of ins) + (length (outcomes_of made) + length later)
+    all_there = omega (arith, ap length (looked.solved ∙ split), length-append (outcomes_of ins) (outcomes_of made ++ later), length-append (outcomes_of made) later)
 
     pub watched_cells : cells_shown views ≤ MOST_CELLS
-    watched_cells = omega (arith, counted, many, all_few, ap length split, length-append (outcomes_of ins) (outcomes_of made ++ later), length-append (outcomes_of made) later)
+    watched_cells = omega (arith, looked.count, many, all_few, ap length looked.solved, all_there)
 
     pub within : inputs + count ≤ length outcomes
-    within = omega (arith, many, given_count, ap length solved, ap length split, length-append (outcomes_of ins) (outcomes_of made ++ later), length-append (outcomes_of made) later)
+    within = omega (arith, many, given_count, all_there)
 
     abbrev part : List Outcome
     part = take count (drop inputs outcomes)
 
     part_is : part ≡ map (outcome_in all) (made_cells t sizes)
     part_is =
-        ap (λ l. take count (drop inputs l)) (solved ∙ split) ∙ ap (take count) (drop_at (outcomes_of ins) (outcomes_of made ++ later) inputs given_count)
+        ap (λ l. take count (drop inputs l)) (looked.solved ∙ split) ∙ ap (take count) (drop_at (outcomes_of ins) (outcomes_of made ++ later) inputs given_count)
         ∙ take_at (outcomes_of made) later count (sym many) ∙ outcomes_made
 
     pub none_trapped : position is_trapped part ≡ None → None ≡ trapped_in v
-    none_trapped none = sym (rw first_is (not_found all part (made_cells t sizes) part_is none))
+    none_trapped none = sym (not_found all part (made_cells t sizes) part_is none) ∙ same_trap
 
     module _ (k : ℕ) (found_at : position is_trapped part ≡ Some k) where
-      pub is_inside : k < count
-      is_inside = let below = (position-Some is_trapped part k no_outcome found_at).0 in omega (arith, below, as_wanted outcomes inputs count within)
+      inside : k < count
+      inside = let below = (position-Some is_trapped part k no_outcome found_at).0 in omega (arith, below, as_wanted outcomes inputs count within)
 
-      pub no_number : (z : ℤ) → get_or part k no_outcome ≡ Value z → ⊥
-      no_number z at = found_trapped all part (made_cells t sizes) part_is k found_at z at
+      pub is_there : inputs + k < length outcomes
+      is_there = omega (arith, within, inside)
+
+      at : (o : Outcome) → slice_get outcomes (inputs + k) ≡ Some o → get_or part k no_outcome ≡ o
+      at o = at_part outcomes inputs count within k o inside
+
+      pub no_number : (z : ℤ) (o : Outcome) → slice_get outcomes (inputs + k) ≡ Some o → o ≡ Value z → ⊥
+      no_number z o there number = found_trapped all part (made_cells t sizes) part_is k found_at z (at o there ∙ number)
 
       module _ (from : ℕ) (begins : from ≡ v.transform.inputs) where
         same_place : option_map as_place (slice_get (made_cells t sizes) k) ≡ place_in views from k
-        same_place = sym (watched_place k) ∙ (λ i. place_in (sym are_watched i) (sym begins i) k)
+        same_place = sym (watched_place k) ∙ (λ i. place_in (sym looked.views i) (sym begins i) k)
 
         pub has_place : place_in views from k ≡ None → ⊥
         has_place none = found_placed all part (made_cells t sizes) part_is k found_at (same_place ∙ none)
 
-        pub is_first : (trap : Trap) (p : ℕ × ℕ × ℕ) → get_or part k no_outcome ≡ Trapped trap → place_in views from k ≡ Some p
+        pub is_first : (trap : Trap) (o : Outcome) (p : ℕ × ℕ × ℕ) → slice_get outcomes (inputs + k) ≡ Some o → o ≡ Trapped trap → place_in views from k ≡ Some p
             → Some (record { cell = record { matrix = p.0; x = p.1; y = p.2 }; trap = trap }) ≡ trapped_in v
-        is_first trap p at place = sym (rw first_is (found_first all part (made_cells t sizes) part_is k found_at trap p at (same_place ∙ place)))
+        is_first trap o p there trapped place = sym (found_first all part (made_cells t sizes) part_is k found_at trap p (at o there ∙ trapped) (same_place ∙ place)) ∙ same_trap
 
   -- ---- the matrices that it gives
   sided : AreSided sizes t.matrices all
@@ -233,4 +254,4 @@ module _ (v : RunValue) (is : IsRunning v) where
       (shapes_fit sizes (length t.sizes) t.matrices form.matrices is.short few))
 
   pub results_are : flat_map (text_in (run_plan v).solution) (drop first v.views) ≡ matrices_text (results_in v)
-  results_are = rw first_is (texts_are sizes (run_plan v).solution later first 0 t.matrices v.views all is.row sided whole)
+  results_are = texts_are sizes (run_plan v).solution later first 0 t.matrices v.views all is.row sided whole ∙ ap (λ ms. matrices_text (results_of t ms)) (sym first_is)
