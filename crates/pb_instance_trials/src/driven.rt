@@ -136,7 +136,10 @@ fn takes(a: &Accepted, given: usize) -> bool
     let Some(transform) = a.prog().transforms.get(0) else {
         return false;
     };
-    transform.inputs as usize == given
+    if transform.inputs as usize != given {
+        return false;
+    }
+    true
 }
 
 // A matrix by its text; None where it spells none.

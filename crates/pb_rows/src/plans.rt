@@ -83,8 +83,9 @@ fn a_product_is_made_by_plans(rt: HostRuntime) -> Result<(), Fail> {
     Ok(())
 }
 
-// The depth ends before the sides are 1, at the calls of one rule or of another; and there is no call at depth 0, whatever its shapes.
-fn depth_rows() -> [Row; 3] {
+// The depth ends before the sides are small, at the calls of one rule or of another, or however deep plans may call; and there is no
+// call at depth 0, whatever its shapes.
+fn depth_rows() -> [Row; 4] {
     [
         stopped(
             "run --depth 7 --pool serial p c MatrixMultiply a b",
@@ -103,6 +104,18 @@ fn depth_rows() -> [Row; 3] {
             &[("p", BAD), ("a", "matrix 4\n1 2 3 4\n")],
             8,
             "T DepthEnded: Bad.B (0,0), by Bad rule 0 (0,0)\n",
+        ),
+        stopped(
+            "run --pool serial p - Loop a",
+            &[
+                (
+                    "p",
+                    "transform Loop from A[n] to B[n] { to (B b) from (A a) { b = Loop(a); } }",
+                ),
+                ("a", "matrix 2\n1 2\n"),
+            ],
+            8,
+            "T DepthEnded: Loop.B (0,0), by Loop rule 0 (0,0)\n",
         ),
     ]
 }
