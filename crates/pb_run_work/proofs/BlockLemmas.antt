@@ -86,7 +86,7 @@ module _ (p : List ProgTransform) (found : List AnalysisValue) (config : ConfigV
       let i = inst p found config grain depth number ins h tasks are w call f seats stand k job e in
       let some = parts config w.number (of_transform w) f (of_sizes w) o.grain i o.at.valid in
       let cell : is_cell_rule (of_transform w) own.rule ≡ true = (part_of (of_transform w) f.order o.grain some o.place job (placed (of_transform w) f.order o.grain some o.place job o.there) own amid).cell none in
-      by (slice_get (of_transform w).rules own.rule) refl cell
+      by own.rule (slice_get (of_transform w).rules own.rule) refl cell
     where
       by : (n : ℕ) → (z : Option ProgRule) → slice_get (of_transform w).rules n ≡ z → option_map_or (λ (q : ProgRule). not (is_wide q.kind)) z false ≡ true → (r : ProgRule) × (slice_get (of_transform w).rules n ≡ Some r) × (r.kind ≡ kind.Cell)
       by n None e c = absurd (cc)

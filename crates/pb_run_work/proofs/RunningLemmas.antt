@@ -1,8 +1,9 @@
 -- What is known of a run, and of its steps when their turns begin.
-use Rattle.std.proofs.Common.{◌≡◌, ◌∙◌, refl, sym, ap, subst, ℕ, ◌+◌, ◌<◌, ◌≤◌, List, [], ◌∷◌, length, map, slice_get, Some, arith}
+use Rattle.std.proofs.Common.{◌≡◌, ◌∙◌, refl, sym, ap, subst, ℕ, ◌+◌, ◌<◌, ◌≤◌, List, [], ◌∷◌, length, map, get_or, slice_get, Some, arith}
 use Rattle.std.proofs.lemmas.Grind.{flat_map-append}
 use Rattle.std.specs.Prelude.{slice_index_or}
 use Rattle.std.proofs.lemmas.List.{length-map}
+use Rattle.std.proofs.lemmas.Option.{slice_get-get_or}
 use Rattle.pb_linear.specs.Sizes.{sizes_of}
 use Rattle.pb_values.specs.Cells.{Turn}
 use Rattle.pb_program.specs.Trees.{bare_prog, bare_transform}
@@ -30,6 +31,7 @@ use Rattle.pb_steps.specs.declared.step.Step.{Step as StepValue}
 use Rattle.pb_steps.specs.declared.step.Step.TheVariants as step
 use Rattle.pb_jobs.specs.Jobs.{CanBeMade, JobValue as Made}
 use Rattle.pb_jobs.specs.Rooms.{HasRoomForJob}
+use Rattle.pb_jobs.specs.declared.room.Rooms.{Rooms}
 use Rattle.pb_jobs.proofs.ListLemmas.{all_at, some_at, some_same, zip_both, zip_length}
 use Rattle.pb_run_work.specs.Copies.{IsCopy}
 use Rattle.pb_run_work.specs.Running.{ArePieces, HasRoomForStep, IsBegun, IsRunning, IsSight, RunValue, all_of, ins_of, prog_of, run_plan, steps_of}
@@ -96,6 +98,7 @@ module _ (r : RunValue) (is : IsRunning r) where
 
     -- its pieces and its room
     job_can : (m j : ℕ) → slice_get u.steps task ≡ Some (step.Job m j) → (q : PiecesValue) → ArePieces a u.instances (step.Job m j) q → HasRoomForStep a u.instances r.rooms (step.Job m j) → HasSight r.sights m (λ s. CanRunJobAt a u.instances q r.rooms turn m j s)
+    unfolding linked_of
     job_can m j at q pieces room =
         let v = pieces.value in
         let found = pieces.found in
@@ -133,6 +136,7 @@ module _ (r : RunValue) (is : IsRunning r) where
 
     copy_can : (x : CopiedValue) → slice_get u.steps task ≡ Some (step.Copy x) → (q : PiecesValue) → ArePieces a u.instances (step.Copy x) q → HasRoomForStep a u.instances r.rooms (step.Copy x)
         → HasSight r.sights x.instance (λ s. IsCopy s.views x.corner x.source (walk_of [] q.parts) turn × (length q.parts ≤ r.rooms.pieces))
+    unfolding linked_of
     copy_can x at q pieces room =
         let v = pieces.value in
         let found = pieces.found in
@@ -151,6 +155,7 @@ module _ (r : RunValue) (is : IsRunning r) where
 
     -- it can be run
     pub step_can : (x : StepValue) → slice_get u.steps task ≡ Some x → (q : PiecesValue) → slice_get r.pieces task ≡ Some q → CanRunStep a u.instances r.sights q r.rooms r.rooms.pieces turn x
+    unfolding linked_of
     step_can x at q at_q = by x at (zip_both (ArePieces a u.instances) u.steps r.pieces is.pieces task x q at at_q) (all_at (HasRoomForStep a u.instances r.rooms) u.steps task x is.rooms at)
       where
         by : (x : StepValue) → slice_get u.steps task ≡ Some x → ArePieces a u.instances x q → HasRoomForStep a u.instances r.rooms x → CanRunStep a u.instances r.sights q r.rooms r.rooms.pieces turn x
@@ -160,6 +165,17 @@ module _ (r : RunValue) (is : IsRunning r) where
           trap_is_left a u (total (ins_of r)) linked r.graph.tasks is.begun.tasks task turn begins f e,
           trap_are_numbers a u (total (ins_of r)) linked r.graph.tasks is.begun.tasks task turn begins f e,
         )
+
+  -- ---- what its parts hold, as the code has them
+  pub task_can : (v : RunValue) → r ≡ v → (task : ℕ) (turn : Turn) → Begins (run_plan v) task turn → (instances : List InstanceValue) → instances ≡ u.instances → (steps : List StepValue) → steps ≡ u.steps → (x : StepValue) → x ≡ get_or steps task x → task < length steps
+      → (q : PiecesValue) → q ≡ get_or r.pieces task q → task < length r.pieces → (rooms : Rooms) (room : ℕ) → rooms ≡ v.rooms → room ≡ v.rooms.pieces → CanRunStep a instances r.sights q rooms room turn x
+  task_can v same task turn b instances same_i steps same_s x at_x below q at_q below_q rooms room same_r same_w =
+      let there : slice_get u.steps task ≡ Some x = ap (λ (l : List StepValue). slice_get l task) (sym same_s) ∙ slice_get-get_or steps task x below ∙ ap Some (sym at_x) in
+      let has : slice_get r.pieces task ≡ Some q = slice_get-get_or r.pieces task q below_q ∙ ap Some (sym at_q) in
+      let rooms_are : rooms ≡ r.rooms = same_r ∙ ap (λ (z : RunValue). z.rooms) (sym same) in
+      let room_is : room ≡ r.rooms.pieces = same_w ∙ ap (λ (z : RunValue). z.rooms.pieces) (sym same) in
+      subst (λ (z : List InstanceValue × Rooms × ℕ). CanRunStep a z.0 r.sights q z.1 z.2 turn x) (λ i. (sym same_i i, sym rooms_are i, sym room_is i))
+      (step_can task turn (subst (λ (z : RunValue). Begins (run_plan z) task turn) (sym same) b) x there q has)
 
   -- ---- inputs
   pub input_there : (cell : ℕ) → cell < (run_plan r).graph.inputs → cell < length (outcomes_of (ins_of r))

@@ -123,12 +123,12 @@ module _ (a : AcceptedValue) (instances : List InstanceValue) where
   HasRoomForStep rooms (step.Trap f) = Unit {0}
 
 -- a scratch has this room
-pub record fits_rooms (rooms : Rooms) (s : StepScratch) : Type 0 where
+pub record FitsRooms (rooms : Rooms) (s : StepScratch) : Type 0 where
   pub jobs : rooms_of s.jobs ≡ rooms
   pub copies : s.copies.room ≡ rooms.pieces
 
 abbrev pub fits_run : RunValue → StepScratch → Type 0
-fits_run r s = fits_rooms r.rooms s
+fits_run r s = FitsRooms r.rooms s
 
 -- ---- its facts
 -- of a transform, by its number, that these matrices enter: steps and a graph are those of the run, which is within its limits

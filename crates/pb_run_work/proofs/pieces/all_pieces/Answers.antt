@@ -8,9 +8,6 @@ use Rattle.pb_run_work.specs.Running.{ArePieces, HasRoomForStep}
 use Rattle.pb_run_work.proofs.HoldLemmas.{next_room}
 use Rattle.pb_run_work.proofs.pieces.all_pieces.Goals as goal
 
-pub step_pieces-pieces-requires : goal.step_pieces-pieces-requires
-step_pieces-pieces-requires c = of_item (CanBeCut c.args.a.now c.args.instances.now) c.args.steps.now c.loop-step.step-index c.step-item.result c.loop-step-test.true c.step-item.is c.requires
-
 pub step_rooms-requires-clause-can : goal.step_rooms-requires-clause-can
 step_rooms-requires-clause-can c = of_item (CanBeCut c.args.a.now c.args.instances.now) c.args.steps.now c.loop-step.step-index c.step-item.result c.loop-step-test.true c.step-item.is c.requires
 
