@@ -203,6 +203,12 @@ module _ (v : RunValue) (is : IsRunning v) where
     pub within : inputs + count ≤ length outcomes
     within = omega (arith, many, given_count, all_there)
 
+    outcomes_few : length outcomes ≤ MOST_CELLS
+    outcomes_few = omega (arith, ap length looked.solved, all_few)
+
+    pub within_limits : inputs + count ≤ MOST_CELLS
+    within_limits = omega (arith, within, outcomes_few)
+
     abbrev part : List Outcome
     part = take count (drop inputs outcomes)
 
@@ -220,6 +226,9 @@ module _ (v : RunValue) (is : IsRunning v) where
 
       pub is_there : inputs + k < length outcomes
       is_there = omega (arith, within, inside)
+
+      pub is_small : inputs + k ≤ MOST_CELLS
+      is_small = omega (arith, within_limits, inside)
 
       at : (o : Outcome) → slice_get outcomes (inputs + k) ≡ Some o → get_or part k no_outcome ≡ o
       at o = at_part outcomes inputs count within k o inside

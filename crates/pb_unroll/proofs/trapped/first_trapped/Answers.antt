@@ -2,7 +2,7 @@ use Rattle.std.proofs.Common.{◌≡◌, ◌∙◌, refl, ap, sym, length, arith
 use Rattle.pb_program.specs.Transforms.{TransformValue}
 use Rattle.pb_taskgraph.specs.Graphs.{GraphValue}
 use Rattle.pb_unroll.specs.ShownCells.{cells_shown}
-use Rattle.pb_unroll.proofs.AnswerLemmas.{IsLooked, has_place, is_first, is_there, no_number, none_trapped, watched_cells, watched_few, watched_short, within}
+use Rattle.pb_unroll.proofs.AnswerLemmas.{IsLooked, has_place, is_first, is_small, is_there, no_number, none_trapped, watched_cells, watched_few, watched_short, within, within_limits}
 use Rattle.pb_unroll.proofs.trapped.first_trapped.Goals as goal
 
 pub count_cells-requires-clause-short : goal.count_cells-requires-clause-short
@@ -15,12 +15,19 @@ count_cells-requires-clause-few c =
     in
     watched_cells c.args.run.now c.watched-views.ensures.running c.args.outcomes.now c.inputs-inputs.result c.watched-views.result.now (cells_shown c.watched-views.result.now) looked
 
-pub first_trap-requires : goal.first_trap-requires
-first_trap-requires c =
+pub first_trap-requires-clause-room : goal.first_trap-requires-clause-room
+first_trap-requires-clause-room c =
     let looked : IsLooked c.args.run.now c.args.outcomes.now c.inputs-inputs.result c.watched-views.result.now c.count_cells.result =
         record { solved = c.requires; inputs = c.inputs-inputs.ensures ∙ ap (λ (g : GraphValue). g.inputs) c.task_graph.ensures.graph; views = c.watched-views.ensures.views; count = c.count_cells.ensures }
     in
     within c.args.run.now c.watched-views.ensures.running c.args.outcomes.now c.inputs-inputs.result c.watched-views.result.now c.count_cells.result looked
+
+pub first_trap-requires-clause-few : goal.first_trap-requires-clause-few
+first_trap-requires-clause-few c =
+    let looked : IsLooked c.args.run.now c.args.outcomes.now c.inputs-inputs.result c.watched-views.result.now c.count_cells.result =
+        record { solved = c.requires; inputs = c.inputs-inputs.ensures ∙ ap (λ (g : GraphValue). g.inputs) c.task_graph.ensures.graph; views = c.watched-views.ensures.views; count = c.count_cells.ensures }
+    in
+    within_limits c.args.run.now c.watched-views.ensures.running c.args.outcomes.now c.inputs-inputs.result c.watched-views.result.now c.count_cells.result looked
 
 pub returns-in_err-cell : goal.returns-in_err-cell
 returns-in_err-cell c =
@@ -44,6 +51,14 @@ returns-in_err-matrix c =
     in
     let from = ap (λ (t : TransformValue). t.inputs) (c.behind-run.view_is ∙ c.transform.ensures) in
     absurd (has_place c.args.run.now c.watched-views.ensures.running c.args.outcomes.now c.inputs-inputs.result c.watched-views.result.now c.count_cells.result looked c.in_ok-cell.cell (sym c.first_trap.ensures ∙ c.in_ok-cell.was) c.behind-run.inside.inputs from (sym c.place_of.ensures ∙ c.in_err-matrix.was))
+
+pub overflow_add-number : goal.overflow_add-number
+overflow_add-number c =
+    let looked : IsLooked c.args.run.now c.args.outcomes.now c.inputs-inputs.result c.watched-views.result.now c.count_cells.result =
+        record { solved = c.requires; inputs = c.inputs-inputs.ensures ∙ ap (λ (g : GraphValue). g.inputs) c.task_graph.ensures.graph; views = c.watched-views.ensures.views; count = c.count_cells.ensures }
+    in
+    let small = is_small c.args.run.now c.watched-views.ensures.running c.args.outcomes.now c.inputs-inputs.result c.watched-views.result.now c.count_cells.result looked c.in_ok-cell.cell (sym c.first_trap.ensures ∙ c.in_ok-cell.was) in
+    omega (arith, small)
 
 pub get-requires : goal.get-requires
 get-requires c =
