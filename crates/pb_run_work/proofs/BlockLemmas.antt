@@ -1,5 +1,7 @@
 -- The task of a job that makes its cells one by one.
-use Rattle.std.proofs.Common.{◌≡◌, ◌∙◌, refl, sym, ap, ℕ, ℤ, true, false, not, List, length, map, slice_get, Option, Some, None}
+use Rattle.std.proofs.Common.{◌≡◌, ◌∙◌, refl, sym, ap, subst, inl, inr, ℕ, ◌<◌, ℤ, true, false, not, List, length, map, slice_get, Option, Some, None}
+use Rattle.std.specs.List.{Contains}
+use Rattle.std.proofs.lemmas.Option.{slice_get_within}
 use Rattle.std.specs.Prelude.{Result, Ok, Err}
 use Rattle.std.specs.Option.{option_map_or}
 use Rattle.std.proofs.lemmas.List.{length-map}
@@ -21,7 +23,7 @@ use Rattle.pb_frame.specs.declared.part.FramePart.{FramePart}
 use Rattle.pb_taskgraph.specs.Graphs.{TaskValue}
 use Rattle.pb_taskgraph.specs.Plans.{outcome_at}
 use Rattle.pb_plan.proofs.BeforeLemmas.{parts}
-use Rattle.pb_plan.proofs.JobLemmas.{at_map, part_of, placed}
+use Rattle.pb_plan.proofs.JobLemmas.{at_map, kind_of, part_of, placed}
 use Rattle.pb_plan.proofs.LinkedLemmas.{index_is}
 use Rattle.pb_solution.specs.Solutions.{stop_cell}
 use Rattle.pb_views.specs.declared.seat.Seat.{Seat}
@@ -33,6 +35,7 @@ use Rattle.pb_runs.proofs.RunLemmas.{ms, run}
 use Rattle.pb_run_plan.specs.RunTasks.{AreTasksOf, plan_of_run, step_order}
 use Rattle.pb_jobs.specs.Instances.{InstanceValue, of_sizes, of_transform}
 use Rattle.pb_jobs.specs.Tasks.{IsBlockTask, IsListed}
+use Rattle.pb_jobs.proofs.ListLemmas.{some_same}
 use Rattle.pb_run_work.proofs.ReadyLemmas.{plan}
 use Rattle.pb_run_work.proofs.StopLemmas.{IsStanding, from, inst, instance_as, may_run, outcome_is, part, part_there, rule, rule_there, shown, stops}
 
@@ -64,6 +67,31 @@ module _ (p : List ProgTransform) (found : List AnalysisValue) (config : ConfigV
   pub order_long : length ((plan p found config grain depth number ins h tasks are).order k) ≡ length all_stops
   order_long = ap length order_is ∙ length-map all_stops (stop_number (instance_as w call f seats))
 
+  -- its layer is one of the transform
+  pub layer_is : job.layer < length f.order.layers
+  layer_is =
+      let o = from p found config grain depth number ins h tasks are w call f seats stand k job e in
+      let i = inst p found config grain depth number ins h tasks are w call f seats stand k job e in
+      let some = parts config w.number (of_transform w) f (of_sizes w) o.grain i o.at.valid in
+      let at = placed (of_transform w) f.order o.grain some o.place job o.there in
+      elim (kind_of (of_transform w) f.order o.grain some o.place job at) [
+        | inl wide ↦ subst (λ (b : JobValue). b.layer < length f.order.layers) (sym wide.1.1) (slice_get_within f.order.layers at.layer at.value at.there)
+        | inr block ↦ subst (λ (b : JobValue). b.layer < length f.order.layers) (sym block.1) (slice_get_within f.order.layers at.layer at.value at.there)
+      ]
+
+  -- the rule of each part makes single cells
+  pub part_is_cell : job.rule ≡ None → (part : FramePart) → Contains job.parts part → (r : ProgRule) × (slice_get (of_transform w).rules part.rule ≡ Some r) × (r.kind ≡ kind.Cell)
+  part_is_cell none own amid =
+      let o = from p found config grain depth number ins h tasks are w call f seats stand k job e in
+      let i = inst p found config grain depth number ins h tasks are w call f seats stand k job e in
+      let some = parts config w.number (of_transform w) f (of_sizes w) o.grain i o.at.valid in
+      let cell : is_cell_rule (of_transform w) own.rule ≡ true = (part_of (of_transform w) f.order o.grain some o.place job (placed (of_transform w) f.order o.grain some o.place job o.there) own amid).cell none in
+      by (slice_get (of_transform w).rules own.rule) refl cell
+    where
+      by : (n : ℕ) → (z : Option ProgRule) → slice_get (of_transform w).rules n ≡ z → option_map_or (λ (q : ProgRule). not (is_wide q.kind)) z false ≡ true → (r : ProgRule) × (slice_get (of_transform w).rules n ≡ Some r) × (r.kind ≡ kind.Cell)
+      by n None e c = absurd (cc)
+      by n (Some r) e c = (r, e, cell_kind r.kind c)
+
   -- a stop's cell is listed with its outcome
   solved : (n : ℕ) → outcome_of (ms p found config grain depth number ins h) n ≡ outcome_at (plan p found config grain depth number ins h tasks are).solution n
   unfolding plan_of_run
@@ -83,13 +111,11 @@ module _ (p : List ProgTransform) (found : List AnalysisValue) (config : ConfigV
 
     is_cell : job.rule ≡ None → (rule p found config grain depth number ins h tasks are w call f seats stand k job e n s at).kind ≡ kind.Cell
     is_cell none =
-        let o = from p found config grain depth number ins h tasks are w call f seats stand k job e in
-        let i = inst p found config grain depth number ins h tasks are w call f seats stand k job e in
         let own = part p found config grain depth number ins h tasks are w call f seats stand k job e n s at in
         let r = rule p found config grain depth number ins h tasks are w call f seats stand k job e n s at in
-        let some = parts config w.number (of_transform w) f (of_sizes w) o.grain i o.at.valid in
-        let cell : is_cell_rule (of_transform w) own.rule ≡ true = (part_of (of_transform w) f.order o.grain some o.place job (placed (of_transform w) f.order o.grain some o.place job o.there) own (in_at job.parts s.piece own (part_there p found config grain depth number ins h tasks are w call f seats stand k job e n s at))).cell none in
-        cell_kind r.kind (sym (ap (λ (z : Option ProgRule). option_map_or (λ (q : ProgRule). not (is_wide q.kind)) z false) (rule_there p found config grain depth number ins h tasks are w call f seats stand k job e n s at)) ∙ cell)
+        let there = rule_there p found config grain depth number ins h tasks are w call f seats stand k job e n s at in
+        let cell = part_is_cell none own (in_at job.parts s.piece own (part_there p found config grain depth number ins h tasks are w call f seats stand k job e n s at)) in
+        ap (λ (q : ProgRule). q.kind) (some_same r cell.0 (sym there ∙ cell.1)) ∙ cell.2
 
   pub block_task : job.rule ≡ None → IsBlockTask w (plan p found config grain depth number ins h tasks are) k (map (λ (q : FramePart). q.rule) job.parts) all_stops
   block_task none = record {

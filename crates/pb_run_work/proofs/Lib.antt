@@ -8,3 +8,7 @@ pub mod StopLemmas
 pub mod BlockLemmas
 pub mod WholeLemmas
 pub mod SeenLemmas
+mod InputLemmas
+mod RunningLemmas
+mod HoldLemmas
+mod BeginLemmas

@@ -1,5 +1,6 @@
 -- The jobs of an unrolled run, as the code holds them.
-use Rattle.std.proofs.Common.{◌≡◌, ◌∙◌, refl, sym, ap, subst, ℕ, List, get_or, length, map, slice_get, Option, Some, None, arith}
+use Rattle.std.proofs.Common.{◌≡◌, ◌∙◌, refl, sym, ap, subst, ℕ, ◌<◌, List, [], get_or, length, map, slice_get, Option, Some, None, arith}
+use Rattle.std.proofs.lemmas.List.Elements.{All-cons, All-nil}
 use Rattle.std.proofs.lemmas.Option.{slice_get-get_or}
 use Rattle.std.specs.List.{All, AllZip}
 use Rattle.pb_linear.specs.Sizes.{InRange, leasts_of, sizes_of}
@@ -8,6 +9,7 @@ use Rattle.pb_values.specs.Cells.{Turn}
 use Rattle.pb_program.specs.Transforms.{ProgValue}
 use Rattle.pb_program.specs.Trees.{ProgTransform, bare_prog}
 use Rattle.pb_program.specs.WellFormed.{IsTransform}
+use Rattle.pb_base.proofs.ListLemmas.{map_in}
 use Rattle.pb_region.proofs.SmallLemmas.{at_place}
 use Rattle.pb_check.specs.Accepting.{AcceptedValue}
 use Rattle.pb_check.specs.Orders.{AnalysisValue, IsAnalysis}
@@ -35,12 +37,13 @@ use Rattle.pb_run_plan.specs.RunTasks.{AreTasksOf}
 use Rattle.pb_run_graph.specs.Linking.{CanBeLinked}
 use Rattle.pb_jobs.specs.Instances.{InstanceValue as Seen, IsReady, of_sizes, of_transform}
 use Rattle.pb_jobs.specs.Jobs.{CanBeMade, IsBlock, IsMadeBy, IsWhole}
-use Rattle.pb_jobs.proofs.ListLemmas.{all_at, some_same}
+use Rattle.pb_jobs.specs.Rooms.{HasNeed, HaveNeeds, rules_by}
+use Rattle.pb_jobs.proofs.ListLemmas.{all_at, all_contained, some_same}
+use Rattle.pb_jobs.proofs.NeedLemmas.{cell_need, whole_need}
 use Rattle.pb_jobs.proofs.TaskLemmas.{as_block, as_whole}
 use Rattle.pb_run_work.specs.Planned.{plan_for, steps_for}
 use Rattle.pb_run_work.specs.Seen.{IsSeenAs, job_as}
-use Rattle.pb_run_work.proofs.BlockLemmas.{block_task}
-use Rattle.pb_run_work.proofs.LinkedLemmas.{step_is}
+use Rattle.pb_run_work.proofs.BlockLemmas.{block_task, layer_is, part_is_cell}
 use Rattle.pb_run_work.proofs.StopLemmas.{IsStanding, instance_as, short_sides}
 use Rattle.pb_run_work.proofs.WholeLemmas.{whole_task}
 
@@ -101,22 +104,16 @@ module _ (a : AcceptedValue) (u : UnrolledValue) (inputs : ℕ) (c : CanBeLinked
     windows = windows;
   }
 
-  module _ (tasks : List TaskValue) (are : AreTasksOf (steps_for c) tasks) (k : ℕ) (start : Turn) (b : Begins (plan_for c tasks) k start) (j : ℕ) (at : slice_get u.steps k ≡ Some (step.Job m j)) (job : JobValue) (at_job : slice_get v.jobs j ≡ Some job) (found : AnalysisValue) (at_found : slice_get a.found v.transform ≡ Some found) where
-    module _ (call : ℕ) (e : slice_get (steps_for c) k ≡ Some (by_job (instance_as w call found v.seats) job)) where
-      made_by : (rule : Option ℕ) → job.rule ≡ rule → IsMadeBy w rule (job_as found job) start
-      made_by None none =
-          subst (λ (o : Option ℕ). IsBlock w (map (λ (q : FramePart). q.rule) job.parts) (walk_of (steps_by found.order.layers job.layer o) (map (spot_of found.nodes) job.parts)) start) none
-          (as_block w (plan_for c tasks) k start b (map (λ (q : FramePart). q.rule) job.parts) (walk_of (steps_by found.order.layers job.layer job.rule) (map (spot_of found.nodes) job.parts))
-          (block_task p a.found c.config c.grain c.depth c.number c.ins c.entered tasks are w call found v.seats standing k job e none))
-      made_by (Some n) some =
-          subst (λ (o : Option ℕ). IsWhole w n (walk_of (steps_by found.order.layers job.layer o) (map (spot_of found.nodes) job.parts)) start) some
-          (as_whole w (plan_for c tasks) k start b n (walk_of (steps_by found.order.layers job.layer job.rule) (map (spot_of found.nodes) job.parts))
-          (whole_task p a.found c.config c.grain c.depth c.number c.ins c.entered tasks are w call found v.seats standing k job e n some))
-
-    pub can_be_made : CanBeMade w (job_as found job) start
-    can_be_made = (let s = step_is a u inputs c tasks are k start b (step.Job m j) at in by s.0 s.1 s.2)
+  -- ---- a job of it
+  module _ (tasks : List TaskValue) (are : AreTasksOf (steps_for c) tasks) (k j : ℕ) (at : slice_get u.steps k ≡ Some (step.Job m j)) (job : JobValue) (at_job : slice_get v.jobs j ≡ Some job) (found : AnalysisValue) (at_found : slice_get a.found v.transform ≡ Some found) where
+    -- it is a step of the run
+    job_step : (call : ℕ) × (slice_get (steps_for c) k ≡ Some (by_job (instance_as w call found v.seats) job))
+    job_step = (let s = zip_at_step in by s.0 s.1 s.2)
       where
-        by : (s : Step) → slice_get (steps_for c) k ≡ Some s → IsStep p a.found u.instances (step.Job m j) s → CanBeMade w (job_as found job) start
+        zip_at_step : (s : Step) × (slice_get (steps_for c) k ≡ Some s) × IsStep p a.found u.instances (step.Job m j) s
+        zip_at_step = at_zip (IsStep p a.found u.instances) u.steps (steps_for c) c.steps k (step.Job m j) at
+
+        by : (s : Step) → slice_get (steps_for c) k ≡ Some s → IsStep p a.found u.instances (step.Job m j) s → (call : ℕ) × (slice_get (steps_for c) k ≡ Some (by_job (instance_as w call found v.seats) job))
         by (by_copy i d) e h = absurd h
         by (by_trap g) e h = absurd h
         by (by_job i job1) e h =
@@ -128,4 +125,37 @@ module _ (a : AcceptedValue) (u : UnrolledValue) (inputs : ℕ) (c : CanBeLinked
             let sizes : i.sizes ≡ of_sizes w = h.is.sizes ∙ ap (λ (q : InstanceValue). sizes_of q.sizes) same ∙ ap sizes_of (sym seen.sizes) in
             let jobs : job1 ≡ job = some_same job1 job (sym h.has ∙ ap (λ (q : InstanceValue). slice_get q.jobs j) same ∙ at_job) in
             let whole : by_job i job1 ≡ by_job (instance_as w i.call found v.seats) job = λ z. by_job (record { call = i.call; number = number z; transform = transform z; found = analysis z; sizes = sizes z; seats = seats z }) (jobs z) in
-            made_by i.call (e ∙ ap Some whole) job.rule refl
+            (i.call, e ∙ ap Some whole)
+
+    pub layer_there : job.layer < length found.order.layers
+    layer_there = let s = job_step in layer_is p a.found c.config c.grain c.depth c.number c.ins c.entered tasks are w s.0 found v.seats standing k job s.1
+
+    -- how much room its rules need can be told
+    pub has_needs : IsReady w → HaveNeeds (bare_prog w.program) w.number sizes (job_as found job)
+    has_needs ready = (let s = job_step in by s.0 s.1 job.rule refl)
+      where
+        by : (call : ℕ) → slice_get (steps_for c) k ≡ Some (by_job (instance_as w call found v.seats) job) → (rule : Option ℕ) → job.rule ≡ rule → HaveNeeds (bare_prog w.program) w.number sizes (job_as found job)
+        by call e None none =
+            subst (λ (o : Option ℕ). All (HasNeed (bare_prog w.program) w.number sizes) (rules_by o (job_as found job).rules)) (sym none)
+            (all_contained (HasNeed (bare_prog w.program) w.number sizes) (map (λ (q : FramePart). q.rule) job.parts) (λ n own.
+            let part = map_in (λ (q : FramePart). q.rule) job.parts n own in
+            let cell = part_is_cell p a.found c.config c.grain c.depth c.number c.ins c.entered tasks are w call found v.seats standing k job e none part.0 part.1 in
+            subst (HasNeed (bare_prog w.program) w.number sizes) part.2 (cell_need w ready part.0.rule cell.0 cell.1 cell.2)))
+        by call e (Some n) some =
+            let task = whole_task p a.found c.config c.grain c.depth c.number c.ins c.entered tasks are w call found v.seats standing k job e n some in
+            subst (λ (o : Option ℕ). All (HasNeed (bare_prog w.program) w.number sizes) (rules_by o (job_as found job).rules)) (sym some)
+            (All-cons (HasNeed (bare_prog w.program) w.number sizes) n [] (whole_need w ready n (record { rule = task.rule; there = task.there; wide = task.wide; within = task.within })) (All-nil (HasNeed (bare_prog w.program) w.number sizes)))
+
+    module _ (start : Turn) (b : Begins (plan_for c tasks) k start) where
+      made_by : (call : ℕ) → slice_get (steps_for c) k ≡ Some (by_job (instance_as w call found v.seats) job) → (rule : Option ℕ) → job.rule ≡ rule → IsMadeBy w rule (job_as found job) start
+      made_by call e None none =
+          subst (λ (o : Option ℕ). IsBlock w (map (λ (q : FramePart). q.rule) job.parts) (walk_of (steps_by found.order.layers job.layer o) (map (spot_of found.nodes) job.parts)) start) none
+          (as_block w (plan_for c tasks) k start b (map (λ (q : FramePart). q.rule) job.parts) (walk_of (steps_by found.order.layers job.layer job.rule) (map (spot_of found.nodes) job.parts))
+          (block_task p a.found c.config c.grain c.depth c.number c.ins c.entered tasks are w call found v.seats standing k job e none))
+      made_by call e (Some n) some =
+          subst (λ (o : Option ℕ). IsWhole w n (walk_of (steps_by found.order.layers job.layer o) (map (spot_of found.nodes) job.parts)) start) some
+          (as_whole w (plan_for c tasks) k start b n (walk_of (steps_by found.order.layers job.layer job.rule) (map (spot_of found.nodes) job.parts))
+          (whole_task p a.found c.config c.grain c.depth c.number c.ins c.entered tasks are w call found v.seats standing k job e n some))
+
+      pub can_be_made : CanBeMade w (job_as found job) start
+      can_be_made = let s = job_step in made_by s.0 s.1 job.rule refl

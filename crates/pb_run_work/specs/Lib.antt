@@ -7,3 +7,4 @@ pub mod Given
 pub mod Limits
 pub mod Running
 pub mod Unrolled
+pub mod Holding

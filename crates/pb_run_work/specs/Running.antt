@@ -13,10 +13,13 @@ use Rattle.pb_calls.specs.Given.{AreGiven}
 use Rattle.pb_check.specs.Accepting.{AcceptedValue}
 use Rattle.pb_check.specs.Orders.{AnalysisValue}
 use Rattle.pb_frame.specs.Frames.{JobValue}
+use Rattle.pb_frame.specs.declared.part.FramePart.{FramePart}
+use Rattle.pb_graph.specs.Nodes.{NodeValue}
 use Rattle.pb_plan.specs.Boxes.{spot_of}
 use Rattle.pb_taskgraph.specs.Graphs.{GraphValue}
 use Rattle.pb_taskgraph.specs.Plans.{IsSmall, Plan}
 use Rattle.pb_views.specs.Layouts.{AreInARow, HasShortSides}
+use Rattle.pb_counts.specs.Limits.{AreFew}
 use Rattle.pb_recursion.specs.Depths.{call_at, sides_of_matrix, sizes_given}
 use Rattle.pb_runs.specs.Laws.{IsEntered}
 use Rattle.pb_runs.specs.Matrices.{run_matrices}
@@ -32,7 +35,7 @@ use Rattle.pb_jobs.specs.Rooms.{HasRoomForJob, rooms_of}
 use Rattle.pb_jobs.specs.Shown.{AreRuleWindows}
 use Rattle.pb_jobs.specs.declared.room.Rooms.{Rooms}
 use Rattle.pb_run_work.specs.Given.{given_as}
-use Rattle.pb_run_work.specs.Limits.{run_steps}
+use Rattle.pb_run_work.specs.Limits.{counted, run_steps}
 use Rattle.pb_run_work.specs.Seen.{PiecesValue, SightValue, job_as}
 use Rattle.pb_run_work.specs.declared.steps.StepScratch.{StepScratch}
 
@@ -87,26 +90,35 @@ pub record IsSight (a : AcceptedValue) (v : InstanceValue) (s : SightValue) : Ty
   pub views : AreViewsOf transform.matrices v.seats s.views
   pub windows : AreRuleWindows (sizes_of v.sizes) (bare_transform transform).rules s.windows
 
--- of the job with this number of the instance with that number, in the matrices of its instance
-pub record IsOfJob (a : AcceptedValue) (instances : List InstanceValue) (m j : ℕ) (P : InstanceValue → JobValue → AnalysisValue → Type 0) : Type 0 where
+-- of the instance with this number, with what is found of its transform
+pub record IsOf (a : AcceptedValue) (instances : List InstanceValue) (m : ℕ) (P : InstanceValue → AnalysisValue → Type 0) : Type 0 where
   pub value : InstanceValue
   pub there : slice_get instances m ≡ Some value
-  pub job : JobValue
-  pub has : slice_get value.jobs j ≡ Some job
   pub found : AnalysisValue
   pub is_found : slice_get a.found value.transform ≡ Some found
-  pub is : P value job found
+  pub is : P value found
+
+-- of its job with this number
+pub record OfJob (v : InstanceValue) (j : ℕ) (P : JobValue → Type 0) : Type 0 where
+  pub job : JobValue
+  pub there : slice_get v.jobs j ≡ Some job
+  pub is : P job
+
+-- the rectangles of a job in the matrices of its instance, with their rules
+pub record AreJobPieces (nodes : List NodeValue) (job : JobValue) (q : PiecesValue) : Type 0 where
+  pub parts : q.parts ≡ map (spot_of nodes) job.parts
+  pub rules : q.rules ≡ map (λ (part : FramePart). part.rule) job.parts
 
 module _ (a : AcceptedValue) (instances : List InstanceValue) where
   -- the rectangles of a step in the matrices of its instance, with their rules
   abbrev pub ArePieces : StepValue → PiecesValue → Type 0
-  ArePieces (step.Job m j) q = IsOfJob a instances m j (λ v job found. (q.parts ≡ (job_as found job).parts) × (q.rules ≡ (job_as found job).rules))
-  ArePieces (step.Copy x) q = IsOfJob a instances x.instance x.job (λ v job found. q.parts ≡ map (spot_of found.nodes) x.parts)
+  ArePieces (step.Job m j) q = IsOf a instances m (λ v found. OfJob v j (λ job. AreJobPieces found.nodes job q))
+  ArePieces (step.Copy x) q = IsOf a instances x.instance (λ v found. q.parts ≡ map (spot_of found.nodes) x.parts)
   ArePieces (step.Trap f) q = Unit {0}
 
   -- there is so much room for a step
   abbrev pub HasRoomForStep : Rooms → StepValue → Type 0
-  HasRoomForStep rooms (step.Job m j) = IsOfJob a instances m j (λ v job found. HasRoomForJob (bare_prog a.program) v.transform (sizes_of v.sizes) rooms (job_as found job))
+  HasRoomForStep rooms (step.Job m j) = IsOf a instances m (λ v found. OfJob v j (λ job. HasRoomForJob (bare_prog a.program) v.transform (sizes_of v.sizes) rooms (job_as found job)))
   HasRoomForStep rooms (step.Copy x) = length x.parts ≤ rooms.pieces
   HasRoomForStep rooms (step.Trap f) = Unit {0}
 
@@ -119,25 +131,25 @@ abbrev pub fits_run : RunValue → StepScratch → Type 0
 fits_run r s = fits_rooms r.rooms s
 
 -- ---- its facts
--- temporary: there is no run yet
-unfoldable pub Never : Type 0
-Never = ⊥
+-- of a transform, by its number, that these matrices enter: steps and a graph are those of the run, which is within its limits
+pub record IsBegun (a : AcceptedValue) (config : ConfigValue) (grain depth number : ℕ) (ins : List Outcomes) (u : UnrolledValue) (g : GraphValue) : Type 0 where
+  pub entered : IsEntered (bare_prog a.program) a.found config number ins
+  pub small : All (λ (m : Outcomes). All IsSmall m.cells) ins
+  pub counts : AreFew (counted (bare_prog a.program) a.found config grain depth number ins)
+  pub within : IsWithinLimits (run_matrices (bare_prog a.program) a.found config grain depth number ins) (run_steps (bare_prog a.program) a.found config grain depth number ins)
+  pub steps : AreSteps (bare_prog a.program) a.found u (run_steps (bare_prog a.program) a.found config grain depth number ins)
+  pub met : met_of u.met ≡ (unrolled_run (bare_prog a.program) a.found config grain depth number (map sides_of_matrix ins)).next
+  pub seated : AreSeated a config grain u.instances
+  pub tasks : AreTasksOf (run_steps (bare_prog a.program) a.found config grain depth number ins) g.tasks
+  pub graph : g ≡ run_graph ins (run_matrices (bare_prog a.program) a.found config grain depth number ins) (run_steps (bare_prog a.program) a.found config grain depth number ins) g.tasks
 
 pub record IsRunning (r : RunValue) : Type 0 where
+  pub begun : IsBegun r.accepted r.config r.grain r.depth r.number (ins_of r) r.unrolled r.graph
   pub there : slice_get r.accepted.program.transforms r.number ≡ Some r.transform
-  pub entered : IsEntered (prog_of r) r.accepted.found r.config r.number (ins_of r)
   pub given : AreGiven (of_transform r) (of_sizes r) (ins_of r)
   pub sizes : sizes_given (of_transform r) (ins_of r) ≡ of_sizes r
-  pub small : All (λ (m : Outcomes). All IsSmall m.cells) (ins_of r)
-  pub within : IsWithinLimits (all_of r) (steps_of r)
-  pub steps : AreSteps (prog_of r) r.accepted.found r.unrolled (steps_of r)
-  pub met : met_of r.unrolled.met ≡ (unrolled_run (prog_of r) r.accepted.found r.config r.grain r.depth r.number (map sides_of_matrix (ins_of r))).next
-  pub seated : AreSeated r.accepted r.config r.grain r.unrolled.instances
-  pub tasks : AreTasksOf (steps_of r) r.graph.tasks
-  pub graph : r.graph ≡ run_graph (ins_of r) (all_of r) (steps_of r) r.graph.tasks
   pub short : All (HasShortSides (of_sizes r)) r.transform.matrices
   pub row : AreInARow 0 (of_sizes r) r.transform.matrices r.views
   pub sights : AllZip (IsSight r.accepted) r.unrolled.instances r.sights
   pub pieces : AllZip (ArePieces r.accepted r.unrolled.instances) r.unrolled.steps r.pieces
-  pub temporary : Never
   pub rooms : All (HasRoomForStep r.accepted r.unrolled.instances r.rooms) r.unrolled.steps

@@ -1,19 +1,23 @@
-//! The tasks of a run with plans.
+//! Runs with plans: the work that a pool does, made from a program, a configuration and the matrices that are given.
 //!
-//! In: a step of an unrolled run, which is a job of an instance, a copy, or a call that can't be made; what is held of the run's
-//! instances; and a port, which tells what has been made, and takes the cells of the step one after another. Out: all that the port still
-//! has to be given, has been given. The theorem is `run_step`, and laws say that when the turn of a task of a run begins, what it
-//! asks for holds.
+//! In: an accepted program, a valid configuration, the number of a transform, the matrices that are given to it, how deep plans may
+//! call, and the grain. Out: a `Run`, a work of `pb_taskgraph` whose solution is the outcomes of all its calls, and whose tasks make
+//! them; or why there is none. The theorems are `unroll` and the clauses of `Work`. Below it stands `run_step`: a step of an unrolled
+//! run, which is a job of an instance, a copy, or a call that can't be made, is made through a port; and laws say that this can be done
+//! when the turn of its task begins.
 //!
-//! Only `StepScratch::new` takes memory.
+//! Only `unroll` and `StepScratch::new`, which `scratch` calls, take memory.
 #![tactic(auto)]
 
 mod copies;
 mod drawn;
+mod inputs;
 mod jobs;
 mod laws;
+mod pieces;
 mod run;
 mod seats;
+mod sights;
 mod steps;
 mod traps;
 mod unrolled;

@@ -1,10 +1,10 @@
+use crate::inputs::input_at;
 use crate::run::Run;
-use crate::steps::StepScratch;
+use crate::steps::{StepScratch, run_step};
 use pb_taskgraph::{CellPort, TaskGraph, Work};
 use pb_values::Outcome;
 use std::alloc::{AllocError, Global};
 
-// Temporary: there is no run yet.
 impl<'a> Work for Run<'a> {
     ghost use Rattle.pb_run_work.specs.Running.{fits_run, run_plan};
 
@@ -15,13 +15,11 @@ impl<'a> Work for Run<'a> {
     ghost fits = { fits_run };
 
     fn graph(&self) -> &TaskGraph {
-        self.task_graph()
+        &self.graph
     }
 
     fn input(&self, cell: u64) -> Outcome {
-        let _ = self.task_graph();
-        let _cell = cell;
-        Outcome::Value(0)
+        input_at(&self.inputs, cell)
     }
 
     fn scratch(&self, alloc: Global) -> Result<StepScratch, AllocError> {
@@ -29,6 +27,15 @@ impl<'a> Work for Run<'a> {
     }
 
     fn run<C: CellPort>(&self, task: u32, port: &mut C, scratch: &mut StepScratch) {
-        let _ = self.task_graph();
+        let unrolled = &self.unrolled;
+        run_step(
+            self.accepted,
+            &unrolled.instances,
+            &unrolled.steps[task as usize],
+            &self.sights,
+            &self.pieces[task as usize],
+            port,
+            scratch,
+        );
     }
 }
