@@ -13,6 +13,7 @@ const LEFT: &str = "matrix 8 8
 7 14 21 28 35 42 49 56
 8 16 24 32 40 48 56 64
 ";
+
 const RIGHT: &str = "matrix 8 8
 1 1 1 1 1 1 1 1
 0 1 1 1 1 1 1 1
@@ -23,6 +24,7 @@ const RIGHT: &str = "matrix 8 8
 0 0 0 0 0 0 1 1
 0 0 0 0 0 0 0 1
 ";
+
 const PRODUCT: &str = "matrix 8 8
 1 3 6 10 15 21 28 36
 2 6 12 20 30 42 56 72

@@ -12,3 +12,4 @@ mod InputLemmas
 mod RunningLemmas
 mod HoldLemmas
 mod BeginLemmas
+pub mod WatchedLemmas

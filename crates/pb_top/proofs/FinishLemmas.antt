@@ -50,8 +50,8 @@ run_graph r = refl
 pub is_trace : (r : RunValue) → IsRunning r → (order text : List ℕ) → order ≡ range_with_len 0 (length r.graph.tasks) → text ≡ trace_text r.graph order → IsTraceOf (fitting_of r) text
 is_trace r is order text by_number written = record {
   tasks = r.graph.tasks;
-  are_tasks = is.tasks;
-  is = written ∙ ap (trace_text r.graph) by_number ∙ ap (λ (g : GraphValue). trace_text g (range_with_len 0 (length r.graph.tasks))) is.graph;
+  are_tasks = is.begun.tasks;
+  is = written ∙ ap (trace_text r.graph) by_number ∙ ap (λ (g : GraphValue). trace_text g (range_with_len 0 (length r.graph.tasks))) is.begun.graph;
 }
 
 -- ---- the answer

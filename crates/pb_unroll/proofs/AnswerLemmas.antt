@@ -101,7 +101,7 @@ module _ (v : RunValue) (is : IsRunning v) where
   there = map_get bare_transform v.accepted.program.transforms v.number v.transform is.there
 
   form : IsTransform (length (prog_of v)) t
-  form = at_place (IsTransform (length (prog_of v))) (prog_of v) v.number t is.entered.well.transforms there
+  form = at_place (IsTransform (length (prog_of v))) (prog_of v) v.number t is.begun.entered.well.transforms there
 
   -- ---- its first call
   abbrev plans : Plans
@@ -126,7 +126,7 @@ module _ (v : RunValue) (is : IsRunning v) where
   same_trap = ap (λ ms. first_trapped ms (made_cells t sizes)) (sym first_is)
 
   found : (a : AnalysisValue) × (slice_get v.accepted.found v.number ≡ Some a)
-  found = some_at v.accepted.found v.number (omega (arith, slice_get_within (prog_of v) v.number t there, found_length (prog_of v) v.accepted.found is.entered.are_found))
+  found = some_at v.accepted.found v.number (omega (arith, slice_get_within (prog_of v) v.number t there, found_length (prog_of v) v.accepted.found is.begun.entered.are_found))
 
   deeper : (rest : List Outcomes) × (all_of v ≡ all ++ rest)
   deeper =
@@ -164,7 +164,7 @@ module _ (v : RunValue) (is : IsRunning v) where
   split = whole ∙ ap (λ l. l ++ later) (both ins made) ∙ append_assoc (outcomes_of ins) (outcomes_of made) later
 
   all_few : length (run_plan v).solution ≤ MOST_CELLS
-  all_few = omega (arith, ap length solution_is, total_is (all_of v), is.within.cells)
+  all_few = omega (arith, ap length solution_is, total_is (all_of v), is.begun.within.cells)
 
   -- ---- the matrices that are watched
   abbrev watched : List View
@@ -189,7 +189,7 @@ module _ (v : RunValue) (is : IsRunning v) where
   -- ---- its first trapped cell, among those of the cells that rules of the first call make
   module _ (outcomes : List Outcome) (inputs : ℕ) (views : List View) (count : ℕ) (looked : IsLooked v outcomes inputs views count) where
     given_count : length (outcomes_of ins) ≡ inputs
-    given_count = total_is ins ∙ sym (ap (λ (g : GraphValue). g.inputs) is.graph) ∙ sym looked.inputs
+    given_count = total_is ins ∙ sym (ap (λ (g : GraphValue). g.inputs) is.begun.graph) ∙ sym looked.inputs
 
     many : count ≡ length (outcomes_of made)
     many = looked.count ∙ ap cells_shown looked.views ∙ watched_count
@@ -202,6 +202,12 @@ module _ (v : RunValue) (is : IsRunning v) where
 
     pub within : inputs + count ≤ length outcomes
     within = omega (arith, many, given_count, all_there)
+
+    outcomes_few : length outcomes ≤ MOST_CELLS
+    outcomes_few = omega (arith, ap length looked.solved, all_few)
+
+    pub within_limits : inputs + count ≤ MOST_CELLS
+    within_limits = omega (arith, within, outcomes_few)
 
     abbrev part : List Outcome
     part = take count (drop inputs outcomes)
@@ -220,6 +226,9 @@ module _ (v : RunValue) (is : IsRunning v) where
 
       pub is_there : inputs + k < length outcomes
       is_there = omega (arith, within, inside)
+
+      pub is_small : inputs + k ≤ MOST_CELLS
+      is_small = omega (arith, within_limits, inside)
 
       at : (o : Outcome) → slice_get outcomes (inputs + k) ≡ Some o → get_or part k no_outcome ≡ o
       at o = at_part outcomes inputs count within k o inside

@@ -36,11 +36,13 @@ fn is_trapped(outcome: &Outcome) -> bool
 
 /// The number of the first outcome that is a trap among so many from `from` on, of which the first has number 0.
 fn first_trap(outcomes: &Outcomes, from: u64, count: u64) -> Option<u64>
-    requires { from + count ≤ length outcomes.now }
+    requires room { from + count ≤ length outcomes.now }
+    requires few { from + count ≤ MOST_CELLS }
     ensures { result ≡ position is_trapped (take count (drop from outcomes.now)) }
 {
     for k in 0..count {
-        if is_trapped(&outcomes.get(from + k)) {
+        let cell = from + k;
+        if is_trapped(&outcomes.get(cell)) {
             return Some(k);
         }
     }
@@ -70,7 +72,8 @@ pub fn first_trapped(run: &Run<'_>, outcomes: &Outcomes) -> Option<TrappedCell>
     let inputs = run.task_graph().inputs();
     let cell = first_trap(outcomes, inputs, count_cells(views))?;
     let (matrix, x, y) = place_of(views, run.transform().inputs, cell)?;
-    match outcomes.get(inputs + cell) {
+    let number = inputs + cell;
+    match outcomes.get(number) {
         Outcome::Trapped(trap) => Some(TrappedCell { matrix, x, y, trap }),
         Outcome::Value(_) => None,
     }
