@@ -8,8 +8,9 @@ pub mod StopLemmas
 pub mod BlockLemmas
 pub mod WholeLemmas
 pub mod SeenLemmas
-mod InputLemmas
-mod RunningLemmas
-mod HoldLemmas
-mod BeginLemmas
 pub mod WatchedLemmas
+mod BeginLemmas
+mod HoldLemmas
+mod InputLemmas
+mod PieceLemmas
+mod RunningLemmas

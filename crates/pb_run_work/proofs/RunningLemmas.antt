@@ -3,7 +3,7 @@ use Rattle.std.proofs.Common.{◌≡◌, ◌∙◌, refl, sym, ap, subst, ℕ, �
 use Rattle.std.proofs.lemmas.Grind.{flat_map-append}
 use Rattle.std.specs.Prelude.{slice_index_or}
 use Rattle.std.proofs.lemmas.List.{length-map}
-use Rattle.std.proofs.lemmas.Option.{slice_get-get_or}
+use Rattle.std.proofs.lemmas.Option.{slice_get_within}
 use Rattle.pb_linear.specs.Sizes.{sizes_of}
 use Rattle.pb_values.specs.Cells.{Turn}
 use Rattle.pb_program.specs.Trees.{bare_prog, bare_transform}
@@ -11,6 +11,7 @@ use Rattle.pb_model.specs.Calls.{Outcomes, no_outcome}
 use Rattle.pb_check.specs.Accepting.{AcceptedValue}
 use Rattle.pb_check.specs.Orders.{AnalysisValue}
 use Rattle.pb_frame.specs.Frames.{JobValue}
+use Rattle.pb_graph.proofs.NumberedLemmas.{at_index}
 use Rattle.pb_links.specs.declared.places.Spot.{Spot}
 use Rattle.pb_plan.specs.Boxes.{spot_of}
 use Rattle.pb_plan.proofs.JobLemmas.{at_map}
@@ -167,23 +168,17 @@ module _ (r : RunValue) (is : IsRunning r) where
         )
 
   -- ---- what its parts hold, as the code has them
-  pub task_can : (v : RunValue) → r ≡ v → (task : ℕ) (turn : Turn) → Begins (run_plan v) task turn → (instances : List InstanceValue) → instances ≡ u.instances → (steps : List StepValue) → steps ≡ u.steps → (x : StepValue) → x ≡ get_or steps task x → task < length steps
-      → (q : PiecesValue) → q ≡ get_or r.pieces task q → task < length r.pieces → (rooms : Rooms) (room : ℕ) → rooms ≡ v.rooms → room ≡ v.rooms.pieces → CanRunStep a instances r.sights q rooms room turn x
-  task_can v same task turn b instances same_i steps same_s x at_x below q at_q below_q rooms room same_r same_w =
-      let there : slice_get u.steps task ≡ Some x = ap (λ (l : List StepValue). slice_get l task) (sym same_s) ∙ slice_get-get_or steps task x below ∙ ap Some (sym at_x) in
-      let has : slice_get r.pieces task ≡ Some q = slice_get-get_or r.pieces task q below_q ∙ ap Some (sym at_q) in
-      let rooms_are : rooms ≡ r.rooms = same_r ∙ ap (λ (z : RunValue). z.rooms) (sym same) in
-      let room_is : room ≡ r.rooms.pieces = same_w ∙ ap (λ (z : RunValue). z.rooms.pieces) (sym same) in
-      subst (λ (z : List InstanceValue × Rooms × ℕ). CanRunStep a z.0 r.sights q z.1 z.2 turn x) (λ i. (sym same_i i, sym rooms_are i, sym room_is i))
-      (step_can task turn (subst (λ (z : RunValue). Begins (run_plan z) task turn) (sym same) b) x there q has)
+  pub steps_below : (task : ℕ) → task < length (run_plan r).graph.tasks → task < length u.steps
+  steps_below task below = let at = step_there task below in slice_get_within u.steps task at.0 at.1
 
-  -- ---- inputs
-  pub input_there : (cell : ℕ) → cell < (run_plan r).graph.inputs → cell < length (outcomes_of (ins_of r))
-  unfolding run_plan plan_of_run
-  input_there cell below = omega (arith, below, total_is (ins_of r))
+  pub pieces_below : (task : ℕ) → task < length (run_plan r).graph.tasks → task < length r.pieces
+  pieces_below task below = omega (arith, steps_below task below, zip_length (ArePieces a u.instances) u.steps r.pieces is.pieces)
 
-  pub input_is : (cell : ℕ) → cell < length (outcomes_of (ins_of r)) → outcome_at (outcomes_of (ins_of r)) cell ≡ outcome_at (run_plan r).solution cell
-  unfolding run_plan plan_of_run outcomes_of outcome_at
-  input_is cell below =
-      let made = matrices_at (prog_of r) a.found r.config r.grain r.depth r.number (ins_of r) in
-      sym (ap (λ os. slice_index_or os cell no_outcome) (flat_map-append (λ (m : Outcomes). m.cells) (ins_of r) made) ∙ index_left (outcomes_of (ins_of r)) (outcomes_of made) cell no_outcome below)
+  pub task_can : (task : ℕ) (turn : Turn) → Begins (run_plan r) task turn → task < length (run_plan r).graph.tasks → (accepted : AcceptedValue) → accepted ≡ a → (instances : List InstanceValue) → instances ≡ u.instances → (sights : List SightValue) → sights ≡ r.sights
+      → (steps : List StepValue) → steps ≡ u.steps → (x : StepValue) → x ≡ get_or steps task x → (pieces : List PiecesValue) → pieces ≡ r.pieces → (q : PiecesValue) → q ≡ get_or pieces task q → (rooms : Rooms) → rooms ≡ r.rooms → (room : ℕ) → room ≡ r.rooms.pieces
+      → CanRunStep accepted instances sights q rooms room turn x
+  task_can task turn b below accepted same_a instances same_i sights same_s steps same_t x at_x pieces same_p q at_q rooms same_r room same_w =
+      let there : slice_get u.steps task ≡ Some x = at_index u.steps task x (steps_below task below) (at_x ∙ ap (λ (l : List StepValue). get_or l task x) same_t) in
+      let has : slice_get r.pieces task ≡ Some q = at_index r.pieces task q (pieces_below task below) (at_q ∙ ap (λ (l : List PiecesValue). get_or l task q) same_p) in
+      subst (λ (z : AcceptedValue × List InstanceValue × List SightValue × Rooms × ℕ). CanRunStep z.0 z.1 z.2 q z.3 z.4 turn x) (λ i. (sym same_a i, sym same_i i, sym same_s i, sym same_r i, sym same_w i))
+      (step_can task turn b x there q has)

@@ -23,6 +23,18 @@ fn nodes_at(a: &Accepted, t: u32) -> &[Node]
     a.analyses()[t as usize].nodes()
 }
 
+/// Where a part lies.
+fn spot_of(nodes: &[Node], part: &FramePart) -> Spot
+    requires { part.now.node < length nodes.now }
+    ensures { result ≡ spot_of nodes.now part.now }
+{
+    let node = &nodes[part.node as usize];
+    Spot {
+        base: node.matrix,
+        rect: part.rect,
+    }
+}
+
 /// Where parts lie in the matrices of their instance.
 fn spots_of(alloc: Global, nodes: &[Node], parts: &[FramePart]) -> Result<Vec<Spot>, AllocError>
     requires { HasNodes nodes.now parts.now }
@@ -30,11 +42,7 @@ fn spots_of(alloc: Global, nodes: &[Node], parts: &[FramePart]) -> Result<Vec<Sp
 {
     let mut spots = Vec::new(alloc);
     for part in parts {
-        let node = &nodes[part.node as usize];
-        spots.push(Spot {
-            base: node.matrix,
-            rect: part.rect,
-        })?;
+        spots.push(spot_of(nodes, part))?;
     }
     Ok(spots)
 }
