@@ -10,6 +10,7 @@ pub mod WholeLemmas
 pub mod SeenLemmas
 pub mod WatchedLemmas
 mod BeginLemmas
+mod CountLemmas
 mod HoldLemmas
 mod InputLemmas
 mod PieceLemmas

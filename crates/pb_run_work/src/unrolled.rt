@@ -1,4 +1,4 @@
-ghost use Rattle.std.specs.Prelude.{◌≡◌, ◌≤◌, ◌⊎◌, IfErr, IfOk, length, map};
+ghost use Rattle.std.specs.Prelude.{◌≡◌, ◌≤◌, ◌⊎◌, IfErr, IfOk, Some, length, map, slice_get};
 ghost use Rattle.std.specs.List.{All};
 ghost use Rattle.pb_program.specs.Configs.{IsValid};
 ghost use Rattle.pb_program.specs.Trees.{bare_prog};
@@ -22,7 +22,7 @@ use pb_counts::check_counts;
 use pb_entry::{RunRefusal, bind_sizes};
 use pb_linear::Sizes;
 use pb_matrix::Matrix;
-use pb_program::Config;
+use pb_program::{Config, Transform};
 use pb_recursion::given_matrices_can_enter;
 use pb_run_graph::graph_of;
 use pb_steps::{Unrolled, unroll as unroll_steps};
@@ -81,6 +81,7 @@ fn run_of<'a>(
     a: &'a Accepted,
     c: &'a Config,
     t: u32,
+    transform: &'a Transform,
     inputs: Vec<Matrix>,
     s: Sizes,
     depth: u32,
@@ -88,11 +89,11 @@ fn run_of<'a>(
     unrolled: Unrolled,
     graph: TaskGraph,
 ) -> Result<Run<'a>, AllocError>
+    requires there { slice_get a.now.program.transforms t ≡ Some transform.now }
     requires fitted { AreFitted a.now t inputs.items s }
     requires begun { IsBegun a.now c.now grain depth t (given_as inputs.items) unrolled graph }
     ensures { IfOk result (IsUnrolled a.now c.now t inputs.items depth grain) }
 {
-    let transform = &a.prog().transforms[t as usize];
     let views = lay_out(alloc, &transform.matrices, &s, 0)?;
     let sights = sights_of(alloc, a, &unrolled.instances)?;
     let (pieces, rooms) = all_pieces(alloc, a, &unrolled.instances, &unrolled.steps)?;
@@ -135,8 +136,9 @@ pub fn unroll<'a>(
     ensures refused { IfErr result (λ e. (e ≡ Memory) ⊎ IsRefused a.now c.now t inputs.items depth grain e) }
 {
     given_matrices_can_enter();
+    let transform = &a.prog().transforms[t as usize];
     let s = bind_sizes(a, t, &inputs)?;
     check_counts(alloc, a, c, depth, t, &s)?;
     let (unrolled, graph) = begin(alloc, a, c, t, &inputs, depth, grain)?;
-    Ok(run_of(alloc, a, c, t, inputs, s, depth, grain, unrolled, graph)?)
+    Ok(run_of(alloc, a, c, t, transform, inputs, s, depth, grain, unrolled, graph)?)
 }
