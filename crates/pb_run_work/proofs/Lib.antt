@@ -13,5 +13,7 @@ mod BeginLemmas
 mod CountLemmas
 mod HoldLemmas
 mod InputLemmas
+mod MakeLemmas
 mod PieceLemmas
 mod RunningLemmas
+mod StartLemmas
