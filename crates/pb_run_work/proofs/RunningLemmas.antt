@@ -112,7 +112,7 @@ module _ (r : RunValue) (is : IsRunning r) where
         let same_found : room.found ≡ found = some_same room.found found (sym room.is_found ∙ ap (λ (x : InstanceValue). slice_get a.found x.transform) same_v ∙ pieces.is_found) in
         let same_job : room.is.job ≡ job = some_same room.is.job job (sym room.is.there ∙ ap (λ (x : InstanceValue). slice_get x.jobs j) same_v ∙ pieces.is.there) in
         let enough : HasRoomForJob (bare_prog a.program) v.transform (sizes_of v.sizes) r.rooms (job_as found job) =
-            subst (λ (x : InstanceValue × AnalysisValue × JobValue). HasRoomForJob (bare_prog a.program) x.0.transform (sizes_of x.0.sizes) r.rooms (job_as x.1 x.2)) (λ i. (same_v i, same_found i, same_job i)) room.is.is in
+        subst (λ (x : InstanceValue × AnalysisValue × JobValue). HasRoomForJob (bare_prog a.program) x.0.transform (sizes_of x.0.sizes) r.rooms (job_as x.1 x.2)) (λ i. (same_v i, same_found i, same_job i)) room.is.is in
         let made_is : job_as found job ≡ made_of found job q = λ i. record { parts = sym pieces.is.is.parts i; rule = job.rule; rules = sym pieces.is.is.rules i; steps = (job_as found job).steps } in
         record {
           sight = s;

@@ -82,7 +82,11 @@ fn step_pieces(
     match step {
         Step::Job { instance, job } => {
             let here = &instances[*instance as usize];
-            job_pieces(alloc, nodes_at(a, here.transform), &here.jobs[*job as usize])
+            job_pieces(
+                alloc,
+                nodes_at(a, here.transform),
+                &here.jobs[*job as usize],
+            )
         }
         Step::Copy(copied) => {
             let here = &instances[copied.instance as usize];

@@ -140,5 +140,7 @@ pub fn unroll<'a>(
     let s = bind_sizes(a, t, &inputs)?;
     check_counts(alloc, a, c, depth, t, &s)?;
     let (unrolled, graph) = begin(alloc, a, c, t, &inputs, depth, grain)?;
-    Ok(run_of(alloc, a, c, t, transform, inputs, s, depth, grain, unrolled, graph)?)
+    Ok(run_of(
+        alloc, a, c, t, transform, inputs, s, depth, grain, unrolled, graph,
+    )?)
 }
