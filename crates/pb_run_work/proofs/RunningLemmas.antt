@@ -182,3 +182,14 @@ module _ (r : RunValue) (is : IsRunning r) where
       let has : slice_get r.pieces task ≡ Some q = at_index r.pieces task q (pieces_below task below) (at_q ∙ ap (λ (l : List PiecesValue). get_or l task q) same_p) in
       subst (λ (z : AcceptedValue × List InstanceValue × List SightValue × Rooms × ℕ). CanRunStep z.0 z.1 z.2 q z.3 z.4 turn x) (λ i. (sym same_a i, sym same_i i, sym same_s i, sym same_r i, sym same_w i))
       (step_can task turn b x there q has)
+
+  -- ---- inputs
+  pub input_there : (cell : ℕ) → cell < (run_plan r).graph.inputs → cell < length (outcomes_of (ins_of r))
+  unfolding run_plan plan_of_run
+  input_there cell below = omega (arith, below, total_is (ins_of r))
+
+  pub input_is : (cell : ℕ) → cell < length (outcomes_of (ins_of r)) → outcome_at (outcomes_of (ins_of r)) cell ≡ outcome_at (run_plan r).solution cell
+  unfolding run_plan plan_of_run outcomes_of outcome_at
+  input_is cell below =
+      let made = matrices_at (prog_of r) a.found r.config r.grain r.depth r.number (ins_of r) in
+      sym (ap (λ os. slice_index_or os cell no_outcome) (flat_map-append (λ (m : Outcomes). m.cells) (ins_of r) made) ∙ index_left (outcomes_of (ins_of r)) (outcomes_of made) cell no_outcome below)
