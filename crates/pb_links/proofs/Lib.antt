@@ -3,3 +3,4 @@ pub mod LawLemmas
 pub mod RisingLemmas
 pub mod TableLemmas
 pub mod TurnLemmas
+mod IndexLemmas

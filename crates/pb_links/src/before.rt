@@ -1,10 +1,11 @@
-ghost use Rattle.std.specs.Prelude.{◌≡◌, ◌++◌, ◌<◌, IfOk, OnOk, length};
+ghost use Rattle.std.specs.Prelude.{◌≡◌, ◌++◌, ◌<◌, ℕ, IfOk, OnOk, length};
 ghost use Rattle.std.specs.List.{flat_map};
 ghost use Rattle.pb_links.specs.Links.{predecessors};
 ghost use Rattle.pb_links.specs.Owners.{IsSortedOut, IsTable, box_hits, hits, is_hit, on};
 ghost use Rattle.pb_links.specs.Spots.{meets};
 
-use crate::owners::{Owned, Owners};
+use crate::index::Index;
+use crate::owners::Owned;
 use crate::places::{Places, Spot};
 use pb_values::Rect;
 use std::alloc::{AllocError, Global};
@@ -37,12 +38,12 @@ fn find(found: &mut Vec<u32>, owners: &[Owned], rect: &Rect, task: u32) -> Resul
     Ok(())
 }
 
-/// The parts on a matrix.
-fn on(table: &[Owners], base: u32) -> &[Owned]
-    ensures { result.now ≡ on table.now base }
+/// The parts on a matrix that can meet a rectangle.
+fn near<'a>(table: &'a [Index], base: u32, rect: &Rect) -> &'a [Owned]
+    ensures { (task : ℕ) → hits task rect.now result.now ≡ hits task rect.now (on table.now base) }
 {
     match table.get(base as usize) {
-        Some(owners) => owners.list(),
+        Some(index) => index.near(rect),
         None => &[],
     }
 }
@@ -50,7 +51,7 @@ fn on(table: &[Owners], base: u32) -> &[Owned]
 /// Finds the other tasks that make a part of one of these boxes, some of them several times.
 fn find_all(
     alloc: Global,
-    table: &[Owners],
+    table: &[Index],
     task: u32,
     boxes: &[Spot],
 ) -> Result<Vec<u32>, AllocError>
@@ -58,7 +59,12 @@ fn find_all(
 {
     let mut found = Vec::new(alloc);
     for spot in boxes {
-        find(&mut found, on(table, spot.base), &spot.rect, task)?;
+        find(
+            &mut found,
+            near(table, spot.base, &spot.rect),
+            &spot.rect,
+            task,
+        )?;
     }
     Ok(found)
 }
@@ -74,7 +80,7 @@ fn sort_out(found: &mut Vec<u32>)
 /// The predecessors of a task.
 pub(crate) fn predecessors_of(
     alloc: Global,
-    table: &[Owners],
+    table: &[Index],
     tasks: &[Places],
     task: u32,
 ) -> Result<Vec<u32>, AllocError>

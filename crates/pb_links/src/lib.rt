@@ -5,6 +5,7 @@
 #![tactic(auto)]
 
 mod before;
+mod index;
 mod laws;
 mod numbers;
 mod owners;

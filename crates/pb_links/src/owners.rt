@@ -31,10 +31,10 @@ impl Model for Owners {
 }
 
 impl Owners {
-    pub(crate) fn list(&self) -> &[Owned]
-        ensures { result.now ≡ self.now }
+    pub(crate) fn into_list(self) -> Vec<Owned>
+        ensures { result.items ≡ self }
     {
-        &self.list
+        self.list
     }
 
     fn push(&mut self, owned: Owned) -> Result<(), AllocError>

@@ -6,16 +6,17 @@ ghost use Rattle.pb_links.specs.Spots.{AllWithin};
 ghost use Rattle.pb_links.specs.declared.refusal.LinksRefusal.TheVariants.{Memory, TooMany};
 
 use crate::before::predecessors_of;
+use crate::index::{Index, indexed};
 use crate::numbers::{Links, Numbers};
-use crate::owners::{Owners, owned_parts};
+use crate::owners::owned_parts;
 use crate::places::Places;
 use crate::refusal::LinksRefusal;
 use crate::turned::turned;
 use std::alloc::{AllocError, Global};
 
 /// The predecessors and the successors of each task. `bases` is the number of matrices: each part is of one of them. It
-/// refuses as soon as it has found more links than `most`. The time is that of looking, for each box, at all parts of its
-/// matrix.
+/// refuses as soon as it has found more links than `most`. For each box it looks at those parts of its matrix that neither end
+/// before it nor begin after it along one axis, and finds them by binary search; the axis is that which tells the parts apart.
 pub fn links(alloc: Global, bases: u32, tasks: &[Places], most: u64) -> Result<Links, LinksRefusal>
     requires bases { All (AllWithin bases) tasks.now }
     requires few { length tasks.now < 2 ^ 32 }
@@ -24,7 +25,7 @@ pub fn links(alloc: Global, bases: u32, tasks: &[Places], most: u64) -> Result<L
     ensures within { IfOk result (λ l. link_count tasks.now ≤ most) }
     ensures refused { IfErr result (λ e. (e ≡ Memory) ⊎ ((e ≡ TooMany) × (most < link_count tasks.now))) }
 {
-    let table = owned_parts(alloc, bases, tasks)?;
+    let table = indexed(alloc, owned_parts(alloc, bases, tasks)?)?;
     let before = all_before(alloc, &table, tasks, most)?;
     let after = turned(alloc, &before)?;
     Ok(Links { before, after })
@@ -40,7 +41,7 @@ fn put(lists: &mut Vec<Numbers>, list: Vec<u32>) -> Result<(), AllocError>
 /// The predecessors of each task.
 fn all_before(
     alloc: Global,
-    table: &[Owners],
+    table: &[Index],
     tasks: &[Places],
     most: u64,
 ) -> Result<Vec<Numbers>, LinksRefusal>

@@ -1,5 +1,6 @@
-use Rattle.std.proofs.Common.{◌∙◌, arith}
+use Rattle.std.proofs.Common.{◌∙◌, length, arith}
 use Rattle.pb_links.proofs.TurnLemmas.{all-inside, all-long, all-rising, turned-successors}
+use Rattle.pb_links.proofs.IndexLemmas.{table_shown}
 use Rattle.pb_links.proofs.tasks.links.Goals as goal
 
 pub turned-requires-clause-few : goal.turned-requires-clause-few
@@ -17,3 +18,6 @@ returns-clause-found c =
     let before = c.in_ok-before.ensures.found in
     let after = turned-successors c.args.tasks.now c.deref-2.result.now c.in_ok-after.after.items (c.deref-2.ensures.value ∙ before) c.in_ok-after.ensures in
     λ i. record { before = before i; after = after i }
+
+pub all_before-requires-clause-table : goal.all_before-requires-clause-table
+all_before-requires-clause-table c = table_shown c.args.tasks.now (length c.args.tasks.now) c.args.bases c.in_ok-owned_parts.field-0.items c.in_ok-table.table.items c.deref.result.now c.deref.ensures.value c.in_ok-table.ensures c.in_ok-owned_parts.ensures
