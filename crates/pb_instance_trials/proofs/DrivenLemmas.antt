@@ -1,14 +1,9 @@
 -- Two tasks that a hand runs.
-use Rattle.std.proofs.Common.{◌≡◌, ◌≢◌, ◌∙◌, refl, sym, ap, subst, inl, inr, ⊎_elim, ℕ, zero, suc, ◌<◌, ◌≤◌, true, List, [], ◌∷◌, ◌++◌, length, map, get_or, nat_eq, Some, IsSome, arith}
-use Rattle.std.specs.List.{All, Contains}
+use Rattle.std.proofs.Common.{◌≡◌, ◌∙◌, refl, sym, ap, subst, inl, inr, ⊎_elim, ℕ, zero, suc, ◌<◌, ◌≤◌, true, List, [], ◌∷◌, ◌++◌, length, map, get_or, nat_eq, Some, IsSome, arith}
+use Rattle.std.specs.List.{Contains}
 use Rattle.std.proofs.lemmas.Bool.{cases_lt, eqb-true}
 use Rattle.std.proofs.lemmas.List.{take_all}
-use Rattle.std.proofs.lemmas.List.Elements.{All-map, Contains-push}
-use Rattle.pb_program.specs.Rules.{RuleValue}
-use Rattle.pb_program.specs.Transforms.{TransformValue}
-use Rattle.pb_program.specs.Trees.{ProgRule, bare_rule, bare_transform}
-use Rattle.pb_program.specs.declared.rule.RuleKind.TheVariants as kind
-use Rattle.pb_region.specs.Dims.{HasTransform}
+use Rattle.std.proofs.lemmas.List.Elements.{Contains-push}
 use Rattle.atomic_table.specs.Seated.{TableId}
 use Rattle.pb_base.proofs.ListLemmas.{in_head, in_none, map_in}
 use Rattle.pb_taskgraph.specs.Graphs.{GraphValue, TaskValue, before_of, cells_of}
@@ -42,15 +37,6 @@ are-two g tasks same first second some few is_first is_second nexts none after o
       first = after-at g 0 first (omega (arith, size)) (subst (λ l. first ≡ get_or l 0 first) same is_first) ∙ sym after ∙ one-item nexts one most (eqb-true (get_or nexts 0 0) 1 next);
       second = after-at g 1 second (omega (arith, size)) (subst (λ l. second ≡ get_or l 1 second) same is_second) ∙ sym over ∙ no-item none short;
     }
-
--- no rule of the first transform calls
-pub computes-first : (ts items : List TransformValue) → items ≡ ts → (t : TransformValue) → 0 < length items → t ≡ get_or items 0 t → (rs : List RuleValue) → rs ≡ t.rules → All (λ (r : RuleValue). r.kind ≢ kind.Plan) rs
-    → HasTransform (map bare_transform ts) 0 (λ transform. All (λ (r : ProgRule). r.kind ≢ kind.Plan) transform.rules)
-computes-first ts items same t some at rs rules all = subst (λ (l : List TransformValue). HasTransform (map bare_transform l) 0 (λ transform. All (λ (r : ProgRule). r.kind ≢ kind.Plan) transform.rules)) same (go items some at)
-  where
-    go : (l : List TransformValue) → 0 < length l → t ≡ get_or l 0 t → HasTransform (map bare_transform l) 0 (λ transform. All (λ (r : ProgRule). r.kind ≢ kind.Plan) transform.rules)
-    go [] below is = absurd (omega (arith, below))
-    go (x ∷ l) below is = All-map (λ (r : ProgRule). r.kind ≢ kind.Plan) bare_rule x.rules (subst (All (λ (r : RuleValue). r.kind ≢ kind.Plan)) (rules ∙ ap (λ (z : TransformValue). z.rules) is) all)
 
 some-in : (xs : List ℕ) (x : ℕ) → Contains xs x → length xs ≡ 0 → ⊥
 some-in [] x h none = in_none x h

@@ -1,12 +1,10 @@
 //! A run over the words of a table, driven by hand.
-ghost use Rattle.std.specs.Prelude.{◌≡◌, ◌≢◌, ◌≤◌, IfOk, IfSome, IsTrue, length};
+ghost use Rattle.std.specs.Prelude.{◌≡◌, ◌≤◌, IfOk, IfSome, IsTrue, length};
 ghost use Rattle.std.specs.List.{All};
 ghost use Rattle.pb_program.specs.Configs.{IsValid};
-ghost use Rattle.pb_program.specs.Rules.{RuleValue};
 ghost use Rattle.pb_program.specs.Trees.{bare_prog};
-ghost use Rattle.pb_program.specs.declared.rule.RuleKind.TheVariants as kind;
 ghost use Rattle.pb_region.specs.Dims.{HasTransform};
-ghost use Rattle.pb_unroll.specs.Unrolled.{IsWhole};
+ghost use Rattle.pb_run_work.specs.Given.{IsWhole};
 ghost use Rattle.pb_cells.specs.Handles.{new_job};
 ghost use Rattle.pb_instance_trials.specs.Driven.{AreTwo};
 
@@ -15,7 +13,7 @@ use pb_cells::{Cells, Hand, Job};
 use pb_check::Accepted;
 use pb_config::{ConfigRefusal, read_config};
 use pb_matrix::{Matrix, MatrixRefusal, read_matrix};
-use pb_program::{Config, Rule, RuleKind};
+use pb_program::Config;
 use pb_taskgraph::{NamesWork, Work};
 use pb_unroll::{Run, RunRefusal, unroll};
 use pb_values::Outcome;
@@ -123,30 +121,17 @@ fn unrolled(
     requires valid { IsValid (bare_prog a.now.program) c.now }
     requires count { HasTransform (bare_prog a.now.program) 0 (λ transform. length inputs.items ≡ transform.inputs) }
     requires whole { All IsWhole inputs.items }
-    requires computes { HasTransform (bare_prog a.now.program) 0 (λ transform. All (λ r. r.kind ≢ kind.Plan) transform.rules) }
 {
-    match unroll(alloc, a, c, 0, inputs, 64) {
+    match unroll(alloc, a, c, 0, inputs, 64, 64) {
         Ok(run) => run_by_hand(alloc, &run),
         Err(RunRefusal::Memory) => Err(AllocError),
         Err(_) => format!(in alloc; "refused"),
     }
 }
 
-fn all_compute(rules: &[Rule]) -> bool
-    ensures { IsTrue result → All (λ (r : RuleValue). r.kind ≢ kind.Plan) rules.now }
-{
-    for rule in rules {
-        if matches!(rule.kind, RuleKind::Plan) {
-            return false;
-        }
-    }
-    true
-}
-
-// Whether the first transform takes so many matrices, and its rules call none.
+// Whether the first transform takes so many matrices.
 fn takes(a: &Accepted, given: usize) -> bool
-    ensures count { IsTrue result → HasTransform (bare_prog a.now.program) 0 (λ transform. given ≡ transform.inputs) }
-    ensures computes { IsTrue result → HasTransform (bare_prog a.now.program) 0 (λ transform. All (λ r. r.kind ≢ kind.Plan) transform.rules) }
+    ensures { IsTrue result → HasTransform (bare_prog a.now.program) 0 (λ transform. given ≡ transform.inputs) }
 {
     let Some(transform) = a.prog().transforms.get(0) else {
         return false;
@@ -154,7 +139,7 @@ fn takes(a: &Accepted, given: usize) -> bool
     if transform.inputs as usize != given {
         return false;
     }
-    all_compute(&transform.rules)
+    true
 }
 
 // A matrix by its text; None where it spells none.

@@ -71,7 +71,7 @@ const ALONE: &[(&str, u8, &str)] = &[
     ("run --pool serial p - Double", 5, "p "),
     ("run --pool serial p c Double a", 14, "p c "),
     ("run --pool serial p - Double a a a", 5, "p a a a "),
-    ("run --pool serial m - Nope a p", 12, "m a p "),
+    ("run --pool serial m - Nope a p", 5, "m a p "),
     ("check", 2, ""),
 ];
 

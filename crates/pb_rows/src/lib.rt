@@ -23,6 +23,8 @@ mod handed;
 #[cfg(test)]
 mod large;
 #[cfg(test)]
+mod plans;
+#[cfg(test)]
 mod precedence;
 #[cfg(test)]
 mod refusals;

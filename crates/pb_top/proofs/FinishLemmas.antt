@@ -14,20 +14,24 @@ use Rattle.pb_entry.specs.Fitting.{AreBound, AreUnfit}
 use Rattle.pb_entry.specs.declared.refusal.RunRefusal.{RunRefusal}
 use Rattle.pb_entry.specs.declared.refusal.RunRefusal.TheVariants.{BadShape, Memory as NoRoom, SizeOutOfRange, TooLarge, UnknownTransform, WrongCount}
 use Rattle.pb_taskgraph.specs.Graphs.{GraphValue}
-use Rattle.pb_plan.specs.Tasks.{graph_of}
-use Rattle.pb_solution.specs.Solutions.{plan_of}
-use Rattle.pb_unroll.specs.Running.{IsRunning, RunValue, of_sizes, of_transform, run_plan}
-use Rattle.pb_unroll.specs.Unrolled.{IsTooLarge, IsUnrolled}
+use Rattle.pb_recursion.specs.Counts.{Counted}
+use Rattle.pb_run_plan.specs.RunTasks.{plan_of_run}
+use Rattle.pb_runs.specs.Steps.{Step}
+use Rattle.pb_run_work.specs.Given.{given_as}
+use Rattle.pb_run_work.specs.Limits.{IsTooLarge, counted, run_steps}
+use Rattle.pb_run_work.specs.Running.{IsRunning, RunValue, of_sizes, of_transform, prog_of, run_plan}
+use Rattle.pb_run_work.specs.Unrolled.{IsUnrolled}
 use Rattle.pb_unroll.specs.Answers.{matrices_text, results_in, trapped_in, unless_trapped}
 use Rattle.pb_taskgraph.specs.Trace.{trace_text}
 use Rattle.pb_run_lines.specs.RunLines.{run_line}
 use Rattle.pb_top.specs.Reply.{Reply, done_reply, refusal_reply}
-use Rattle.pb_top.specs.Runs.{AfterFit, AfterInputs, Fitting, IsTraceOf, RunWrites, TailAfter, answer_reply, run_answer}
+use Rattle.pb_top.specs.Runs.{AfterInputs, Fitting, IsTraceOf, RunWrites, TailAfter, answer_reply, graph_with, run_answer}
 use Rattle.pb_top.specs.Steps.{Then}
 use Rattle.pb_top.specs.Working.{CannotRun, IsTailFor, IsTrapped, StopsWith, Writes, fitting_of, refusal_status}
 use Rattle.pb_top.specs.declared.reply.Status.{Status}
 use Rattle.pb_top.specs.declared.reply.Status.TheVariants as status
 use Rattle.pb_top.specs.declared.reply.Stop.{Stop}
+use Rattle.pb_top.proofs.LimitLemmas.{Passes, passed}
 use Rattle.pb_top.proofs.StepLemmas.{stops_map, writes_map}
 
 -- ---- the trace
@@ -39,17 +43,15 @@ pub are_tasks : (order : List ℕ) (n : ℕ) → order ≡ range_with_len 0 n �
 are_tasks order n is = subst (All (λ t. t < n)) (sym is) (below 0 n n (omega arith))
 
 -- the graph of what a run stands for
-pub run_graph : (r : RunValue) → (run_plan r).graph ≡ graph_of (of_transform r) (of_sizes r) r.graph.tasks
-unfolding run_plan plan_of
+pub run_graph : (r : RunValue) → (run_plan r).graph ≡ graph_with (fitting_of r) r.graph.tasks
+unfolding run_plan plan_of_run
 run_graph r = refl
 
 pub is_trace : (r : RunValue) → IsRunning r → (order text : List ℕ) → order ≡ range_with_len 0 (length r.graph.tasks) → text ≡ trace_text r.graph order → IsTraceOf (fitting_of r) text
 is_trace r is order text by_number written = record {
-  views = r.laid.views;
   tasks = r.graph.tasks;
-  row = is.run.row;
-  are_tasks = is.run.are_tasks;
-  is = written ∙ ap (trace_text r.graph) by_number ∙ ap (λ (g : GraphValue). trace_text g (range_with_len 0 (length r.graph.tasks))) is.graph;
+  are_tasks = is.begun.tasks;
+  is = written ∙ ap (trace_text r.graph) by_number ∙ ap (λ (g : GraphValue). trace_text g (range_with_len 0 (length r.graph.tasks))) is.begun.graph;
 }
 
 -- ---- the answer
@@ -91,22 +93,20 @@ unfit_status t inputs NoRoom unfit = refl
 unfit_status t inputs (TooLarge what) (inl dims) = absurd dims.fails
 unfit_status t inputs (TooLarge what) (inr (dims, later)) = elim later.why [ inl out ↦ absurd out | inr sides ↦ elim sides.1.fails [ inl wide ↦ absurd wide | inr tall ↦ absurd tall.1 ] ]
 
-large_status : (config : ConfigValue) (number : ℕ) (t : ProgTransform) (a : AnalysisValue) (sizes : List ℕ) (grain : ℕ) (e : RunRefusal) → IsTooLarge config number t a sizes grain e → refusal_status e ≡ status.TooLarge
-large_status config number t a sizes grain UnknownTransform large = absurd large
-large_status config number t a sizes grain (WrongCount wanted given) large = absurd large
-large_status config number t a sizes grain (BadShape matrix axis wanted found) large = absurd large
-large_status config number t a sizes grain (SizeOutOfRange size value) large = absurd large
-large_status config number t a sizes grain NoRoom large = absurd large
-large_status config number t a sizes grain (TooLarge what) large = refl
+large_status : (c : Counted) (steps : List Step) (e : RunRefusal) → Passes c steps e → refusal_status e ≡ status.TooLarge
+large_status c steps e passes = let a = passed c steps e passes in ap refusal_status a.1
 
-module _ (a : AcceptedValue) (config : ConfigValue) (number : ℕ) (name : List ℕ) (inputs : List MatrixValue) (grain : ℕ) (End : Fitting → Reply → Type 0) where
+module _ (a : AcceptedValue) (config : ConfigValue) (number : ℕ) (name : List ℕ) (inputs : List MatrixValue) (depth grain : ℕ) (End : Fitting → Reply → Type 0) where
   abbrev p : List ProgTransform
   p = bare_prog a.program
 
   abbrev line : Status → RunRefusal → Reply
   line s e = refusal_reply s (run_line p number name e)
 
-  pub cannot_run : (reply : Reply) → CannotRun a config number name inputs grain reply → AfterInputs name grain End p a.found config number inputs reply
+  abbrev Large : RunRefusal → Type 0
+  Large = IsTooLarge p a.found config grain depth number (given_as inputs)
+
+  pub cannot_run : (reply : Reply) → CannotRun a config number name inputs depth grain reply → AfterInputs name depth grain End p a.found config number inputs reply
   cannot_run reply c = by (some_of (slice_get p number) _ c.refused)
     where
       why : RunRefusal
@@ -116,22 +116,32 @@ module _ (a : AcceptedValue) (config : ConfigValue) (number : ℕ) (name : List 
       told s is = c.is ∙ ap (λ x. line x why) is
 
       Refused : ProgTransform → AnalysisValue → Type 0
-      Refused t found = AreUnfit t inputs why ⊎ ((sizes : List ℕ) × AreBound t inputs sizes × IsTooLarge config number t found sizes grain why)
+      Refused t found = AreUnfit t inputs why ⊎ ((sizes : List ℕ) × AreBound t inputs sizes × Large why)
 
-      ends : (t : ProgTransform) (found : AnalysisValue) → slice_get p number ≡ Some t → slice_get a.found number ≡ Some found → Refused t found → AfterInputs name grain End p a.found config number inputs reply
-      ends t found at there (inl unfit) = (t, found, at, there, inr (why, unfit, told status.Input (unfit_status t inputs why unfit)))
-      ends t found at there (inr (sizes, bound, large)) =
-          (t, found, at, there, inl (sizes, bound, inr (why, large, told status.TooLarge (large_status config number t found sizes grain why large))))
+      ends : (t : ProgTransform) (found : AnalysisValue) → slice_get p number ≡ Some t → Refused t found → AfterInputs name depth grain End p a.found config number inputs reply
+      ends t found at (inl unfit) = (t, at, inr (why, unfit, told status.Input (unfit_status t inputs why unfit)))
+      ends t found at (inr (sizes, bound, large)) =
+          (t, at, inl (sizes, bound, inr (why, large, told status.TooLarge (large_status (counted p a.found config grain depth number (given_as inputs)) (run_steps p a.found config grain depth number (given_as inputs)) why large))))
 
-      by : (t : ProgTransform) × (slice_get p number ≡ Some t) × IsSomeAnd (slice_get a.found number) (Refused t) → AfterInputs name grain End p a.found config number inputs reply
-      by (t, at, some) = let f = some_of (slice_get a.found number) (Refused t) some in ends t f.0 at f.1 f.2
+      by : (t : ProgTransform) × (slice_get p number ≡ Some t) × IsSomeAnd (slice_get a.found number) (Refused t) → AfterInputs name depth grain End p a.found config number inputs reply
+      by (t, at, some) = let f = some_of (slice_get a.found number) (Refused t) some in ends t f.0 at f.2
 
   -- one that is begun
-  pub has_run : (r : RunValue) → IsUnrolled a config number inputs grain r → IsRunning r → (reply : Reply) → End (fitting_of r) reply → AfterInputs name grain End p a.found config number inputs reply
-  has_run r u is reply end = (of_transform r, r.found, u.there, u.found, inl (of_sizes r, u.bound, subst (λ f. AfterFit name grain End f reply) fit_is (inl (tt, (is.run.room, is.run.within), end))))
+  pub has_run : (r : RunValue) → IsUnrolled a config number inputs depth grain r → (reply : Reply) → End (fitting_of r) reply → AfterInputs name depth grain End p a.found config number inputs reply
+  has_run r u reply end = (of_transform r, u.there, inl (of_sizes r, u.bound, inl (tt, u.within, subst (λ f. End f reply) fit_is end)))
     where
-      fit_is : fitting_of r ≡ record { program = p; config = config; number = number; transform = of_transform r; found = r.found; inputs = inputs; sizes = of_sizes r; grain = grain }
-      fit_is i = record { program = bare_prog (u.of_program i); config = u.of_config i; number = u.of_number i; transform = of_transform r; found = r.found; inputs = u.of_inputs i; sizes = of_sizes r; grain = u.of_grain i }
+      fit_is : fitting_of r ≡ record { program = p; found = a.found; config = config; number = number; transform = of_transform r; inputs = inputs; sizes = of_sizes r; depth = depth; grain = grain }
+      fit_is i = record {
+        program = bare_prog (u.of_accepted i).program;
+        found = (u.of_accepted i).found;
+        config = u.of_config i;
+        number = u.of_number i;
+        transform = of_transform r;
+        inputs = u.of_inputs i;
+        sizes = of_sizes r;
+        depth = u.of_depth i;
+        grain = u.of_grain i;
+      }
 
 -- ---- steps one after another
 pub after_step : {A : Type 0} (Step : Result A Reply → Type 0) (next : List ℕ → A → Reply → Type 0) (x : A) → Step (Ok x) → (found : Result (Vec ℕ Global) Stop) → Writes (λ tail. next tail x) found → Writes (λ tail. Then Step (next tail)) found

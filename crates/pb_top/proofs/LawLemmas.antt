@@ -17,15 +17,15 @@ use Rattle.pb_top.proofs.AcceptLemmas.{prints_one}
 use Rattle.pb_top.proofs.EndLemmas.{other_status}
 use Rattle.pb_top.proofs.RunLemmas.{run_one}
 
-one_line : (grain : ℕ) (line : Option RunLine) (contents : List (List ℕ)) (first second : Reply) → Runs grain RunReplies line contents first → Runs grain RunReplies line contents second → first ≡ second
-one_line grain (Some line) contents first second left right =
-    run_one line.transform grain (config_text line contents) (input_files line contents) (content_at contents 0) first second left right
-one_line grain None contents first second left right = left ∙ sym right
+one_line : (depth grain : ℕ) (line : Option RunLine) (contents : List (List ℕ)) (first second : Reply) → Runs depth grain RunReplies line contents first → Runs depth grain RunReplies line contents second → first ≡ second
+one_line depth grain (Some line) contents first second left right =
+    run_one line.transform depth grain (config_text line contents) (input_files line contents) (content_at contents 0) first second left right
+one_line depth grain None contents first second left right = left ∙ sym right
 
 one_work : (ask : Ask) (others contents : List (List ℕ)) (first second : Reply) → WorkAnswers ask others contents first → WorkAnswers ask others contents second → first ≡ second
 one_work Check others contents first second left right = prints_one its_canonical (content_at contents 0) first second left right
 one_work Choices others contents first second left right = prints_one its_report (content_at contents 0) first second left right
-one_work (Run workers depth grain pool trace) others contents first second left right = one_line grain (built_run pool others) contents first second left right
+one_work (Run workers depth grain pool trace) others contents first second left right = one_line depth grain (built_run pool others) contents first second left right
 one_work (Tune up_to) others contents first second left right = left ∙ sym right
 one_work (Demo seed size workers) others contents first second left right = left ∙ sym right
 

@@ -9,5 +9,6 @@ pub mod SomeLemmas
 pub mod LineLemmas
 pub mod AcceptLemmas
 pub mod FinishLemmas
-pub mod BuiltLemmas
+pub mod LimitLemmas
+pub mod InputLemmas
 pub mod CommandLemmas

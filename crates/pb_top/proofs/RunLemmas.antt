@@ -1,20 +1,14 @@
 -- A run has one answer.
 use Rattle.std.proofs.Common.{◌≡◌, ◌≢◌, ◌∙◌, refl, sym, ap, subst, ℕ, zero, suc, ◌<◌, ◌≤◌, Bool, true, false, nat_lt, cond, IsTrue, ◌↔◌, List, [], ◌∷◌, length, map, flat_map, filter_map, take, Option, Some, None, slice_get, Result, Ok, Err, ◌⊎◌, inl, inr, arith}
-use Rattle.std.specs.List.{All, list_all, position_from}
+use Rattle.std.specs.List.{list_all, position_from}
 use Rattle.std.specs.Str.{bytes_eq}
 use Rattle.std.specs.Str.Lines.{lines}
 use Rattle.std.proofs.lemmas.Bool.{cases_lt}
-use Rattle.std.proofs.lemmas.Option.{slice_get_within}
-use Rattle.std.proofs.lemmas.List.Elements.{All-cons, All-head, All-nil, All-tail}
 use Rattle.std.proofs.lemmas.Slice.Eq.{bytes_eq-Decides}
 use Rattle.pb_values.specs.declared.shape.Shape.{Shape}
-use Rattle.pb_values.specs.declared.shape.TheConstants.{MOST_SIDE}
 use Rattle.pb_program.specs.Configs.{ConfigValue}
-use Rattle.pb_program.specs.Forms.{DeclValue}
-use Rattle.pb_program.specs.Trees.{ProgRule, ProgTransform}
+use Rattle.pb_program.specs.Trees.{ProgTransform}
 use Rattle.pb_program.specs.WellFormed.{IsTransform, IsWellFormed}
-use Rattle.pb_program.specs.declared.rule.RuleKind.{RuleKind}
-use Rattle.pb_program.specs.declared.rule.RuleKind.TheVariants as kind
 use Rattle.pb_region.proofs.SmallLemmas.{at_place}
 use Rattle.pb_matrix.specs.Words.{is_blank, is_gap, words, cell_number, is_faulty}
 use Rattle.pb_matrix.specs.Header.{header_shape, cell_count as cells_wanted}
@@ -24,73 +18,31 @@ use Rattle.pb_matrix.specs.declared.matrix.MatrixRefusal.{MatrixRefusal}
 use Rattle.pb_matrix.specs.declared.matrix.MatrixRefusal.TheVariants.{BadHeader, BadNumber, TooFew, TooMany, Memory}
 use Rattle.pb_config.specs.declared.refusal.ConfigRefusal.{ConfigRefusal}
 use Rattle.pb_check.specs.Accepting.{HasName, IsNowhere}
-use Rattle.pb_check.specs.Orders.{AnalysisValue, AreFound}
+use Rattle.pb_check.specs.Orders.{AnalysisValue}
 use Rattle.pb_check.specs.Phases.{IsBounded, IsSound}
-use Rattle.pb_check.proofs.FirstLemmas.{all_at, some_at}
-use Rattle.pb_check.proofs.OrderLemmas.{found_length}
+use Rattle.pb_check.proofs.FirstLemmas.{all_at}
 use Rattle.pb_entry.specs.Entering.{CannotEnter, Enters}
 use Rattle.pb_entry.specs.Fitting.{AreBound, AreUnfit, IsEnterable}
 use Rattle.pb_entry.specs.declared.refusal.RunRefusal.{RunRefusal}
-use Rattle.pb_entry.specs.declared.refusal.Count.{Count}
-use Rattle.pb_entry.specs.declared.refusal.Count.TheVariants.{Calls, Cells, Links, Side, Tasks}
-use Rattle.pb_entry.specs.declared.refusal.RunRefusal.TheVariants.{BadShape, Memory as NoRoom, SizeOutOfRange, TooLarge, UnknownTransform, WrongCount}
+use Rattle.pb_entry.specs.declared.refusal.RunRefusal.TheVariants.{TooLarge, UnknownTransform, WrongCount}
 use Rattle.pb_entry.proofs.LawLemmas.{not_both, one_list, one_refusal}
 use Rattle.pb_entry.proofs.NamedLemmas.{enters_or_not, one_number, one_reason}
 use Rattle.pb_entry.proofs.SomeLemmas.{some_answer}
-use Rattle.pb_frame.specs.Frames.{JobValue}
-use Rattle.pb_links.specs.Links.{link_count}
-use Rattle.pb_plan.specs.Laid.{HasRoom}
-use Rattle.pb_plan.specs.Tasks.{IsWithinLimits}
-use Rattle.pb_taskgraph.specs.declared.limits.TheConstants.{MOST_CELLS, MOST_LINKS, MOST_TASKS}
-use Rattle.pb_plan.specs.Boxes.{places_of}
-use Rattle.pb_plan.specs.Made.{jobs_for}
-use Rattle.pb_unroll.specs.Unrolled.{IsTooLarge}
-use Rattle.pb_views.specs.Layouts.{HasShortSides, cell_count, shape_of}
+use Rattle.pb_recursion.specs.Counts.{Counted}
+use Rattle.pb_run_work.specs.Given.{given_as}
+use Rattle.pb_run_work.specs.Limits.{counted}
 use Rattle.pb_run_lines.specs.RunLines.{config_line, run_line}
-use Rattle.pb_top.specs.Reply.{Reply, IsFaultyInput, not_built, refusal_reply}
+use Rattle.pb_top.specs.Reply.{Reply, IsFaultyInput, refusal_reply}
 use Rattle.pb_top.specs.Steps.{Each}
-use Rattle.pb_top.specs.Runs.{AfterAccept, AfterBuilt, AfterConfig, AfterFit, AfterInputs, AfterName, AfterTransform, CallsNothing, Configures, FindsTransform, Fits, Fitting, IsBuilt, IsWithin, ReadsInput, RunReplies, RunsProgram, config_said}
+use Rattle.pb_top.specs.Runs.{AfterAccept, AfterConfig, AfterFit, AfterInputs, AfterName, AfterTransform, Configures, FindsTransform, Fits, Fitting, IsWithin, ReadsInput, RunReplies, RunsProgram, call_steps, config_said}
 use Rattle.pb_top.specs.declared.reply.Status.TheVariants as status
 use Rattle.pb_top.proofs.AcceptLemmas.{after_one, after_some}
+use Rattle.pb_top.proofs.LimitLemmas.{none_within, passes_one, within_or_not}
 use Rattle.pb_top.proofs.StepLemmas.{each_length, each_one, each_some, then_given, then_one_given}
 
 -- whether something holds
 abbrev Decided : Type 0 → Type 0
 Decided P = P ⊎ (P → ⊥)
-
-all_or_not : {A : Type 0} (P : A → Type 0) → ((x : A) → Decided (P x)) → (xs : List A) → Decided (All P xs)
-all_or_not P one [] = inl (All-nil P)
-all_or_not P one (x ∷ xs) = by (one x) (all_or_not P one xs)
-  where
-    by : Decided (P x) → Decided (All P xs) → Decided (All P (x ∷ xs))
-    by (inl here) (inl rest) = inl (All-cons P x xs here rest)
-    by (inr other) rest = inr (λ all. other (All-head P x xs all))
-    by here (inr other) = inr (λ all. other (All-tail P x xs all))
-
-at_most : (a b : ℕ) → Decided (a ≤ b)
-at_most a b = elim (cases_lt b a) [ inl more ↦ inr (λ most. absurd (omega (arith, more, most))) | inr most ↦ inl most ]
-
--- ---- plans
-kind_or_not : (k : RuleKind) → Decided (k ≢ kind.Plan)
-kind_or_not kind.Cell = inl (λ e. absurd (cc))
-kind_or_not kind.Wide = inl (λ e. absurd (cc))
-kind_or_not kind.Plan = inr (λ other. other refl)
-
-calls_or_not : (p : List ProgTransform) → Decided (CallsNothing p)
-calls_or_not = all_or_not (λ (t : ProgTransform). All (λ (r : ProgRule). r.kind ≢ kind.Plan) t.rules) (λ t. all_or_not (λ (r : ProgRule). r.kind ≢ kind.Plan) (λ r. kind_or_not r.kind) t.rules)
-
-built_one : (p : List ProgTransform) (x y : Result (Unit {0}) Reply) → IsBuilt p x → IsBuilt p y → x ≡ y
-built_one p (Ok u) (Ok v) left right = refl
-built_one p (Ok u) (Err reply) left right = absurd (right.0 left)
-built_one p (Err reply) (Ok u) left right = absurd (left.0 right)
-built_one p (Err reply) (Err other) left right = ap Err (left.1 ∙ sym right.1)
-
-built_some : (p : List ProgTransform) → (outcome : Result (Unit {0}) Reply) × IsBuilt p outcome
-built_some p = by (calls_or_not p)
-  where
-    by : Decided (CallsNothing p) → (outcome : Result (Unit {0}) Reply) × IsBuilt p outcome
-    by (inl computes) = (Ok tt, computes)
-    by (inr calls) = (Err not_built, (calls, refl))
 
 -- ---- configurations
 config_one : (p : List ProgTransform) (text : Option (List ℕ)) (x y : Result ConfigValue Reply) → Configures p text x → Configures p text y → x ≡ y
@@ -235,117 +187,26 @@ fits_some p name number t inputs enterable count = by (some_answer t inputs ente
 
 -- ---- counts
 module _ (r : Fitting) where
-  abbrev jobs : List JobValue
-  jobs = jobs_for r.config r.number r.transform r.found r.sizes r.grain
-
-  abbrev links : ℕ
-  links = link_count (map (places_of r.transform r.found.nodes r.sizes) jobs)
-
-  abbrev Short : Type 0
-  Short = All (HasShortSides r.sizes) r.transform.matrices
-
-  abbrev Passes : RunRefusal → Type 0
-  Passes = IsTooLarge r.config r.number r.transform r.found r.sizes r.grain
-
-  passed : (e : RunRefusal) → Passes e → (what : Count) × (e ≡ TooLarge what)
-  passed UnknownTransform p = absurd p
-  passed (WrongCount wanted given) p = absurd p
-  passed (BadShape matrix axis wanted found) p = absurd p
-  passed (SizeOutOfRange size value) p = absurd p
-  passed (TooLarge what) p = (what, refl)
-  passed NoRoom p = absurd p
-
-  -- one count at most passes its limit first
-  first_one : (a b : Count) → Passes (TooLarge a) → Passes (TooLarge b) → a ≡ b
-  first_one Calls b p q = absurd p
-  first_one a Calls p q = absurd q
-  first_one Side Side p q = refl
-  first_one Side Cells p q = absurd (p q.0)
-  first_one Side Tasks p q = absurd (p q.0.sides)
-  first_one Side Links p q = absurd (p q.0.sides)
-  first_one Cells Side p q = absurd (q p.0)
-  first_one Cells Cells p q = refl
-  first_one Cells Tasks p q = absurd (omega (arith, p.1, q.0.cells))
-  first_one Cells Links p q = absurd (omega (arith, p.1, q.0.cells))
-  first_one Tasks Side p q = absurd (q p.0.sides)
-  first_one Tasks Cells p q = absurd (omega (arith, q.1, p.0.cells))
-  first_one Tasks Tasks p q = refl
-  first_one Tasks Links p q = absurd (omega (arith, p.1, q.1))
-  first_one Links Side p q = absurd (q p.0.sides)
-  first_one Links Cells p q = absurd (omega (arith, q.1, p.0.cells))
-  first_one Links Tasks p q = absurd (omega (arith, q.1, p.1))
-  first_one Links Links p q = refl
-
-  passes_one : (e f : RunRefusal) → Passes e → Passes f → e ≡ f
-  passes_one e f p q =
-      let a = passed e p in
-      let b = passed f q in
-      a.1 ∙ ap TooLarge (first_one a.0 b.0 (subst Passes a.1 p) (subst Passes b.1 q)) ∙ sym b.1
-
-  -- and none where all are within their limits
-  none_passes : (what : Count) → HasRoom r.sizes r.transform → IsWithinLimits r.transform r.found.nodes r.sizes jobs → Passes (TooLarge what) → ⊥
-  none_passes Calls room within p = p
-  none_passes Side room within p = p room.sides
-  none_passes Cells room within p = omega (arith, room.cells, p.1)
-  none_passes Tasks room within p = omega (arith, within.tasks, p.1)
-  none_passes Links room within p = omega (arith, within.links, p.2)
-
-  none_within : (e : RunRefusal) → HasRoom r.sizes r.transform → IsWithinLimits r.transform r.found.nodes r.sizes jobs → Passes e → ⊥
-  none_within e room within p = let a = passed e p in none_passes a.0 room within (subst Passes a.1 p)
+  abbrev counts : Counted
+  counts = counted r.program r.found r.config r.grain r.depth r.number (given_as r.inputs)
 
   within_one : (name : List ℕ) (x y : Result (Unit {0}) Reply) → IsWithin r name x → IsWithin r name y → x ≡ y
   within_one name (Ok u) (Ok v) left right = refl
-  within_one name (Ok u) (Err reply) left (why, passes, is) = absurd (none_within why left.0 left.1 passes)
-  within_one name (Err reply) (Ok u) (why, passes, is) right = absurd (none_within why right.0 right.1 passes)
+  within_one name (Ok u) (Err reply) left (why, passes, is) = absurd (none_within counts (call_steps r) left.counts left.tasks left.links why passes)
+  within_one name (Err reply) (Ok u) (why, passes, is) right = absurd (none_within counts (call_steps r) right.counts right.tasks right.links why passes)
   within_one name (Err reply) (Err other) (why, passes, is) (more, again, also) =
-      ap Err (is ∙ ap (λ e. refusal_reply status.TooLarge (run_line r.program r.number name e)) (passes_one why more passes again) ∙ sym also)
-
-  short_or_not : (d : DeclValue) → Decided (HasShortSides r.sizes d)
-  short_or_not d = by (at_most (shape_of r.sizes d).w MOST_SIDE) (at_most (shape_of r.sizes d).h MOST_SIDE)
-    where
-      by : Decided ((shape_of r.sizes d).w ≤ MOST_SIDE) → Decided ((shape_of r.sizes d).h ≤ MOST_SIDE) → Decided (HasShortSides r.sizes d)
-      by (inl wide) (inl tall) = inl (record { width = wide; height = tall })
-      by (inr other) tall = inr (λ h. other h.width)
-      by wide (inr other) = inr (λ h. other h.height)
+      ap Err (is ∙ ap (λ e. refusal_reply status.TooLarge (run_line r.program r.number name e)) (passes_one counts (call_steps r) why more passes again) ∙ sym also)
 
   within_some : (name : List ℕ) → (outcome : Result (Unit {0}) Reply) × IsWithin r name outcome
-  within_some name = by_sides (all_or_not (HasShortSides r.sizes) short_or_not r.transform.matrices)
-    where
-      passes : (what : Count) → Passes (TooLarge what) → (outcome : Result (Unit {0}) Reply) × IsWithin r name outcome
-      passes what p = (Err (refusal_reply status.TooLarge (run_line r.program r.number name (TooLarge what))), (TooLarge what, p, refl))
-
-      by_links : HasRoom r.sizes r.transform → length jobs ≤ MOST_TASKS → Decided (links ≤ MOST_LINKS) → (outcome : Result (Unit {0}) Reply) × IsWithin r name outcome
-      by_links room few (inl short) = (Ok tt, (room, record { cells = room.cells; tasks = few; links = short }))
-      by_links room few (inr long) = passes Links (room, few, above long)
-        where
-          above : (links ≤ MOST_LINKS → ⊥) → MOST_LINKS < links
-          above other = elim (cases_lt MOST_LINKS links) [ inl more ↦ more | inr most ↦ absurd (other most) ]
-
-      by_tasks : HasRoom r.sizes r.transform → Decided (length jobs ≤ MOST_TASKS) → (outcome : Result (Unit {0}) Reply) × IsWithin r name outcome
-      by_tasks room (inl few) = by_links room few (at_most links MOST_LINKS)
-      by_tasks room (inr many) = passes Tasks (room, above many)
-        where
-          above : (length jobs ≤ MOST_TASKS → ⊥) → MOST_TASKS < length jobs
-          above other = elim (cases_lt MOST_TASKS (length jobs)) [ inl more ↦ more | inr most ↦ absurd (other most) ]
-
-      by_cells : Short → Decided (cell_count r.sizes r.transform.matrices ≤ MOST_CELLS) → (outcome : Result (Unit {0}) Reply) × IsWithin r name outcome
-      by_cells short (inl few) = let room : HasRoom r.sizes r.transform = record { sides = short; cells = few } in by_tasks room (at_most (length jobs) MOST_TASKS)
-      by_cells short (inr many) = passes Cells (short, above many)
-        where
-          above : (cell_count r.sizes r.transform.matrices ≤ MOST_CELLS → ⊥) → MOST_CELLS < cell_count r.sizes r.transform.matrices
-          above other = elim (cases_lt MOST_CELLS (cell_count r.sizes r.transform.matrices)) [ inl more ↦ more | inr most ↦ absurd (other most) ]
-
-      by_sides : Decided Short → (outcome : Result (Unit {0}) Reply) × IsWithin r name outcome
-      by_sides (inl short) = by_cells short (at_most (cell_count r.sizes r.transform.matrices) MOST_CELLS)
-      by_sides (inr long) = passes Side long
+  within_some name =
+      elim (within_or_not counts (call_steps r)) [
+        | inl few ↦ (Ok tt, record { counts = few.0; tasks = few.1; links = few.2 })
+        | inr many ↦ (Err (refusal_reply status.TooLarge (run_line r.program r.number name (TooLarge many.0))), (TooLarge many.0, many.1, refl))
+      ]
 
 -- ---- all steps
 some_same : {A : Type 0} (x y : A) → Some x ≡ Some y → x ≡ y
 some_same x y e = cc
-
--- what is found of a transform
-found_at : (p : List ProgTransform) (found : List AnalysisValue) → AreFound p found → (number : ℕ) (t : ProgTransform) → slice_get p number ≡ Some t → (a : AnalysisValue) × (slice_get found number ≡ Some a)
-found_at p found are number t at = some_at found number (omega (arith, slice_get_within p number t at, found_length p found are))
 
 enterable : (p : List ProgTransform) (number : ℕ) (t : ProgTransform) → IsWellFormed p → IsSound p → slice_get p number ≡ Some t → IsEnterable t
 enterable p number t well sound at = record {
@@ -354,50 +215,46 @@ enterable p number t well sound at = record {
   sides = (all_at IsBounded p number t sound.bounded at).sides;
 }
 
-module _ (name : List ℕ) (grain : ℕ) (p : List ProgTransform) (found : List AnalysisValue) (well : IsWellFormed p) (sound : IsSound p) (are : AreFound p found) where
+module _ (name : List ℕ) (depth grain : ℕ) (p : List ProgTransform) (found : List AnalysisValue) (well : IsWellFormed p) (sound : IsSound p) where
   module _ (config : ConfigValue) (number : ℕ) where
-    abbrev fitting : ProgTransform → AnalysisValue → List MatrixValue → List ℕ → Fitting
-    fitting t a inputs sizes = record { program = p; config = config; number = number; transform = t; found = a; inputs = inputs; sizes = sizes; grain = grain }
+    abbrev fitting : ProgTransform → List MatrixValue → List ℕ → Fitting
+    fitting t inputs sizes = record { program = p; found = found; config = config; number = number; transform = t; inputs = inputs; sizes = sizes; depth = depth; grain = grain }
 
-    sized_one : (t : ProgTransform) (a : AnalysisValue) (inputs : List MatrixValue) (x y : Reply) → AfterTransform name grain RunReplies p found config number t a inputs x → AfterTransform name grain RunReplies p found config number t a inputs y → x ≡ y
-    sized_one t a inputs =
-        then_one_given (Fits p name number t inputs) (λ sizes. AfterFit name grain RunReplies (fitting t a inputs sizes)) (fits_one p name number t inputs)
-        (λ sizes bound. then_one_given (IsWithin (fitting t a inputs sizes) name) (λ u. RunReplies (fitting t a inputs sizes)) (within_one (fitting t a inputs sizes) name) (λ u within x y is also. is ∙ sym also))
+    sized_one : (t : ProgTransform) (inputs : List MatrixValue) (x y : Reply) → AfterTransform name depth grain RunReplies p found config number t inputs x → AfterTransform name depth grain RunReplies p found config number t inputs y → x ≡ y
+    sized_one t inputs =
+        then_one_given (Fits p name number t inputs) (λ sizes. AfterFit name depth grain RunReplies (fitting t inputs sizes)) (fits_one p name number t inputs)
+        (λ sizes bound. then_one_given (IsWithin (fitting t inputs sizes) name) (λ u. RunReplies (fitting t inputs sizes)) (within_one (fitting t inputs sizes) name) (λ u within x y is also. is ∙ sym also))
 
-    fed_one : (inputs : List MatrixValue) (x y : Reply) → AfterInputs name grain RunReplies p found config number inputs x → AfterInputs name grain RunReplies p found config number inputs y → x ≡ y
-    fed_one inputs x y (t, a, at, there, left) (u, b, at_too, there_too, right) =
+    fed_one : (inputs : List MatrixValue) (x y : Reply) → AfterInputs name depth grain RunReplies p found config number inputs x → AfterInputs name depth grain RunReplies p found config number inputs y → x ≡ y
+    fed_one inputs x y (t, at, left) (u, at_too, right) =
         let same = some_same t u (sym at ∙ at_too) in
-        let same_found = some_same a b (sym there ∙ there_too) in
-        sized_one u b inputs x y (subst (λ c. AfterTransform name grain RunReplies p found config number u c inputs x) same_found (subst (λ s. AfterTransform name grain RunReplies p found config number s a inputs x) same left)) right
+        sized_one u inputs x y (subst (λ s. AfterTransform name depth grain RunReplies p found config number s inputs x) same left) right
 
-    fed_some : (given : ℕ) (inputs : List MatrixValue) → Enters p name given number → length inputs ≡ given → (reply : Reply) × AfterInputs name grain RunReplies p found config number inputs reply
+    fed_some : (given : ℕ) (inputs : List MatrixValue) → Enters p name given number → length inputs ≡ given → (reply : Reply) × AfterInputs name depth grain RunReplies p found config number inputs reply
     fed_some given inputs enters count =
         let t = enters.named.transform in
-        let a = found_at p found are number t enters.named.there in
-        let some = then_given (Fits p name number t inputs) (λ sizes. AfterFit name grain RunReplies (fitting t a.0 inputs sizes))
+        let some = then_given (Fits p name number t inputs) (λ sizes. AfterFit name depth grain RunReplies (fitting t inputs sizes))
         (fits_some p name number t inputs (enterable p number t well sound enters.named.there) (count ∙ sym enters.count))
-        (λ sizes bound. then_given (IsWithin (fitting t a.0 inputs sizes) name) (λ u. RunReplies (fitting t a.0 inputs sizes)) (within_some (fitting t a.0 inputs sizes) name) (λ u within. (_, refl))) in
-        (some.0, (t, a.0, enters.named.there, a.1, some.1))
+        (λ sizes bound. then_given (IsWithin (fitting t inputs sizes) name) (λ u. RunReplies (fitting t inputs sizes)) (within_some (fitting t inputs sizes) name) (λ u within. (_, refl))) in
+        (some.0, (t, enters.named.there, some.1))
 
-  accepted_one : (text : Option (List ℕ)) (files : List (List ℕ × List ℕ)) (x y : Reply) → AfterAccept name grain RunReplies p found text files x → AfterAccept name grain RunReplies p found text files y → x ≡ y
+  accepted_one : (text : Option (List ℕ)) (files : List (List ℕ × List ℕ)) (x y : Reply) → AfterAccept name depth grain RunReplies p found text files x → AfterAccept name depth grain RunReplies p found text files y → x ≡ y
   accepted_one text files =
-      then_one_given (IsBuilt p) (λ u. AfterBuilt name grain RunReplies p found text files) (built_one p)
-      (λ u built. then_one_given (Configures p text) (AfterConfig name grain RunReplies p found files) (config_one p text)
-      (λ config said. then_one_given (FindsTransform p name (length files)) (λ number. AfterName name grain RunReplies p found config number files) (transform_one p well name (length files))
-      (λ number enters. then_one_given (Each ReadsInput files) (AfterInputs name grain RunReplies p found config number) (each_one ReadsInput input_one files)
-      (λ inputs read. fed_one config number inputs))))
+      then_one_given (Configures p text) (AfterConfig name depth grain RunReplies p found files) (config_one p text)
+      (λ config said. then_one_given (FindsTransform p name (length files)) (λ number. AfterName name depth grain RunReplies p found config number files) (transform_one p well name (length files))
+      (λ number enters. then_one_given (Each ReadsInput files) (AfterInputs name depth grain RunReplies p found config number) (each_one ReadsInput input_one files)
+      (λ inputs read. fed_one config number inputs)))
 
-  accepted_some : (text : Option (List ℕ)) (files : List (List ℕ × List ℕ)) → (reply : Reply) × AfterAccept name grain RunReplies p found text files reply
+  accepted_some : (text : Option (List ℕ)) (files : List (List ℕ × List ℕ)) → (reply : Reply) × AfterAccept name depth grain RunReplies p found text files reply
   accepted_some text files =
-      then_given (IsBuilt p) (λ u. AfterBuilt name grain RunReplies p found text files) (built_some p)
-      (λ u built. then_given (Configures p text) (AfterConfig name grain RunReplies p found files) (config_some p text)
-      (λ config said. then_given (FindsTransform p name (length files)) (λ number. AfterName name grain RunReplies p found config number files) (transform_some p name (length files))
-      (λ number enters. then_given (Each ReadsInput files) (AfterInputs name grain RunReplies p found config number) (each_some ReadsInput input_some files)
-      (λ inputs read. fed_some config number (length files) inputs enters (each_length ReadsInput files inputs read)))))
+      then_given (Configures p text) (AfterConfig name depth grain RunReplies p found files) (config_some p text)
+      (λ config said. then_given (FindsTransform p name (length files)) (λ number. AfterName name depth grain RunReplies p found config number files) (transform_some p name (length files))
+      (λ number enters. then_given (Each ReadsInput files) (AfterInputs name depth grain RunReplies p found config number) (each_some ReadsInput input_some files)
+      (λ inputs read. fed_some config number (length files) inputs enters (each_length ReadsInput files inputs read))))
 
-module _ (name : List ℕ) (grain : ℕ) (text : Option (List ℕ)) (files : List (List ℕ × List ℕ)) where
-  pub run_one : (program : List ℕ) (x y : Reply) → RunsProgram name grain RunReplies program text files x → RunsProgram name grain RunReplies program text files y → x ≡ y
-  run_one = after_one (λ tree p found. AfterAccept name grain RunReplies p found text files) (λ tree p found well sound are. accepted_one name grain p found well sound are text files)
+module _ (name : List ℕ) (depth grain : ℕ) (text : Option (List ℕ)) (files : List (List ℕ × List ℕ)) where
+  pub run_one : (program : List ℕ) (x y : Reply) → RunsProgram name depth grain RunReplies program text files x → RunsProgram name depth grain RunReplies program text files y → x ≡ y
+  run_one = after_one (λ tree p found. AfterAccept name depth grain RunReplies p found text files) (λ tree p found well sound are. accepted_one name depth grain p found well sound text files)
 
-  pub run_some : (program : List ℕ) → (reply : Reply) × RunsProgram name grain RunReplies program text files reply
-  run_some = after_some (λ tree p found. AfterAccept name grain RunReplies p found text files) (λ tree p found well sound are. accepted_some name grain p found well sound are text files)
+  pub run_some : (program : List ℕ) → (reply : Reply) × RunsProgram name depth grain RunReplies program text files reply
+  run_some = after_some (λ tree p found. AfterAccept name depth grain RunReplies p found text files) (λ tree p found well sound are. accepted_some name depth grain p found well sound text files)

@@ -14,14 +14,14 @@ use Rattle.pb_top.proofs.StepLemmas.{then_some, takes_some}
 use Rattle.pb_top.proofs.AcceptLemmas.{prints_some}
 use Rattle.pb_top.proofs.RunLemmas.{run_some}
 
-line_some : (grain : ℕ) (line : Option RunLine) (contents : List (List ℕ)) → (reply : Reply) × Runs grain RunReplies line contents reply
-line_some grain (Some line) contents = run_some line.transform grain (config_text line contents) (input_files line contents) (content_at contents 0)
-line_some grain None contents = (not_built, refl)
+line_some : (depth grain : ℕ) (line : Option RunLine) (contents : List (List ℕ)) → (reply : Reply) × Runs depth grain RunReplies line contents reply
+line_some depth grain (Some line) contents = run_some line.transform depth grain (config_text line contents) (input_files line contents) (content_at contents 0)
+line_some depth grain None contents = (not_built, refl)
 
 work_some : (ask : Ask) (others contents : List (List ℕ)) → (reply : Reply) × WorkAnswers ask others contents reply
 work_some Check others contents = prints_some its_canonical (content_at contents 0)
 work_some Choices others contents = prints_some its_report (content_at contents 0)
-work_some (Run workers depth grain pool trace) others contents = line_some grain (built_run pool others) contents
+work_some (Run workers depth grain pool trace) others contents = line_some depth grain (built_run pool others) contents
 work_some (Tune up_to) others contents = (not_built, refl)
 work_some (Demo seed size workers) others contents = (not_built, refl)
 

@@ -10,7 +10,7 @@ use Rattle.pb_words.specs.declared.ask.Ask.{Ask}
 use Rattle.pb_words.specs.declared.ask.Ask.TheVariants.{Check, Choices, Run, Tune, Demo}
 use Rattle.pb_top.specs.Sinks.{ShelfChange, IsSound}
 use Rattle.pb_top.specs.Reply.{Reply, done_reply, refusal_reply}
-use Rattle.pb_top.specs.Runs.{AfterAccept, AfterBuilt, AfterConfig, AfterFit, AfterInputs, AfterName, Configures, FindsTransform, Fits, Fitting, IsBuilt, IsWithin, ReadsInput, RunReplies, RunWrites, RunsProgram}
+use Rattle.pb_top.specs.Runs.{AfterAccept, AfterConfig, AfterFit, AfterInputs, AfterName, Configures, FindsTransform, Fits, Fitting, IsWithin, ReadsInput, RunReplies, RunWrites, RunsProgram}
 use Rattle.pb_top.specs.Steps.{Accepts, AfterAccepted, AfterResolved, Each, Reads, Resolves, Takes}
 use Rattle.pb_top.specs.Answer.{AskAnswers, IsTail, RunLine, Runs, WorkAnswers, WorkWrites, built_run, config_text, content_at, input_files, limited, taken_words}
 use Rattle.pb_top.specs.Working.{Replies, ShelfStops, ShelfWrites, Writes}
@@ -26,43 +26,40 @@ writes_alone Says (Err (Refused status line)) says = (says.0, (says.1, refl))
 writes_alone Says (Err (Unread line)) says = absurd says
 
 -- what is asked of a run at its end, through all its steps
-module _ (name : List ℕ) (grain : ℕ) (End More : Fitting → Reply → Type 0) (each : (r : Fitting) (reply : Reply) → End r reply → More r reply) where
+module _ (name : List ℕ) (depth grain : ℕ) (End More : Fitting → Reply → Type 0) (each : (r : Fitting) (reply : Reply) → End r reply → More r reply) where
   inputs_map : (p : List ProgTransform) (found : List AnalysisValue) (config : ConfigValue) (number : ℕ) (inputs : List MatrixValue) (reply : Reply)
-      → AfterInputs name grain End p found config number inputs reply → AfterInputs name grain More p found config number inputs reply
-  inputs_map p found config number inputs reply (t, a, at, there, rest) =
-      let fit : List ℕ → Fitting = λ sizes. record { program = p; config = config; number = number; transform = t; found = a; inputs = inputs; sizes = sizes; grain = grain } in (
+      → AfterInputs name depth grain End p found config number inputs reply → AfterInputs name depth grain More p found config number inputs reply
+  inputs_map p found config number inputs reply (t, at, rest) =
+      let fit : List ℕ → Fitting = λ sizes. record { program = p; found = found; config = config; number = number; transform = t; inputs = inputs; sizes = sizes; depth = depth; grain = grain } in (
         t,
-        a,
         at,
-        there,
-        then_map (Fits p name number t inputs) (λ sizes. AfterFit name grain End (fit sizes)) (λ sizes. AfterFit name grain More (fit sizes))
+        then_map (Fits p name number t inputs) (λ sizes. AfterFit name depth grain End (fit sizes)) (λ sizes. AfterFit name depth grain More (fit sizes))
             (λ sizes. then_map (IsWithin (fit sizes) name) (λ u. End (fit sizes)) (λ u. More (fit sizes)) (λ u. each (fit sizes))) reply rest,
       )
 
   accept_map : (text : Option (List ℕ)) (files : List (List ℕ × List ℕ)) (p : List ProgTransform) (found : List AnalysisValue) (reply : Reply)
-      → AfterAccept name grain End p found text files reply → AfterAccept name grain More p found text files reply
+      → AfterAccept name depth grain End p found text files reply → AfterAccept name depth grain More p found text files reply
   accept_map text files p found =
-      then_map (IsBuilt p) (λ u. AfterBuilt name grain End p found text files) (λ u. AfterBuilt name grain More p found text files)
-      (λ u. then_map (Configures p text) (AfterConfig name grain End p found files) (AfterConfig name grain More p found files)
-      (λ config. then_map (FindsTransform p name (length files)) (λ number. AfterName name grain End p found config number files) (λ number. AfterName name grain More p found config number files)
-      (λ number. then_map (Each ReadsInput files) (AfterInputs name grain End p found config number) (AfterInputs name grain More p found config number) (inputs_map p found config number))))
+      then_map (Configures p text) (AfterConfig name depth grain End p found files) (AfterConfig name depth grain More p found files)
+      (λ config. then_map (FindsTransform p name (length files)) (λ number. AfterName name depth grain End p found config number files) (λ number. AfterName name depth grain More p found config number files)
+      (λ number. then_map (Each ReadsInput files) (AfterInputs name depth grain End p found config number) (AfterInputs name depth grain More p found config number) (inputs_map p found config number)))
 
-  pub run_map : (program : List ℕ) (text : Option (List ℕ)) (files : List (List ℕ × List ℕ)) (reply : Reply) → RunsProgram name grain End program text files reply → RunsProgram name grain More program text files reply
+  pub run_map : (program : List ℕ) (text : Option (List ℕ)) (files : List (List ℕ × List ℕ)) (reply : Reply) → RunsProgram name depth grain End program text files reply → RunsProgram name depth grain More program text files reply
   run_map program text files =
-      then_map (Reads program) (AfterResolved (λ tree p found. AfterAccept name grain End p found text files)) (AfterResolved (λ tree p found. AfterAccept name grain More p found text files))
-      (λ tree. then_map (Resolves tree) (AfterAccepted (λ tree p found. AfterAccept name grain End p found text files) tree) (AfterAccepted (λ tree p found. AfterAccept name grain More p found text files) tree)
-      (λ p. then_map (Accepts p) (λ found. AfterAccept name grain End p found text files) (λ found. AfterAccept name grain More p found text files) (accept_map text files p)))
+      then_map (Reads program) (AfterResolved (λ tree p found. AfterAccept name depth grain End p found text files)) (AfterResolved (λ tree p found. AfterAccept name depth grain More p found text files))
+      (λ tree. then_map (Resolves tree) (AfterAccepted (λ tree p found. AfterAccept name depth grain End p found text files) tree) (AfterAccepted (λ tree p found. AfterAccept name depth grain More p found text files) tree)
+      (λ p. then_map (Accepts p) (λ found. AfterAccept name depth grain End p found text files) (λ found. AfterAccept name depth grain More p found text files) (accept_map text files p)))
 
-line_map : (grain : ℕ) (End More : Fitting → Reply → Type 0) → ((r : Fitting) (reply : Reply) → End r reply → More r reply) → (line : Option RunLine) (contents : List (List ℕ)) (reply : Reply)
-    → Runs grain End line contents reply → Runs grain More line contents reply
-line_map grain End More each (Some line) contents reply runs = run_map line.transform grain End More each (content_at contents 0) (config_text line contents) (input_files line contents) reply runs
-line_map grain End More each None contents reply runs = runs
+line_map : (depth grain : ℕ) (End More : Fitting → Reply → Type 0) → ((r : Fitting) (reply : Reply) → End r reply → More r reply) → (line : Option RunLine) (contents : List (List ℕ)) (reply : Reply)
+    → Runs depth grain End line contents reply → Runs depth grain More line contents reply
+line_map depth grain End More each (Some line) contents reply runs = run_map line.transform depth grain End More each (content_at contents 0) (config_text line contents) (input_files line contents) reply runs
+line_map depth grain End More each None contents reply runs = runs
 
 -- what is written begins with the answer
 answered : (ask : Ask) (others : List (List ℕ)) (tail : List ℕ) (contents : List (List ℕ)) (reply : Reply) → WorkWrites ask others tail contents reply → WorkAnswers ask others contents reply
 answered Check others tail contents reply writes = writes.0
 answered Choices others tail contents reply writes = writes.0
-answered (Run workers depth grain pool trace) others tail contents reply writes = line_map grain (RunWrites trace tail) RunReplies (λ r reply w. w.0) (built_run pool others) contents reply writes
+answered (Run workers depth grain pool trace) others tail contents reply writes = line_map depth grain (RunWrites trace tail) RunReplies (λ r reply w. w.0) (built_run pool others) contents reply writes
 answered (Tune up_to) others tail contents reply writes = writes.0
 answered (Demo seed size workers) others tail contents reply writes = writes.0
 

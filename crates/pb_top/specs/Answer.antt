@@ -56,15 +56,15 @@ abbrev pub input_files : RunLine → List (List ℕ) → List (List ℕ × List 
 input_files line contents = zip line.inputs (drop (if is_dash line.config then 1 else 2) contents)
 
 -- a run over the bytes of its files, with what is asked of it where its counts are within their limits
-abbrev pub Runs : ℕ → (Fitting → Reply → Type 0) → Option RunLine → List (List ℕ) → Reply → Type 0
-Runs grain End (Some line) contents reply = RunsProgram line.transform grain End (content_at contents 0) (config_text line contents) (input_files line contents) reply
-Runs grain End None contents reply = reply ≡ not_built
+abbrev pub Runs : ℕ → ℕ → (Fitting → Reply → Type 0) → Option RunLine → List (List ℕ) → Reply → Type 0
+Runs depth grain End (Some line) contents reply = RunsProgram line.transform depth grain End (content_at contents 0) (config_text line contents) (input_files line contents) reply
+Runs depth grain End None contents reply = reply ≡ not_built
 
 -- the answer to what is asked, over the words after the options and the bytes of the files that it takes
 abbrev pub WorkAnswers : Ask → List (List ℕ) → List (List ℕ) → Reply → Type 0
 WorkAnswers Check others contents reply = CheckAnswers (content_at contents 0) reply
 WorkAnswers Choices others contents reply = ChoicesAnswers (content_at contents 0) reply
-WorkAnswers (Run workers depth grain pool trace) others contents reply = Runs grain RunReplies (built_run pool others) contents reply
+WorkAnswers (Run workers depth grain pool trace) others contents reply = Runs depth grain RunReplies (built_run pool others) contents reply
 WorkAnswers (Tune up_to) others contents reply = reply ≡ not_built
 WorkAnswers (Demo seed size workers) others contents reply = reply ≡ not_built
 
@@ -81,7 +81,7 @@ Answers words told reply =
 -- what stands after a reply's text on `out`, of a command that has answered with status 0: after the matrices of a run its
 -- trace, if that is asked for
 abbrev pub WorkWrites : Ask → List (List ℕ) → List ℕ → List (List ℕ) → Reply → Type 0
-WorkWrites (Run workers depth grain pool trace) others tail contents reply = Runs grain (RunWrites trace tail) (built_run pool others) contents reply
+WorkWrites (Run workers depth grain pool trace) others tail contents reply = Runs depth grain (RunWrites trace tail) (built_run pool others) contents reply
 WorkWrites ask others tail contents reply = WorkAnswers ask others contents reply × (tail ≡ [])
 
 -- and nothing after another status

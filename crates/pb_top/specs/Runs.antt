@@ -1,12 +1,10 @@
 -- What a run on one thread answers to a program, a configuration and inputs, and what it writes after that.
-use Rattle.std.specs.Prelude.{◌≡◌, ◌≢◌, ℕ, Bool, true, List, [], length, Option, Some, None, Result, Ok, Err, slice_get}
-use Rattle.std.specs.List.{All, range_with_len}
+use Rattle.std.specs.Prelude.{◌≡◌, ℕ, Bool, true, List, [], ◌++◌, length, Option, Some, None, Result, Ok, Err, slice_get}
+use Rattle.std.specs.List.{range_with_len}
 use Rattle.pb_values.specs.declared.outcome.Kind.{Kind}
 use Rattle.pb_values.specs.declared.outcome.Kind.TheVariants as trap
-use Rattle.pb_values.specs.declared.view.View.{View}
 use Rattle.pb_program.specs.Configs.{ConfigValue}
-use Rattle.pb_program.specs.Trees.{ProgRule, ProgTransform}
-use Rattle.pb_program.specs.declared.rule.RuleKind.TheVariants as kind
+use Rattle.pb_program.specs.Trees.{ProgTransform}
 use Rattle.pb_matrix.specs.Reading.{matrix_read}
 use Rattle.pb_matrix.specs.Value.{MatrixValue}
 use Rattle.pb_matrix.specs.declared.matrix.MatrixRefusal.{MatrixRefusal}
@@ -17,31 +15,22 @@ use Rattle.pb_check.specs.Orders.{AnalysisValue}
 use Rattle.pb_entry.specs.Entering.{CannotEnter, Enters}
 use Rattle.pb_entry.specs.Fitting.{AreBound, AreUnfit}
 use Rattle.pb_entry.specs.declared.refusal.RunRefusal.{RunRefusal}
-use Rattle.pb_taskgraph.specs.Graphs.{TaskValue}
-use Rattle.pb_plan.specs.Made.{jobs_for}
-use Rattle.pb_views.specs.Layouts.{AreInARow}
-use Rattle.pb_plan.specs.Laid.{HasRoom}
-use Rattle.pb_plan.specs.Tasks.{AreTasks, IsWithinLimits, graph_of}
-use Rattle.pb_solution.specs.Solutions.{all_matrices}
-use Rattle.pb_unroll.specs.Running.{given_as, no_plans}
-use Rattle.pb_unroll.specs.Unrolled.{IsTooLarge}
+use Rattle.pb_taskgraph.specs.Graphs.{GraphValue, TaskValue}
+use Rattle.pb_recursion.specs.Depths.{call_at}
+use Rattle.pb_runs.specs.Matrices.{run_matrices}
+use Rattle.pb_runs.specs.Steps.{Step}
+use Rattle.pb_run_plan.specs.RunTasks.{AreTasksOf, run_graph}
+use Rattle.pb_run_work.specs.Given.{given_as}
+use Rattle.pb_run_work.specs.Limits.{IsTooLarge, IsWithin as HasFewCounts, run_steps}
 use Rattle.pb_unroll.specs.Answers.{answer_of, matrices_text}
 use Rattle.pb_taskgraph.specs.Trace.{trace_text}
 use Rattle.pb_run_lines.specs.RunLines.{config_line, run_line, trap_line}
-use Rattle.pb_top.specs.Reply.{Reply, IsFaultyInput, done_reply, not_built, refusal_reply}
+use Rattle.pb_top.specs.Reply.{Reply, IsFaultyInput, done_reply, refusal_reply}
 use Rattle.pb_top.specs.Steps.{AfterProgram, Each, Then}
 use Rattle.pb_top.specs.declared.reply.Status.{Status}
 use Rattle.pb_top.specs.declared.reply.Status.TheVariants as status
 
 -- ---- the steps after the program
--- no rule calls a transform; a run of another program isn't built
-abbrev pub CallsNothing : List ProgTransform → Type 0
-CallsNothing p = All (λ (t : ProgTransform). All (λ (r : ProgRule). r.kind ≢ kind.Plan) t.rules) p
-
-abbrev pub IsBuilt : List ProgTransform → Result (Unit {0}) Reply → Type 0
-IsBuilt p (Ok u) = CallsNothing p
-IsBuilt p (Err reply) = (CallsNothing p → ⊥) × (reply ≡ not_built)
-
 -- the configuration that a text says for the program, the empty one where there is no text; or the line of its refusal
 abbrev pub config_said : List ProgTransform → Option (List ℕ) → Result ConfigValue ConfigRefusal
 config_said p None = Ok (record { entries = [] })
@@ -66,28 +55,29 @@ abbrev pub Fits : List ProgTransform → List ℕ → ℕ → ProgTransform → 
 Fits p name number t inputs (Ok sizes) = AreBound t inputs sizes
 Fits p name number t inputs (Err reply) = (why : RunRefusal) × AreUnfit t inputs why × (reply ≡ refusal_reply status.Input (run_line p number name why))
 
--- a run whose inputs fit: of a program, with a configuration, of a transform with its number and what is found of it, with
--- matrices at the sizes that they bind, in blocks of this side at least
+-- a run whose inputs fit: of a program and what is found of its transforms, with a configuration, of a transform with its number, with
+-- matrices at the sizes that they bind, where plans may call so many deep, in blocks of this side at least
 pub record Fitting : Type 0 where
   pub program : List ProgTransform
+  pub found : List AnalysisValue
   pub config : ConfigValue
   pub number : ℕ
   pub transform : ProgTransform
-  pub found : AnalysisValue
   pub inputs : List MatrixValue
   pub sizes : List ℕ
+  pub depth : ℕ
   pub grain : ℕ
 
 -- its counts are within their limits; or the line of the first that isn't
 abbrev pub IsWithin : Fitting → List ℕ → Result (Unit {0}) Reply → Type 0
-IsWithin r name (Ok u) = HasRoom r.sizes r.transform × IsWithinLimits r.transform r.found.nodes r.sizes (jobs_for r.config r.number r.transform r.found r.sizes r.grain)
+IsWithin r name (Ok u) = HasFewCounts r.program r.found r.config r.grain r.depth r.number (given_as r.inputs)
 IsWithin r name (Err reply) =
-    (why : RunRefusal) × IsTooLarge r.config r.number r.transform r.found r.sizes r.grain why × (reply ≡ refusal_reply status.TooLarge (run_line r.program r.number name why))
+    (why : RunRefusal) × IsTooLarge r.program r.found r.config r.grain r.depth r.number (given_as r.inputs) why × (reply ≡ refusal_reply status.TooLarge (run_line r.program r.number name why))
 
 -- ---- the answer
--- the matrices of its call, with all their outcomes
+-- the matrices of its first call, with all their outcomes: those that are given, and those that it makes
 abbrev pub call_matrices : Fitting → List Outcomes
-call_matrices r = all_matrices r.config no_plans r.number r.transform r.sizes (given_as r.inputs)
+call_matrices r = given_as r.inputs ++ call_at r.program r.config r.depth r.number (given_as r.inputs)
 
 abbrev pub run_answer : Fitting → Result (List MatrixValue) TrappedCell
 run_answer r = answer_of r.transform r.sizes (call_matrices r)
@@ -104,13 +94,18 @@ answer_reply r (Err cell) = refusal_reply (trap_status cell.trap.kind) (trap_lin
 abbrev pub RunReplies : Fitting → Reply → Type 0
 RunReplies r reply = reply ≡ answer_reply r (run_answer r)
 
+-- the steps of all its calls, and the graph of their tasks
+abbrev pub call_steps : Fitting → List Step
+call_steps r = run_steps r.program r.found r.config r.grain r.depth r.number (given_as r.inputs)
+
+abbrev pub graph_with : Fitting → List TaskValue → GraphValue
+graph_with r tasks = run_graph (given_as r.inputs) (run_matrices r.program r.found r.config r.grain r.depth r.number (given_as r.inputs)) (call_steps r) tasks
+
 -- the trace of its tasks, by number
 pub record IsTraceOf (r : Fitting) (text : List ℕ) : Type 0 where
-  pub views : List View
   pub tasks : List TaskValue
-  pub row : AreInARow 0 r.sizes r.transform.matrices views
-  pub are_tasks : AreTasks r.transform r.found.nodes r.sizes views (jobs_for r.config r.number r.transform r.found r.sizes r.grain) tasks
-  pub is : text ≡ trace_text (graph_of r.transform r.sizes tasks) (range_with_len 0 (length tasks))
+  pub are_tasks : AreTasksOf (call_steps r) tasks
+  pub is : text ≡ trace_text (graph_with r tasks) (range_with_len 0 (length tasks))
 
 -- what stands after the matrices on `out`, if a trace is asked for; after nothing else
 abbrev pub TailAfter : Fitting → Bool → Result (List MatrixValue) TrappedCell → List ℕ → Type 0
@@ -122,28 +117,28 @@ RunWrites traced tail r reply = RunReplies r reply × TailAfter r traced (run_an
 
 -- ---- all steps of a run, over what is asked of it where its counts are within their limits
 -- of the transform of this name
-module _ (name : List ℕ) (grain : ℕ) (End : Fitting → Reply → Type 0) where
+module _ (name : List ℕ) (depth grain : ℕ) (End : Fitting → Reply → Type 0) where
   -- where the inputs fit
   abbrev pub AfterFit : Fitting → Reply → Type 0
   AfterFit r = Then (IsWithin r name) (λ _. End r)
 
   module _ (p : List ProgTransform) (found : List AnalysisValue) (config : ConfigValue) (number : ℕ) where
-    abbrev pub AfterTransform : ProgTransform → AnalysisValue → List MatrixValue → Reply → Type 0
-    AfterTransform t a inputs = Then (Fits p name number t inputs) (λ sizes. AfterFit (record {
+    abbrev pub AfterTransform : ProgTransform → List MatrixValue → Reply → Type 0
+    AfterTransform t inputs = Then (Fits p name number t inputs) (λ sizes. AfterFit (record {
       program = p;
+      found = found;
       config = config;
       number = number;
       transform = t;
-      found = a;
       inputs = inputs;
       sizes = sizes;
+      depth = depth;
       grain = grain;
     }))
 
     -- where the inputs are matrices
     abbrev pub AfterInputs : List MatrixValue → Reply → Type 0
-    AfterInputs inputs reply =
-        (t : ProgTransform) × (a : AnalysisValue) × (slice_get p number ≡ Some t) × (slice_get found number ≡ Some a) × AfterTransform t a inputs reply
+    AfterInputs inputs reply = (t : ProgTransform) × (slice_get p number ≡ Some t) × AfterTransform t inputs reply
 
     -- where the transform is there
     abbrev pub AfterName : List (List ℕ × List ℕ) → Reply → Type 0
@@ -154,13 +149,9 @@ module _ (name : List ℕ) (grain : ℕ) (End : Fitting → Reply → Type 0) wh
     abbrev pub AfterConfig : List (List ℕ × List ℕ) → ConfigValue → Reply → Type 0
     AfterConfig files config = Then (FindsTransform p name (length files)) (λ number. AfterName p found config number files)
 
-    -- where no rule calls a transform
-    abbrev pub AfterBuilt : Option (List ℕ) → List (List ℕ × List ℕ) → Reply → Type 0
-    AfterBuilt text files = Then (Configures p text) (AfterConfig files)
-
     -- where the program is accepted
     abbrev pub AfterAccept : Option (List ℕ) → List (List ℕ × List ℕ) → Reply → Type 0
-    AfterAccept text files = Then (IsBuilt p) (λ _. AfterBuilt text files)
+    AfterAccept text files = Then (Configures p text) (AfterConfig files)
 
   -- the program's text, that of the configuration, and the inputs by their words and texts
   abbrev pub RunsProgram : List ℕ → Option (List ℕ) → List (List ℕ × List ℕ) → Reply → Type 0

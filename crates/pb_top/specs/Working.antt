@@ -18,8 +18,8 @@ use Rattle.pb_check.specs.Accepting.{AcceptedValue}
 use Rattle.pb_entry.specs.declared.refusal.RunRefusal.{RunRefusal}
 use Rattle.pb_entry.specs.declared.refusal.RunRefusal.TheVariants.{TooLarge}
 use Rattle.pb_run_lines.specs.RunLines.{config_line, run_line, trap_line}
-use Rattle.pb_unroll.specs.Running.{RunValue, of_sizes, of_transform}
-use Rattle.pb_unroll.specs.Unrolled.{IsRefused}
+use Rattle.pb_run_work.specs.Running.{RunValue, of_sizes, of_transform, prog_of}
+use Rattle.pb_run_work.specs.Unrolled.{IsRefused}
 use Rattle.pb_top.specs.Sinks.{ShelfChange, SinkChange, IsSound, Gains, IsSteady, IsIdle, Breaks}
 use Rattle.pb_top.specs.Texts.{read_fault_line}
 use Rattle.pb_top.specs.Reply.{Reply, status_code, done_reply, refusal_reply}
@@ -78,21 +78,22 @@ refusal_status (TooLarge what) = TooMuch
 refusal_status _ = Input
 
 -- and its line
-pub record CannotRun (a : AcceptedValue) (config : ConfigValue) (number : ℕ) (name : List ℕ) (inputs : List MatrixValue) (grain : ℕ) (reply : Reply) : Type 0 where
+pub record CannotRun (a : AcceptedValue) (config : ConfigValue) (number : ℕ) (name : List ℕ) (inputs : List MatrixValue) (depth grain : ℕ) (reply : Reply) : Type 0 where
   pub why : RunRefusal
-  pub refused : IsRefused a config number inputs grain why
+  pub refused : IsRefused a config number inputs depth grain why
   pub is : reply ≡ refusal_reply (refusal_status why) (run_line (bare_prog a.program) number name why)
 
 -- what a run is of
 abbrev pub fitting_of : RunValue → Fitting
 fitting_of r = record {
-  program = bare_prog r.program;
+  program = prog_of r;
+  found = r.accepted.found;
   config = r.config;
   number = r.number;
   transform = of_transform r;
-  found = r.found;
   inputs = r.inputs;
   sizes = of_sizes r;
+  depth = r.depth;
   grain = r.grain;
 }
 
@@ -103,7 +104,7 @@ IsTailFor r false tail = tail ≡ []
 
 -- the line of a run's trapped cell
 abbrev pub IsTrapped : RunValue → TrappedCell → Reply → Type 0
-IsTrapped r cell reply = reply ≡ refusal_reply (trap_status cell.trap.kind) (trap_line (bare_prog r.program) r.number cell)
+IsTrapped r cell reply = reply ≡ refusal_reply (trap_status cell.trap.kind) (trap_line (prog_of r) r.number cell)
 
 -- the texts that slices refer to
 abbrev pub texts_of : List (Bor (List ℕ)) → List (List ℕ)

@@ -6,15 +6,14 @@ ghost use Rattle.pb_program.specs.WellFormed.{IsWellFormed};
 ghost use Rattle.pb_region.specs.Dims.{HasTransform};
 ghost use Rattle.pb_syntax.specs.Trees.{bare_text};
 ghost use Rattle.pb_syntax.specs.WithinLimits.{IsWithinLimits};
-ghost use Rattle.pb_unroll.specs.Unrolled.{IsWhole};
-ghost use Rattle.pb_check.specs.Ranked.{OfTransform};
-ghost use Rattle.pb_top.specs.Runs.{AfterAccept, AfterConfig, AfterInputs, AfterName, CallsNothing, RunWrites, RunsProgram, trap_status};
+ghost use Rattle.pb_run_work.specs.Given.{IsWhole};
+ghost use Rattle.pb_top.specs.Runs.{AfterAccept, AfterConfig, AfterInputs, AfterName, RunWrites, RunsProgram, trap_status};
 ghost use Rattle.pb_top.specs.Steps.{AfterResolved};
 ghost use Rattle.pb_top.specs.Working.{IsTailFor, IsTrapped, StopsWith, Writes, files_of, fitting_of, text_in};
 
 use crate::phases::{accept, read, resolve_names};
 use crate::reply::{Status, Stop};
-use crate::steps::{begin_run, check_built, configure, find_transform, read_inputs};
+use crate::steps::{begin_run, configure, find_transform, read_inputs};
 use pb_check::Accepted;
 use pb_matrix::Matrix;
 use pb_prog::Text;
@@ -25,11 +24,12 @@ use pb_unroll::{Run, TrappedCell, first_trapped, results_text};
 use pb_values::Kind;
 use std::alloc::{AllocError, Global};
 
-/// What is asked of a run: the name of the transform, the least side of a block, whether a trace is wanted, and the words and
-/// the texts of the inputs.
+/// What is asked of a run: the name of the transform, how deep plans may call, the least side of a block, whether a trace is
+/// wanted, and the words and the texts of the inputs.
 #[derive(Drop)]
 pub struct Request<'a> {
     pub transform: &'a str,
+    pub depth: u32,
     pub grain: u64,
     pub traced: bool,
     pub files: &'a [String],
@@ -104,10 +104,9 @@ fn run_matrices(
     requires valid { IsValid (bare_prog a.now.program) c.now }
     requires count { HasTransform (bare_prog a.now.program) t (λ transform. length inputs.items ≡ transform.inputs) }
     requires whole { All IsWhole inputs.items }
-    requires computes { CallsNothing (bare_prog a.now.program) }
-    ensures { Writes (λ tail. AfterInputs r.now.transform.now r.now.grain (RunWrites r.now.traced tail) (bare_prog a.now.program) a.now.found c.now t inputs.items) result }
+    ensures { Writes (λ tail. AfterInputs r.now.transform.now r.now.depth r.now.grain (RunWrites r.now.traced tail) (bare_prog a.now.program) a.now.found c.now t inputs.items) result }
 {
-    let run = begin_run(alloc, a, c, t, r.transform, inputs, r.grain)?;
+    let run = begin_run(alloc, a, c, t, r.transform, inputs, r.depth, r.grain)?;
     finish(alloc, &run, r.traced)
 }
 
@@ -121,9 +120,8 @@ fn run_transform(
 ) -> Result<Vec<u8>, Stop>
     requires valid { IsValid (bare_prog a.now.program) c.now }
     requires count { HasTransform (bare_prog a.now.program) t (λ transform. length r.now.files.now ≡ transform.inputs) }
-    requires computes { CallsNothing (bare_prog a.now.program) }
     requires texts { length r.now.files.now ≡ length r.now.texts.now }
-    ensures { Writes (λ tail. AfterName r.now.transform.now r.now.grain (RunWrites r.now.traced tail) (bare_prog a.now.program) a.now.found c.now t (files_of r.now.files.now r.now.texts.now)) result }
+    ensures { Writes (λ tail. AfterName r.now.transform.now r.now.depth r.now.grain (RunWrites r.now.traced tail) (bare_prog a.now.program) a.now.found c.now t (files_of r.now.files.now r.now.texts.now)) result }
 {
     let inputs = read_inputs(alloc, r.files, r.texts)?;
     run_matrices(alloc, a, c, t, r, inputs)
@@ -132,10 +130,9 @@ fn run_transform(
 /// The run with a configuration.
 fn run_configured(alloc: Global, a: &Accepted, c: &Config, r: &Request<'_>) -> Result<Vec<u8>, Stop>
     requires valid { IsValid (bare_prog a.now.program) c.now }
-    requires computes { CallsNothing (bare_prog a.now.program) }
     requires texts { length r.now.files.now ≡ length r.now.texts.now }
     requires few { length r.now.files.now ≤ 16 }
-    ensures { Writes (λ tail. AfterConfig r.now.transform.now r.now.grain (RunWrites r.now.traced tail) (bare_prog a.now.program) a.now.found (files_of r.now.files.now r.now.texts.now) c.now) result }
+    ensures { Writes (λ tail. AfterConfig r.now.transform.now r.now.depth r.now.grain (RunWrites r.now.traced tail) (bare_prog a.now.program) a.now.found (files_of r.now.files.now r.now.texts.now) c.now) result }
 {
     let t = find_transform(alloc, a, r.transform, r.files.len() as u32)?;
     run_transform(alloc, a, c, t, r)
@@ -150,9 +147,8 @@ fn run_accepted(
 ) -> Result<Vec<u8>, Stop>
     requires texts { length r.now.files.now ≡ length r.now.texts.now }
     requires few { length r.now.files.now ≤ 16 }
-    ensures { Writes (λ tail. AfterAccept r.now.transform.now r.now.grain (RunWrites r.now.traced tail) (bare_prog a.now.program) a.now.found (text_in config.entry) (files_of r.now.files.now r.now.texts.now)) result }
+    ensures { Writes (λ tail. AfterAccept r.now.transform.now r.now.depth r.now.grain (RunWrites r.now.traced tail) (bare_prog a.now.program) a.now.found (text_in config.entry) (files_of r.now.files.now r.now.texts.now)) result }
 {
-    check_built(alloc, a.prog())?;
     let c = configure(alloc, a.prog(), config)?;
     run_configured(alloc, a, &c, r)
 }
@@ -167,7 +163,7 @@ fn run_tree(
     requires within { IsWithinLimits (bare_text tree.now) }
     requires texts { length r.now.files.now ≡ length r.now.texts.now }
     requires few { length r.now.files.now ≤ 16 }
-    ensures { Writes (λ tail. AfterResolved (λ tree p found. AfterAccept r.now.transform.now r.now.grain (RunWrites r.now.traced tail) p found (text_in config.entry) (files_of r.now.files.now r.now.texts.now)) (bare_text tree.now)) result }
+    ensures { Writes (λ tail. AfterResolved (λ tree p found. AfterAccept r.now.transform.now r.now.depth r.now.grain (RunWrites r.now.traced tail) p found (text_in config.entry) (files_of r.now.files.now r.now.texts.now)) (bare_text tree.now)) result }
 {
     let program = resolve_names(alloc, tree)?;
     let found = accept(alloc, &program)?;
@@ -184,7 +180,7 @@ pub fn run_program(
 ) -> Result<Vec<u8>, Stop>
     requires texts { length r.now.files.now ≡ length r.now.texts.now }
     requires few { length r.now.files.now ≤ 16 }
-    ensures { Writes (λ tail. RunsProgram r.now.transform.now r.now.grain (RunWrites r.now.traced tail) program.now (text_in config.entry) (files_of r.now.files.now r.now.texts.now)) result }
+    ensures { Writes (λ tail. RunsProgram r.now.transform.now r.now.depth r.now.grain (RunWrites r.now.traced tail) program.now (text_in config.entry) (files_of r.now.files.now r.now.texts.now)) result }
 {
     let tree = read(alloc, program)?;
     run_tree(alloc, &tree, config, r)

@@ -1,60 +1,24 @@
-ghost use Rattle.std.specs.Prelude.{◌≡◌, ◌≢◌, ◌↔◌, IfErr, IfOk, IsTrue, length, map, string_bytes};
+ghost use Rattle.std.specs.Prelude.{◌≡◌, IfErr, IfOk, length};
 ghost use Rattle.std.specs.List.{All};
 ghost use Rattle.pb_program.specs.Configs.{IsValid};
-ghost use Rattle.pb_program.specs.Rules.{RuleValue};
-ghost use Rattle.pb_program.specs.Trees.{bare_prog, bare_rule};
+ghost use Rattle.pb_program.specs.Trees.{bare_prog};
 ghost use Rattle.pb_program.specs.WellFormed.{IsWellFormed};
-ghost use Rattle.pb_program.specs.declared.rule.RuleKind.TheVariants as kind;
 ghost use Rattle.pb_region.specs.Dims.{HasTransform};
-ghost use Rattle.pb_unroll.specs.Unrolled.{IsUnrolled, IsWhole};
-ghost use Rattle.pb_top.specs.Runs.{CallsNothing, Configures, FindsTransform, IsBuilt, ReadsInput};
+ghost use Rattle.pb_run_work.specs.Given.{IsWhole};
+ghost use Rattle.pb_run_work.specs.Unrolled.{IsUnrolled};
+ghost use Rattle.pb_top.specs.Runs.{Configures, FindsTransform, ReadsInput};
 ghost use Rattle.pb_top.specs.Steps.{Each};
 ghost use Rattle.pb_top.specs.Working.{CannotRun, Gives, ReadsConfig, StopsWith, files_of, refusal_status, text_in};
 
-use crate::reply::{Status, Stop, faulty_input, not_built};
+use crate::reply::{Status, Stop, faulty_input};
 use pb_check::Accepted;
 use pb_config::{ConfigRefusal, read_config};
 use pb_entry::{RunRefusal, enter};
 use pb_matrix::{Matrix, read_matrix};
-use pb_program::{Config, Prog, Rule, RuleKind};
+use pb_program::{Config, Prog};
 use pb_run_lines::{config_line, run_line};
 use pb_unroll::{Run, unroll};
 use std::alloc::Global;
-
-/// Whether none of these rules calls a transform.
-fn all_compute(rules: &[Rule]) -> bool
-    ensures { IsTrue result ↔ All (λ (r : RuleValue). r.kind ≢ kind.Plan) rules.now }
-{
-    for rule in rules {
-        if matches!(rule.kind, RuleKind::Plan) {
-            return false;
-        }
-    }
-    true
-}
-
-/// Whether no rule of the program calls a transform.
-fn calls_nothing(p: &Prog) -> bool
-    ensures { IsTrue result ↔ CallsNothing (bare_prog p.now) }
-{
-    for transform in &p.transforms {
-        if !all_compute(&transform.rules) {
-            return false;
-        }
-    }
-    true
-}
-
-/// Stops for a program in which a rule calls a transform.
-pub fn check_built(alloc: Global, p: &Prog) -> Result<(), Stop>
-    ensures { Gives (λ u. u) (IsBuilt (bare_prog p.now)) result }
-{
-    if calls_nothing(p) {
-        Ok(())
-    } else {
-        Err(not_built(alloc)?)
-    }
-}
 
 /// The configuration that a text says for a program.
 fn read_choices(alloc: Global, p: &Prog, text: &[u8]) -> Result<Config, Stop>
@@ -140,16 +104,16 @@ pub fn begin_run<'a>(
     t: u32,
     name: &str,
     inputs: Vec<Matrix>,
+    depth: u32,
     grain: u64,
 ) -> Result<Run<'a>, Stop>
     requires valid { IsValid (bare_prog a.now.program) c.now }
     requires count { HasTransform (bare_prog a.now.program) t (λ transform. length inputs.items ≡ transform.inputs) }
     requires whole { All IsWhole inputs.items }
-    requires computes { CallsNothing (bare_prog a.now.program) }
-    ensures found { IfOk result (IsUnrolled a.now c.now t inputs.items grain) }
-    ensures refused { IfErr result (StopsWith (CannotRun a.now c.now t name.now inputs.items grain)) }
+    ensures found { IfOk result (IsUnrolled a.now c.now t inputs.items depth grain) }
+    ensures refused { IfErr result (StopsWith (CannotRun a.now c.now t name.now inputs.items depth grain)) }
 {
-    match unroll(alloc, a, c, t, inputs, grain) {
+    match unroll(alloc, a, c, t, inputs, depth, grain) {
         Ok(run) => Ok(run),
         Err(RunRefusal::Memory) => Err(Stop::Memory),
         Err(refusal) => {

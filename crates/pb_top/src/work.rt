@@ -76,6 +76,7 @@ fn file_names<'a>(alloc: Global, ask: Ask, others: &'a [String]) -> Result<Vec<&
 fn run_line(
     alloc: Global,
     line: &RunLine<'_>,
+    depth: u32,
     grain: u64,
     traced: bool,
     program: &[u8],
@@ -84,10 +85,11 @@ fn run_line(
 ) -> Result<Vec<u8>, Stop>
     requires texts { length line.now.inputs ≡ length texts.now }
     requires few { length line.now.inputs ≤ 16 }
-    ensures { Writes (λ tail. RunsProgram line.now.transform grain (RunWrites traced tail) program.now (text_in config.entry) (zip line.now.inputs (contents_of texts.now))) result }
+    ensures { Writes (λ tail. RunsProgram line.now.transform depth grain (RunWrites traced tail) program.now (text_in config.entry) (zip line.now.inputs (contents_of texts.now))) result }
 {
     let request = Request {
         transform: line.transform,
+        depth,
         grain,
         traced,
         files: line.inputs,
@@ -100,23 +102,42 @@ fn run_line(
 fn run(
     alloc: Global,
     line: &Option<RunLine<'_>>,
+    depth: u32,
     grain: u64,
     traced: bool,
     contents: &[Vec<u8>],
 ) -> Result<Vec<u8>, Stop>
     requires all { length contents.now ≡ length (line_files line.now) }
     requires few { HasFewInputs line.now }
-    ensures { Writes (λ tail. Runs grain (RunWrites traced tail) line.now (contents_of contents.now)) result }
+    ensures { Writes (λ tail. Runs depth grain (RunWrites traced tail) line.now (contents_of contents.now)) result }
 {
     let Some(line) = line else {
         return Err(not_built(alloc)?);
     };
     let program = &contents[0];
     if is_dash(line.config) {
-        return run_line(alloc, line, grain, traced, program, None, &contents[1..]);
+        return run_line(
+            alloc,
+            line,
+            depth,
+            grain,
+            traced,
+            program,
+            None,
+            &contents[1..],
+        );
     }
     let config = Some(contents[1].as_slice());
-    run_line(alloc, line, grain, traced, program, config, &contents[2..])
+    run_line(
+        alloc,
+        line,
+        depth,
+        grain,
+        traced,
+        program,
+        config,
+        &contents[2..],
+    )
 }
 
 // What is written of what is asked, over the bytes of its files.
@@ -132,9 +153,17 @@ fn answer(alloc: Global, ask: Ask, others: &[String], contents: &[Vec<u8>]) -> R
         Ask::Run {
             pool,
             trace,
+            depth,
             grain,
             ..
-        } => run(alloc, &read_run(pool, others), grain, trace, contents),
+        } => run(
+            alloc,
+            &read_run(pool, others),
+            depth,
+            grain,
+            trace,
+            contents,
+        ),
         Ask::Tune { .. } | Ask::Demo { .. } => Err(not_built(alloc)?),
     }
 }

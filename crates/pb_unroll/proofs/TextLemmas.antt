@@ -1,5 +1,5 @@
 -- The texts of matrices that stand one after the other.
-use Rattle.std.proofs.Common.{◌≡◌, ◌∙◌, refl, sym, ap, subst, inl, inr, ⊎_elim, ℕ, zero, suc, ◌+◌, ◌*◌, ◌<◌, ◌≤◌, pos, ◌*ℤ◌, List, [], ◌∷◌, ◌++◌, length, map, take, drop, arith, flat_map}
+use Rattle.std.proofs.Common.{◌≡◌, ◌∙◌, refl, sym, ap, subst, inl, inr, ⊎_elim, ℕ, zero, suc, ◌+◌, ◌*◌, ◌<◌, ◌≤◌, pos, ◌*ℤ◌, List, [], ◌∷◌, ◌++◌, length, map, take, drop, arith, append_assoc, flat_map}
 use Rattle.std.specs.List.{All, AllByRecursion, zip}
 use Rattle.std.proofs.Math.IntN.{zero-*ℤ}
 use Rattle.std.proofs.lemmas.Bool.{cases_lt}
@@ -92,36 +92,42 @@ module _ (sizes : List ℕ) where
   rest_sided : (d : DeclValue) (ds : List DeclValue) (g : Outcomes) (ms : List Outcomes) → AreSided sizes (d ∷ ds) (g ∷ ms) → AreSided sizes ds ms
   rest_sided d ds g ms h = record { count = omega (arith, h.count); each = λ m e k at there. h.each (suc m) e k at there }
 
-  -- ---- all of them
-  module _ (os : List Outcome) where
+  -- ---- all of them, where others may come after them
+  module _ (os more : List Outcome) where
+    abbrev later : List Outcomes → List Outcome
+    later ms = flat_map (λ (m : Outcomes). m.cells) ms ++ more
+
+    first_of : (first : ℕ) (g : Outcomes) (ms : List Outcomes) → drop first os ≡ outcomes_of (g ∷ ms) ++ more → drop first os ≡ g.cells ++ later ms
+    unfolding outcomes_of
+    first_of first g ms here = here ∙ append_assoc g.cells (flat_map (λ (m : Outcomes). m.cells) ms) more
+
     nothing : (n : ℕ) (ms : List Outcomes) → flat_map (text_in os) (drop n []) ≡ matrices_text (map matrix_of (zip (drop n []) (drop n ms)))
     nothing zero ms = refl
     nothing (suc n) ms = refl
 
-    pub texts_are : (n first : ℕ) (ds : List DeclValue) (vs : List View) (ms : List Outcomes) → AreInARow first sizes ds vs → AreSided sizes ds ms → drop first os ≡ outcomes_of ms
+    pub texts_are : (n first : ℕ) (ds : List DeclValue) (vs : List View) (ms : List Outcomes) → AreInARow first sizes ds vs → AreSided sizes ds ms → drop first os ≡ outcomes_of ms ++ more
         → flat_map (text_in os) (drop n vs) ≡ matrices_text (map matrix_of (zip (drop n ds) (drop n ms)))
     unfolding outcomes_of
     texts_are n first [] vs ms row sided here = ap (λ (l : List View). flat_map (text_in os) (drop n l)) row ∙ nothing n ms
     texts_are n first (d ∷ ds) [] ms row sided here = absurd row
     texts_are n first (d ∷ ds) (v ∷ vs) [] row sided here = absurd (omega (arith, sided.count))
     texts_are zero first (d ∷ ds) (v ∷ vs) (g ∷ ms) row sided here =
-        let rest = flat_map (λ (m : Outcomes). m.cells) ms in
         let sides = sided.each 0 d g refl refl in
-        let text = text_is os rest first d v g row.0 sides here in
-        let texts = texts_are zero (first + area_at sizes d) ds vs ms row.1 (rest_sided d ds g ms sided) (rest_is os rest first d v g row.0 sides here) in
+        let mine = first_of first g ms here in
+        let text = text_is os (later ms) first d v g row.0 sides mine in
+        let texts = texts_are zero (first + area_at sizes d) ds vs ms row.1 (rest_sided d ds g ms sided) (rest_is os (later ms) first d v g row.0 sides mine) in
         λ i. text i ++ texts i
     texts_are (suc n) first (d ∷ ds) (v ∷ vs) (g ∷ ms) row sided here =
-        let rest = flat_map (λ (m : Outcomes). m.cells) ms in
-        texts_are n (first + area_at sizes d) ds vs ms row.1 (rest_sided d ds g ms sided) (rest_is os rest first d v g row.0 (sided.each 0 d g refl refl) here)
+        texts_are n (first + area_at sizes d) ds vs ms row.1 (rest_sided d ds g ms sided) (rest_is os (later ms) first d v g row.0 (sided.each 0 d g refl refl) (first_of first g ms here))
 
-    pub are_writable : (first : ℕ) (ds : List DeclValue) (vs : List View) (ms : List Outcomes) → AreInARow first sizes ds vs → AreSided sizes ds ms → drop first os ≡ outcomes_of ms
+    pub are_writable : (first : ℕ) (ds : List DeclValue) (vs : List View) (ms : List Outcomes) → AreInARow first sizes ds vs → AreSided sizes ds ms → drop first os ≡ outcomes_of ms ++ more
         → AllByRecursion (λ d. IsMatrixShape (shape_of sizes d)) ds → All (IsWritable os) vs
     unfolding outcomes_of
     are_writable first [] vs ms row sided here fit = subst (All (IsWritable os)) (sym row) (λ k d below. absurd (omega (arith, below)))
     are_writable first (d ∷ ds) [] ms row sided here fit = absurd row
     are_writable first (d ∷ ds) (v ∷ vs) [] row sided here fit = absurd (omega (arith, sided.count))
     are_writable first (d ∷ ds) (v ∷ vs) (g ∷ ms) row sided here fit =
-        let rest = flat_map (λ (m : Outcomes). m.cells) ms in
         let sides = sided.each 0 d g refl refl in
-        All-cons (IsWritable os) v vs (is_writable os rest first d v g row.0 sides here fit.0)
-        (are_writable (first + area_at sizes d) ds vs ms row.1 (rest_sided d ds g ms sided) (rest_is os rest first d v g row.0 sides here) fit.1)
+        let mine = first_of first g ms here in
+        All-cons (IsWritable os) v vs (is_writable os (later ms) first d v g row.0 sides mine fit.0)
+        (are_writable (first + area_at sizes d) ds vs ms row.1 (rest_sided d ds g ms sided) (rest_is os (later ms) first d v g row.0 sides mine) fit.1)

@@ -6,7 +6,7 @@ use Rattle.std.specs.Option.{option_map}
 use Rattle.std.proofs.Math.Bool.{cond}
 use Rattle.std.proofs.lemmas.Bool.{cases_eq}
 use Rattle.std.proofs.lemmas.Bool.Decides.{nat_tests}
-use Rattle.std.proofs.lemmas.List.{get_or-drop, get_or-map, length-drop, length-map, length-take, map-append, take_more}
+use Rattle.std.proofs.lemmas.List.{get_or-drop, get_or-map, get_or-take, length-drop, length-map, length-take, map-append, take_more}
 use Rattle.std.proofs.lemmas.List.Quantifiers.{position-Some}
 use Rattle.std.proofs.lemmas.List.Sums.{fails_before_first, position_or_len_is}
 use Rattle.std.proofs.lemmas.Option.{get_or_from_slice_get, slice_get_within}
@@ -97,27 +97,39 @@ position_at os i e below = rw e (grind (arith, nat_tests))
 position_past : (os : List Outcome) → position_or_len is_trapped os ≡ length os → position is_trapped os ≡ None
 position_past os e = rw e (grind (arith, nat_tests))
 
-module _ (os : List Outcome) (from cell : ℕ) (before : (j : ℕ) → from + j < cell → is_trapped (get_or os (from + j) no_outcome) ≡ false) where
-  pub passed : (o : Outcome) → slice_get os cell ≡ Some o → is_trapped o ≡ false → (j : ℕ) → from + j < cell + 1 → is_trapped (get_or os (from + j) no_outcome) ≡ false
-  passed o at clean j below = ⊎_elim
-      (λ (here : from + j ≡ cell). ap (λ k. is_trapped (get_or os k no_outcome)) here ∙ ap is_trapped (get_or_from_slice_get os cell o no_outcome at) ∙ clean)
-      (λ (other : from + j ≡ cell → ⊥). before j (omega arith))
-      (cases_eq (from + j) cell)
+-- ---- so many outcomes from a place on
+module _ (os : List Outcome) (from count : ℕ) (room : from + count ≤ length os) where
+  abbrev those : List Outcome
+  those = take count (drop from os)
 
-  pub found_here : (o : Outcome) → from ≤ cell → slice_get os cell ≡ Some o → is_trapped o ≡ true → Some (cell - from) ≡ position is_trapped (drop from os)
-  found_here o start at trap =
-      let inside : cell < length os = slice_get_within os cell o at in
-      let size : length (drop from os) ≡ length os - from = length-drop from os in
-      let here : from + (cell - from) ≡ cell = omega arith in
-      sym (position_at (drop from os) (cell - from) (position_or_len_is is_trapped (drop from os) (cell - from) no_outcome (omega arith)
-      (λ k below. ap is_trapped (get_or-drop from os k no_outcome) ∙ before k (omega arith))
-      (λ below. ap is_trapped (get_or-drop from os (cell - from) no_outcome ∙ ap (λ k. get_or os k no_outcome) here ∙ get_or_from_slice_get os cell o no_outcome at) ∙ trap)) (omega arith))
+  pub as_wanted : length those ≡ count
+  as_wanted = omega (arith, room, length-take count (drop from os), length-drop from os)
 
-  pub none_left : length os ≤ cell → None ≡ position is_trapped (drop from os)
-  none_left ended =
-      let size : length (drop from os) ≡ length os - from = length-drop from os in
-      sym (position_past (drop from os) (position_or_len_is is_trapped (drop from os) (length (drop from os)) no_outcome (omega arith)
-      (λ k below. ap is_trapped (get_or-drop from os k no_outcome) ∙ before k (omega arith)) (λ below. absurd (omega arith))))
+  at_those : (j : ℕ) → j < count → get_or those j no_outcome ≡ get_or os (from + j) no_outcome
+  at_those j below = get_or-take count (drop from os) j no_outcome below ∙ get_or-drop from os j no_outcome
+
+  -- one after another, where none is trapped so far
+  module _ (k : ℕ) (before : (j : ℕ) → j < k → is_trapped (get_or os (from + j) no_outcome) ≡ false) where
+    pub passed : (o : Outcome) → slice_get os (from + k) ≡ Some o → is_trapped o ≡ false → (j : ℕ) → j < k + 1 → is_trapped (get_or os (from + j) no_outcome) ≡ false
+    passed o at clean j below = ⊎_elim
+        (λ (here : j ≡ k). ap (λ n. is_trapped (get_or os (from + n) no_outcome)) here ∙ ap is_trapped (get_or_from_slice_get os (from + k) o no_outcome at) ∙ clean)
+        (λ (other : j ≡ k → ⊥). before j (omega (arith, below, other)))
+        (cases_eq j k)
+
+    pub found_here : (o : Outcome) → k < count → slice_get os (from + k) ≡ Some o → is_trapped o ≡ true → Some k ≡ position is_trapped those
+    found_here o inside at trap =
+        sym (position_at those k (position_or_len_is is_trapped those k no_outcome (omega (arith, inside, as_wanted))
+        (λ j below. ap is_trapped (at_those j (omega (arith, below, inside))) ∙ before j below)
+        (λ below. ap is_trapped (at_those k inside ∙ get_or_from_slice_get os (from + k) o no_outcome at) ∙ trap)) (omega (arith, inside, as_wanted)))
+
+    pub none_left : count ≤ k → None ≡ position is_trapped those
+    none_left ended =
+        sym (position_past those (position_or_len_is is_trapped those (length those) no_outcome (omega arith)
+        (λ j below. ap is_trapped (at_those j (omega (arith, below, as_wanted))) ∙ before j (omega (arith, below, as_wanted, ended))) (λ below. absurd (omega (arith, below)))))
+
+  -- the one at a place among them
+  pub at_part : (k : ℕ) (o : Outcome) → k < count → slice_get os (from + k) ≡ Some o → get_or those k no_outcome ≡ o
+  at_part k o inside at = at_those k inside ∙ get_or_from_slice_get os (from + k) o no_outcome at
 
 -- the outcome at a place after another
 pub at_rest : (os : List Outcome) (n k : ℕ) (o : Outcome) → slice_get os (n + k) ≡ Some o → get_or (drop n os) k no_outcome ≡ o

@@ -7,8 +7,7 @@ use Rattle.pb_matrix.specs.Text.{matrix_text}
 use Rattle.pb_matrix.specs.Value.{MatrixValue}
 use Rattle.pb_model.specs.Calls.{Outcomes, TrappedCell, first_trapped, made_cells}
 use Rattle.pb_model.specs.Equations.{number_in}
-use Rattle.pb_solution.specs.Solutions.{all_matrices}
-use Rattle.pb_unroll.specs.Running.{RunValue, given_as, no_plans, of_sizes, of_transform}
+use Rattle.pb_run_work.specs.Running.{RunValue, first_call, of_sizes, of_transform}
 
 -- a matrix that a call gives, as it is declared; a trap in it would count as 0
 abbrev pub matrix_of : DeclValue × Outcomes → MatrixValue
@@ -31,12 +30,9 @@ answer_of t sizes ms = unless_trapped (first_trapped ms (made_cells t sizes)) (r
 abbrev pub matrices_text : List MatrixValue → List ℕ
 matrices_text ms = flat_map (λ m. matrix_text m.shape m.cells) ms
 
--- ---- a run's
-abbrev pub matrices_of : RunValue → List Outcomes
-matrices_of r = all_matrices r.config no_plans r.number (of_transform r) (of_sizes r) (given_as r.inputs)
-
+-- ---- a run's, which is that of its first call
 abbrev pub trapped_in : RunValue → Option TrappedCell
-trapped_in r = first_trapped (matrices_of r) (made_cells (of_transform r) (of_sizes r))
+trapped_in r = first_trapped (first_call r) (made_cells (of_transform r) (of_sizes r))
 
 abbrev pub results_in : RunValue → List MatrixValue
-results_in r = results_of (of_transform r) (matrices_of r)
+results_in r = results_of (of_transform r) (first_call r)

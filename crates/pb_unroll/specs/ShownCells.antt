@@ -1,5 +1,6 @@
 -- What views show of the outcomes of a run's cells, which stand one after the other.
 use Rattle.std.specs.Prelude.{◌≡◌, ℕ, ◌+◌, ◌-◌, ◌/◌, ◌%◌, ◌≤◌, nat_lt, Bool, true, false, List, [], ◌∷◌, length, map, take, drop, Option, Some, None, if◌then◌else◌}
+use Rattle.std.specs.List.{sum_by}
 use Rattle.pb_values.specs.declared.outcome.Outcome.{Outcome}
 use Rattle.pb_values.specs.declared.outcome.Outcome.TheVariants.{Value, Trapped}
 use Rattle.pb_values.specs.declared.shape.TheConstants.{MOST_SIDE}
@@ -16,6 +17,10 @@ is_trapped (Trapped t) = true
 pub record IsShort (v : View) : Type 0 where
   pub width : v.shape.w ≤ MOST_SIDE
   pub height : v.shape.h ≤ MOST_SIDE
+
+-- how many cells matrices have
+abbrev pub cells_shown : List View → ℕ
+cells_shown views = sum_by (λ v. cell_count v.shape) views
 
 -- the matrix of a cell and its place there, among matrices that stand one after the other and whose numbers begin here
 abbrev pub place_in : List View → ℕ → ℕ → Option (ℕ × ℕ × ℕ)

@@ -1,9 +1,9 @@
 ghost use Rattle.std.specs.Prelude.{◌≡◌, IfOk};
 ghost use Rattle.pb_unroll.specs.Answers.{matrices_text, results_in};
-ghost use Rattle.pb_unroll.specs.Running.{run_plan};
+ghost use Rattle.pb_run_work.specs.Running.{run_plan};
 
-use crate::run::Run;
 use crate::texts::texts_in;
+use pb_run_work::Run;
 use pb_taskgraph::Outcomes;
 use std::alloc::{AllocError, Global};
 

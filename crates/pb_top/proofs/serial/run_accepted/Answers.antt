@@ -1,6 +1,6 @@
 use Rattle.std.proofs.Common.{Ok, subst}
 use Rattle.pb_program.specs.Trees.{bare_prog}
-use Rattle.pb_top.specs.Runs.{AfterBuilt, AfterConfig, Configures, IsBuilt, RunWrites}
+use Rattle.pb_top.specs.Runs.{AfterConfig, Configures, RunWrites}
 use Rattle.pb_top.specs.Working.{files_of, text_in}
 use Rattle.pb_top.proofs.FinishLemmas.{after_step}
 use Rattle.pb_top.proofs.serial.run_accepted.Goals as goal
@@ -12,9 +12,6 @@ returns c =
     let r = c.args.r.now in
     let files = files_of r.files.now r.texts.now in
     let text = text_in c.args.config in
-    let u = c.in_ok-check_built.field-0 in
     let config = c.in_ok-c.c in
-    let built = subst (λ q. IsBuilt (bare_prog q) (Ok u)) c.prog.ensures.program c.in_ok-check_built.ensures in
-    let said = subst (λ q. Configures (bare_prog q) text (Ok config)) c.prog-2.ensures.program c.in_ok-c.ensures.gives in
-    after_step (IsBuilt p) (λ tail v. AfterBuilt r.transform.now r.grain (RunWrites r.traced tail) p a.found text files) u built c.run_configured.result
-    (after_step (Configures p text) (λ tail. AfterConfig r.transform.now r.grain (RunWrites r.traced tail) p a.found files) config said c.run_configured.result c.run_configured.ensures)
+    let said = subst (λ q. Configures (bare_prog q) text (Ok config)) c.prog.ensures.program c.in_ok-c.ensures.gives in
+    after_step (Configures p text) (λ tail. AfterConfig r.transform.now r.depth r.grain (RunWrites r.traced tail) p a.found files) config said c.run_configured.result c.run_configured.ensures

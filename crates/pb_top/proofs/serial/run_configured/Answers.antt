@@ -4,7 +4,7 @@ use Rattle.pb_program.specs.Trees.{bare_prog}
 use Rattle.pb_entry.specs.Entering.{Enters}
 use Rattle.pb_top.specs.Runs.{AfterName, FindsTransform, RunWrites}
 use Rattle.pb_top.specs.Working.{StopsWith, files_of}
-use Rattle.pb_top.proofs.BuiltLemmas.{files_length}
+use Rattle.pb_top.proofs.InputLemmas.{files_length}
 use Rattle.pb_top.proofs.FinishLemmas.{after_step, step_stops}
 use Rattle.pb_top.proofs.serial.run_configured.Goals as goal
 
@@ -15,7 +15,7 @@ returns-in_err-t c =
     let files = files_of r.files.now r.texts.now in
     let same = files_length r.files.now r.texts.now c.requires.texts in
     let e = err_from_is_err_and c.from_residual.result c.from_residual.ensures.1 in
-    rw (e.1, e.2) (step_stops (FindsTransform p r.transform.now (length files)) (λ tail number. AfterName r.transform.now r.grain (RunWrites r.traced tail) p c.args.a.now.found c.args.c.now number files)
+    rw (e.1, e.2) (step_stops (FindsTransform p r.transform.now (length files)) (λ tail number. AfterName r.transform.now r.depth r.grain (RunWrites r.traced tail) p c.args.a.now.found c.args.c.now number files)
     c.in_err-t.field-0.0 (subst (λ n. StopsWith (λ reply. FindsTransform p r.transform.now n (Err reply)) c.in_err-t.field-0.0) (sym same) c.in_err-t.ensures))
 
 pub returns : goal.returns
@@ -24,5 +24,5 @@ returns c =
     let r = c.args.r.now in
     let files = files_of r.files.now r.texts.now in
     let same = files_length r.files.now r.texts.now c.requires.texts in
-    after_step (FindsTransform p r.transform.now (length files)) (λ tail number. AfterName r.transform.now r.grain (RunWrites r.traced tail) p c.args.a.now.found c.args.c.now number files)
+    after_step (FindsTransform p r.transform.now (length files)) (λ tail number. AfterName r.transform.now r.depth r.grain (RunWrites r.traced tail) p c.args.a.now.found c.args.c.now number files)
     c.in_ok-t.t (subst (λ n. Enters p r.transform.now n c.in_ok-t.t) (sym same) c.in_ok-t.ensures) c.run_transform.result c.run_transform.ensures

@@ -1,7 +1,6 @@
-use Rattle.std.proofs.Common.{[], subst}
+use Rattle.std.proofs.Common.{[]}
 use Rattle.std.proofs.lemmas.Result.{err_from_is_err_and}
 use Rattle.pb_program.specs.Trees.{bare_prog}
-use Rattle.pb_unroll.specs.Running.{IsRunning}
 use Rattle.pb_top.specs.Runs.{AfterInputs, RunWrites}
 use Rattle.pb_top.specs.Working.{CannotRun, fitting_of}
 use Rattle.pb_top.proofs.FinishLemmas.{cannot_run, has_run}
@@ -12,18 +11,19 @@ pub returns-in_err-run : goal.returns-in_err-run
 returns-in_err-run c =
     let a = c.args.a.now in
     let name = c.args.r.now.transform.now in
+    let depth = c.args.r.now.depth in
     let grain = c.args.r.now.grain in
     let End = RunWrites c.args.r.now.traced [] in
     let p = err_from_is_err_and c.from_residual.result c.from_residual.ensures.1 in
-    rw (p.1, p.2) (stops_map (CannotRun a c.args.c.now c.args.t name c.args.inputs.items grain) (AfterInputs name grain End (bare_prog a.program) a.found c.args.c.now c.args.t c.args.inputs.items)
-    (cannot_run a c.args.c.now c.args.t name c.args.inputs.items grain End) c.in_err-run.field-0.0 c.in_err-run.ensures.refused)
+    rw (p.1, p.2) (stops_map (CannotRun a c.args.c.now c.args.t name c.args.inputs.items depth grain) (AfterInputs name depth grain End (bare_prog a.program) a.found c.args.c.now c.args.t c.args.inputs.items)
+    (cannot_run a c.args.c.now c.args.t name c.args.inputs.items depth grain End) c.in_err-run.field-0.0 c.in_err-run.ensures.refused)
 
 pub returns : goal.returns
 returns c =
     let a = c.args.a.now in
     let name = c.args.r.now.transform.now in
+    let depth = c.args.r.now.depth in
     let grain = c.args.r.now.grain in
     let r = c.in_ok-run.run' in
-    let running : IsRunning r = subst IsRunning c.run.view_is c.run.invariant in
-    writes_map (λ tail. RunWrites c.args.r.now.traced tail (fitting_of r)) (λ tail. AfterInputs name grain (RunWrites c.args.r.now.traced tail) (bare_prog a.program) a.found c.args.c.now c.args.t c.args.inputs.items)
-    (λ tail. has_run a c.args.c.now c.args.t name c.args.inputs.items grain (RunWrites c.args.r.now.traced tail) r c.in_ok-run.ensures.found running) c.finish.result c.finish.ensures
+    writes_map (λ tail. RunWrites c.args.r.now.traced tail (fitting_of r)) (λ tail. AfterInputs name depth grain (RunWrites c.args.r.now.traced tail) (bare_prog a.program) a.found c.args.c.now c.args.t c.args.inputs.items)
+    (λ tail. has_run a c.args.c.now c.args.t name c.args.inputs.items depth grain (RunWrites c.args.r.now.traced tail) r c.in_ok-run.ensures.found) c.finish.result c.finish.ensures

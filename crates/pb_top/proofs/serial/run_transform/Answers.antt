@@ -1,6 +1,6 @@
 use Rattle.std.proofs.Common.{length, slice_get}
 use Rattle.pb_program.specs.Trees.{bare_prog}
-use Rattle.pb_top.proofs.BuiltLemmas.{as_many, inputs_count}
+use Rattle.pb_top.proofs.InputLemmas.{as_many, inputs_count}
 use Rattle.pb_top.proofs.serial.run_transform.Goals as goal
 
 pub run_matrices-requires-clause-count : goal.run_matrices-requires-clause-count

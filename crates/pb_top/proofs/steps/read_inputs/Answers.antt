@@ -1,7 +1,7 @@
 use Rattle.std.proofs.lemmas.List.Elements.{All-push, All-same}
 use Rattle.std.proofs.lemmas.Result.{err_from_is_err_and}
-use Rattle.pb_unroll.specs.Unrolled.{IsWhole}
-use Rattle.pb_top.proofs.BuiltLemmas.{inputs_done, inputs_next, inputs_stop}
+use Rattle.pb_run_work.specs.Given.{IsWhole}
+use Rattle.pb_top.proofs.InputLemmas.{inputs_done, inputs_next, inputs_stop}
 use Rattle.pb_top.proofs.steps.read_inputs.Goals as goal
 
 pub returns-in_err-read_input-clause-gives : goal.returns-in_err-read_input-clause-gives

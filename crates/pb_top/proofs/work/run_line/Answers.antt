@@ -7,5 +7,5 @@ use Rattle.pb_top.proofs.work.run_line.Goals as goal
 
 pub returns : goal.returns
 returns c =
-    subst (λ (l : RunLine). Writes (λ tail. RunsProgram l.transform c.args.grain (RunWrites c.args.traced tail) c.args.program.now (text_in c.args.config) (zip l.inputs (contents_of c.args.texts.now))) c.run_program.result)
+    subst (λ (l : RunLine). Writes (λ tail. RunsProgram l.transform c.args.depth c.args.grain (RunWrites c.args.traced tail) c.args.program.now (text_in c.args.config) (zip l.inputs (contents_of c.args.texts.now))) c.run_program.result)
     c.line.view_is c.run_program.ensures

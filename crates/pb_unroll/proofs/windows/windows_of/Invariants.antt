@@ -1,7 +1,0 @@
-use Rattle.std.proofs.Common.{take}
-use Rattle.pb_linear.specs.Sizes.{sizes_of}
-use Rattle.pb_unroll.specs.Shown.{AreWindows}
-use Rattle.pb_unroll.proofs.windows.windows_of.Given as goal
-
-abbrev pub invariant-loop-view : goal.invariant-loop-view
-invariant-loop-view l = AreWindows (sizes_of l.s) (take l.view-index l.views) l.windows.items
