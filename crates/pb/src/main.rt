@@ -3,6 +3,7 @@
 #![tactic(auto)]
 
 use pb_outside::{FileShelf, StdSink};
+use pb_taskgraph::OpenGate;
 use pb_top::pb_command;
 use std::process::ExitCode;
 use std::rt::Env;
@@ -24,6 +25,6 @@ fn main(rt: HostRuntime) -> ExitCode {
     let mut shelf = FileShelf::new(&rt);
     let mut out = StdSink::new(rt.stdout());
     let mut err = StdSink::new(rt.stderr());
-    let status = pb_command(&rt, rt.alloc(), &words, &mut shelf, &mut out, &mut err);
+    let status = pb_command(&rt, rt.alloc(), &words, &mut shelf, &mut out, &mut err, &OpenGate);
     ExitCode::from(status)
 }

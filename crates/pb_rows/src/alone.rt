@@ -58,28 +58,29 @@ fn alone(alloc: Global, words: &str) -> Result<Call, AllocError> {
     })
 }
 
-const ALONE: &[(&str, u8, &str)] = &[
-    ("check p", 0, "p "),
-    ("run --pool serial p - Double a", 0, "p a "),
-    ("run --pool serial q - Double a", 14, "q "),
-    ("choices p", 0, "p "),
-    ("choices q", 14, "q "),
-    ("demo 1 96 4", 12, ""),
-    ("run p - Double a", 12, ""),
-    ("run --pool locked p - Double a", 12, ""),
-    ("run --workers 1 --pool serial p - Double a", 0, "p a "),
-    ("run --pool serial p - Double", 5, "p "),
-    ("run --pool serial p c Double a", 14, "p c "),
-    ("run --pool serial p - Double a a a", 5, "p a a a "),
-    ("run --pool serial m - Nope a p", 5, "m a p "),
-    ("check", 2, ""),
+const ALONE: &[(&str, Option<u8>, &str)] = &[
+    ("check p", Some(0), "p "),
+    ("run --pool serial p - Double a", Some(0), "p a "),
+    ("run --pool serial q - Double a", Some(14), "q "),
+    ("choices p", Some(0), "p "),
+    ("choices q", Some(14), "q "),
+    ("demo 1 96 4", None, ""),
+    ("run p - Double a", None, ""),
+    ("run --pool steal q - Nope", None, ""),
+    ("run --pool locked p - Double a", None, ""),
+    ("run --workers 1 --pool serial p - Double a", Some(0), "p a "),
+    ("run --pool serial p - Double", Some(5), "p "),
+    ("run --pool serial p c Double a", Some(14), "p c "),
+    ("run --pool serial p - Double a a a", Some(5), "p a a a "),
+    ("run --pool serial m - Nope a p", Some(5), "m a p "),
+    ("check", Some(2), ""),
 ];
 
 #[test]
 fn what_one_thread_does_takes_its_files_in_order(rt: HostRuntime) -> Result<(), Fail> {
     for (words, status, names) in ALONE {
         let call = alone(rt.alloc(), words)?;
-        assert_eq!(rt; call.status, Some(*status), "{words}");
+        assert_eq!(rt; call.status, *status, "{words}");
         assert_eq!(rt; call.names.as_bytes(), names.as_bytes(), "{words}");
     }
     Ok(())

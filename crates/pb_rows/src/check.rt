@@ -3,6 +3,7 @@ ghost use Rattle.std.specs.Prelude.{◌<◌};
 use crate::examples::{EXAMPLES, ROLL};
 use crate::run::{Files, Row, holds};
 use pb_outside::{MemShelf, MemSink};
+use pb_taskgraph::OpenGate;
 use pb_top::pb_command;
 use std::alloc::{AllocError, Global};
 use std::process::Abort;
@@ -244,7 +245,7 @@ pub fn answered<R: Threads + Wait + Sync + Abort>(
     let mut files = shelf_with(alloc, text)?;
     let mut out = MemSink::new(alloc, 4096, 4096, Vec::new(alloc))?;
     let mut err = MemSink::new(alloc, 4096, 4096, Vec::new(alloc))?;
-    let status = pb_command(rt, alloc, &words, &mut files, &mut out, &mut err);
+    let status = pb_command(rt, alloc, &words, &mut files, &mut out, &mut err, &OpenGate);
     let out = Vec::from_slice(alloc, out.written())?;
     let err = Vec::from_slice(alloc, err.written())?;
     Ok((status, out, err))

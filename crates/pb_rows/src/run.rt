@@ -1,6 +1,7 @@
 ghost use Rattle.std.specs.Prelude.{◌<◌};
 
 use pb_outside::{MemShelf, MemSink};
+use pb_taskgraph::OpenGate;
 use pb_top::pb_command;
 use std::alloc::{AllocError, Global};
 use std::process::Abort;
@@ -103,6 +104,7 @@ pub fn holds<R: Threads + Wait + Sync + Abort>(
         &mut files,
         &mut out,
         &mut err,
+        &OpenGate,
     );
     assert_eq!(rt; status, row.status, "{}", row.words);
     assert_eq!(rt; out.written(), row.out.as_bytes(), "{}", row.words);
@@ -139,6 +141,7 @@ pub fn ran<R: Threads + Wait + Sync + Abort>(
         &mut files,
         &mut out,
         &mut err,
+        &OpenGate,
     );
     let out = Vec::from_slice(alloc, out.written())?;
     let err = Vec::from_slice(alloc, err.written())?;

@@ -16,7 +16,7 @@ fn without_files(words: &'static str) -> Row {
     }
 }
 
-fn command_rows() -> [Row; 8] {
+fn command_rows() -> [Row; 6] {
     [
         without_files("tune p Double"),
         without_files("tune --up-to 8 p Double"),
@@ -24,8 +24,6 @@ fn command_rows() -> [Row; 8] {
         without_files("run p - Double a"),
         without_files("run --workers 4 --grain 1 --trace p c Double a"),
         without_files("run --pool steal p - Double a"),
-        without_files("run --pool locked p - Double a"),
-        without_files("run --pool locked p - Double"),
     ]
 }
 

@@ -4,6 +4,7 @@ use Rattle.std.specs.List.{zip}
 use Rattle.std.specs.declared.alloc.Global.{Global}
 use Rattle.std.proofs.lemmas.List.{drop-map, length-drop, length-map, take_all}
 use Rattle.pb_outside.specs.Shelf.{Files}
+use Rattle.pb_words.specs.declared.ask.Pool.{Pool}
 use Rattle.pb_top.specs.Answer.{RunLine, Runs, content_at, is_dash, limited}
 use Rattle.pb_top.specs.Reply.{Reply}
 use Rattle.pb_top.specs.Runs.{RunWrites, RunsProgram}
@@ -36,9 +37,9 @@ rest_is : (contents texts : List (Vec ℕ Global)) (k : ℕ) → texts ≡ take 
 rest_is contents texts k is =
     ap contents_of (is ∙ take_all (length contents - k) (drop k contents) (omega (arith, length-drop k contents))) ∙ sym (drop-map items k contents)
 
-module _ (depth grain : ℕ) (traced : Bool) (line : RunLine) (contents : List (Vec ℕ Global)) (count : length contents ≡ length (line_files (Some line))) (a : Vec ℕ Global) (at : a ≡ get_or contents 0 a) (program : List ℕ) (program_is : program ≡ a.items) (texts : List (Vec ℕ Global)) (found : Result (Vec ℕ Global) Stop) where
+module _ (depth grain : ℕ) (pool : Pool) (traced : Bool) (line : RunLine) (contents : List (Vec ℕ Global)) (count : length contents ≡ length (line_files (Some line))) (a : Vec ℕ Global) (at : a ≡ get_or contents 0 a) (program : List ℕ) (program_is : program ≡ a.items) (texts : List (Vec ℕ Global)) (found : Result (Vec ℕ Global) Stop) where
   abbrev End : List ℕ → List ℕ → Option (List ℕ) → List (List ℕ × List ℕ) → Reply → Type 0
-  End tail p text files = RunsProgram line.transform depth grain (RunWrites traced tail) p text files
+  End tail p text files = RunsProgram line.transform depth grain (RunWrites pool traced tail) p text files
 
   abbrev Goal : Option (List ℕ) → List (List ℕ) → Type 0
   Goal text rest = Writes (λ tail. End tail (content_at (contents_of contents) 0) text (zip line.inputs rest)) found
@@ -50,7 +51,7 @@ module _ (depth grain : ℕ) (traced : Bool) (line : RunLine) (contents : List (
   first = program_is ∙ content_is contents 0 a (some_there (is_dash line.config) refl) at
 
   pub without_config : is_dash line.config ≡ true → texts ≡ take (length contents - 1) (drop 1 contents) → Writes (λ tail. End tail program None (zip line.inputs (contents_of texts))) found
-      → Writes (λ tail. Runs depth grain (RunWrites traced tail) (Some line) (contents_of contents)) found
+      → Writes (λ tail. Runs depth grain (RunWrites pool traced tail) (Some line) (contents_of contents)) found
   without_config dash rest writes =
       let moved : Goal None (drop 1 (contents_of contents)) = subst (λ r. Goal None r) (rest_is contents texts 1 rest) (subst (λ p. Writes (λ tail. End tail p None (zip line.inputs (contents_of texts))) found) first writes) in
       subst (λ b. Goal (cond b None (Some (content_at (contents_of contents) 1))) (drop (cond b 1 2) (contents_of contents))) (sym dash) moved
@@ -60,7 +61,7 @@ module _ (depth grain : ℕ) (traced : Bool) (line : RunLine) (contents : List (
     two_there = omega (arith, count, ap (λ d. length ([] ∷ cond d line.inputs (line.config ∷ line.inputs))) plain)
 
     pub with_config : texts ≡ take (length contents - 2) (drop 2 contents) → Writes (λ tail. End tail program (Some config) (zip line.inputs (contents_of texts))) found
-        → Writes (λ tail. Runs depth grain (RunWrites traced tail) (Some line) (contents_of contents)) found
+        → Writes (λ tail. Runs depth grain (RunWrites pool traced tail) (Some line) (contents_of contents)) found
     with_config rest writes =
         let second = config_is ∙ content_is contents 1 b two_there at_b in
         let moved : Goal (Some (content_at (contents_of contents) 1)) (drop 2 (contents_of contents)) = subst (λ c. Goal (Some c) (drop 2 (contents_of contents))) second (subst (λ r. Goal (Some config) r) (rest_is contents texts 2 rest) (subst (λ p. Writes (λ tail. End tail p (Some config) (zip line.inputs (contents_of texts))) found) first writes)) in

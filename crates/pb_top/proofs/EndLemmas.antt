@@ -9,7 +9,7 @@ use Rattle.pb_outside.specs.Shelf.{Files}
 use Rattle.pb_words.specs.Line.{Asks, Line, IsInside, check, choices, demo, run, tune}
 use Rattle.pb_words.specs.declared.ask.Ask.{Ask}
 use Rattle.pb_words.proofs.LineLemmas.{one_reading}
-use Rattle.pb_top.specs.Sinks.{ShelfChange, SinkChange, IsSound, AsksFront, Gains, Stays, IsIdle}
+use Rattle.pb_top.specs.Sinks.{ShelfChange, SinkChange, IsSound, IsUntouched, AsksFront, Gains, Stays, IsIdle}
 use Rattle.pb_top.specs.Reply.{Reply, status_code, done_reply, refusal_reply, usage}
 use Rattle.pb_top.specs.Answer.{taken_words, AskAnswers, Answers, IsTail, IsTailOf, IsOut, IsFileWord, AreFileWords}
 use Rattle.pb_top.specs.Ends.{IsReadFault, Shows, IsAnswerStatus, AreSteady, AsksInOrder, OutBreaks, ErrBreaks, Ends}
@@ -155,14 +155,7 @@ module _ (words : List (List ℕ)) (shelf : ShelfChange) (out err : SinkChange) 
         text = says.text;
       }) written
 
--- nothing was done to the shelf
-pub record Untouched (shelf : ShelfChange) : Type 0 where
-  pub files : shelf.now ≡ shelf.before
-  pub faults : IsSound shelf
-  pub bytes : shelf.bytes_now ≡ shelf.bytes_before
-  pub asked : shelf.asked_now ≡ shelf.asked_before
-
-asks_nothing : (names : List (List ℕ)) (shelf : ShelfChange) → Untouched shelf → AsksFront names shelf.asked_before shelf.asked_now
+asks_nothing : (names : List (List ℕ)) (shelf : ShelfChange) → IsUntouched shelf → AsksFront names shelf.asked_before shelf.asked_now
 asks_nothing names shelf same = subst (AsksFront names shelf.asked_before) (sym same.asked) (asks_none names shelf.asked_before)
 
 -- the words are a line
@@ -232,7 +225,7 @@ few_others words ask place line = omega (arith, ap length (after_place words ask
 
 -- words outside the grammar
 pub usage_ends : (words : List (List ℕ)) (shelf : ShelfChange) (out err : SinkChange) (line : Result Stop AllocError) (status : ℕ) → (IsInside words → ⊥)
-    → Untouched shelf → IfOk line (StopsWith (λ r. r ≡ usage)) → LineIsWritten line out err status → Ends words shelf out err status
+    → IsUntouched shelf → IfOk line (StopsWith (λ r. r ≡ usage)) → LineIsWritten line out err status → Ends words shelf out err status
 usage_ends words shelf out err line status outside same =
     line_ends words shelf out err (record {
       files = same.files;

@@ -25,7 +25,8 @@ use Rattle.pb_unroll.specs.Answers.{matrices_text, results_in, trapped_in, unles
 use Rattle.pb_taskgraph.specs.Trace.{trace_text}
 use Rattle.pb_run_lines.specs.RunLines.{run_line}
 use Rattle.pb_top.specs.Reply.{Reply, done_reply, refusal_reply}
-use Rattle.pb_top.specs.Runs.{AfterInputs, Fitting, IsTraceOf, RunWrites, TailAfter, answer_reply, graph_with, run_answer}
+use Rattle.pb_words.specs.declared.ask.Pool.{Pool}
+use Rattle.pb_top.specs.Runs.{AfterInputs, Fitting, IsTraceOf, RunWrites, TailAfter, orders_of, answer_reply, graph_with, run_answer}
 use Rattle.pb_top.specs.Steps.{Then}
 use Rattle.pb_top.specs.Working.{CannotRun, IsTailFor, IsTrapped, StopsWith, Writes, fitting_of, refusal_status}
 use Rattle.pb_top.specs.declared.reply.Status.{Status}
@@ -47,37 +48,39 @@ pub run_graph : (r : RunValue) → (run_plan r).graph ≡ graph_with (fitting_of
 unfolding run_plan plan_of_run
 run_graph r = refl
 
-pub is_trace : (r : RunValue) → IsRunning r → (order text : List ℕ) → order ≡ range_with_len 0 (length r.graph.tasks) → text ≡ trace_text r.graph order → IsTraceOf (fitting_of r) text
-is_trace r is order text by_number written = record {
+pub is_trace : (pool : Pool) (r : RunValue) → IsRunning r → (order text : List ℕ) → orders_of pool (run_plan r).graph order → text ≡ trace_text r.graph order → IsTraceOf pool (fitting_of r) text
+is_trace pool r is order text allowed written = record {
   tasks = r.graph.tasks;
   are_tasks = is.begun.tasks;
-  is = written ∙ ap (trace_text r.graph) by_number ∙ ap (λ (g : GraphValue). trace_text g (range_with_len 0 (length r.graph.tasks))) is.begun.graph;
+  order = order;
+  allowed = subst (λ g. orders_of pool g order) (run_graph r) allowed;
+  is = written ∙ ap (λ (g : GraphValue). trace_text g order) is.begun.graph;
 }
 
 -- ---- the answer
 answer_is : (r : RunValue) (o : Option TrappedCell) → trapped_in r ≡ o → run_answer (fitting_of r) ≡ unless_trapped o (results_in r)
 answer_is r o is = ap (λ t. unless_trapped t (results_in r)) is
 
-tail_is : (r : RunValue) (traced : Bool) (matrices : List MatrixValue) (tail : List ℕ) → IsTailFor r traced tail → TailAfter (fitting_of r) traced (Ok matrices) tail
-tail_is r true matrices tail is = is
-tail_is r false matrices tail is = is
+tail_is : (pool : Pool) (r : RunValue) (traced : Bool) (matrices : List MatrixValue) (tail : List ℕ) → IsTailFor pool r traced tail → TailAfter pool (fitting_of r) traced (Ok matrices) tail
+tail_is pool r true matrices tail is = is
+tail_is pool r false matrices tail is = is
 
-no_tail : (r : RunValue) (traced : Bool) (cell : TrappedCell) → TailAfter (fitting_of r) traced (Err cell) []
-no_tail r true cell = refl
-no_tail r false cell = refl
+no_tail : (pool : Pool) (r : RunValue) (traced : Bool) (cell : TrappedCell) → TailAfter pool (fitting_of r) traced (Err cell) []
+no_tail pool r true cell = refl
+no_tail pool r false cell = refl
 
-pub is_done : (r : RunValue) (traced : Bool) (out tail : List ℕ) → trapped_in r ≡ None → out ≡ matrices_text (results_in r) → IsTailFor r traced tail → RunWrites traced tail (fitting_of r) (done_reply out)
-is_done r traced out tail none written is =
+pub is_done : (pool : Pool) (r : RunValue) (traced : Bool) (out tail : List ℕ) → trapped_in r ≡ None → out ≡ matrices_text (results_in r) → IsTailFor pool r traced tail → RunWrites pool traced tail (fitting_of r) (done_reply out)
+is_done pool r traced out tail none written is =
     let answer : run_answer (fitting_of r) ≡ Ok (results_in r) = answer_is r None none in
-    (ap done_reply written ∙ sym (ap (answer_reply (fitting_of r)) answer), subst (λ a. TailAfter (fitting_of r) traced a tail) (sym answer) (tail_is r traced (results_in r) tail is))
+    (ap done_reply written ∙ sym (ap (answer_reply (fitting_of r)) answer), subst (λ a. TailAfter pool (fitting_of r) traced a tail) (sym answer) (tail_is pool r traced (results_in r) tail is))
 
-pub is_trapped : (r : RunValue) (traced : Bool) (cell : TrappedCell) (reply : Reply) → trapped_in r ≡ Some cell → IsTrapped r cell reply → RunWrites traced [] (fitting_of r) reply
-is_trapped r traced cell reply some is =
+pub is_trapped : (pool : Pool) (r : RunValue) (traced : Bool) (cell : TrappedCell) (reply : Reply) → trapped_in r ≡ Some cell → IsTrapped r cell reply → RunWrites pool traced [] (fitting_of r) reply
+is_trapped pool r traced cell reply some is =
     let answer : run_answer (fitting_of r) ≡ Err cell = answer_is r (Some cell) some in
-    (is ∙ sym (ap (answer_reply (fitting_of r)) answer), subst (λ a. TailAfter (fitting_of r) traced a []) (sym answer) (no_tail r traced cell))
+    (is ∙ sym (ap (answer_reply (fitting_of r)) answer), subst (λ a. TailAfter pool (fitting_of r) traced a []) (sym answer) (no_tail pool r traced cell))
 
-pub trapped_stops : (r : RunValue) (traced : Bool) (cell : TrappedCell) (stop : Stop) → trapped_in r ≡ Some cell → StopsWith (IsTrapped r cell) stop → StopsWith (RunWrites traced [] (fitting_of r)) stop
-trapped_stops r traced cell stop some = stops_map (IsTrapped r cell) (RunWrites traced [] (fitting_of r)) (λ reply. is_trapped r traced cell reply some) stop
+pub trapped_stops : (pool : Pool) (r : RunValue) (traced : Bool) (cell : TrappedCell) (stop : Stop) → trapped_in r ≡ Some cell → StopsWith (IsTrapped r cell) stop → StopsWith (RunWrites pool traced [] (fitting_of r)) stop
+trapped_stops pool r traced cell stop some = stops_map (IsTrapped r cell) (RunWrites pool traced [] (fitting_of r)) (λ reply. is_trapped pool r traced cell reply some) stop
 
 -- ---- a run that can't be begun
 some_of : {A : Type 0} (o : Option A) (P : A → Type 0) → IsSomeAnd o P → (x : A) × (o ≡ Some x) × P x

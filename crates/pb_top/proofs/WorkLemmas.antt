@@ -59,7 +59,7 @@ line_map depth grain End More each None contents reply runs = runs
 answered : (ask : Ask) (others : List (List ℕ)) (tail : List ℕ) (contents : List (List ℕ)) (reply : Reply) → WorkWrites ask others tail contents reply → WorkAnswers ask others contents reply
 answered Check others tail contents reply writes = writes.0
 answered Choices others tail contents reply writes = writes.0
-answered (Run workers depth grain pool trace) others tail contents reply writes = line_map depth grain (RunWrites trace tail) RunReplies (λ r reply w. w.0) (built_run pool others) contents reply writes
+answered (Run workers depth grain pool trace) others tail contents reply writes = line_map depth grain (RunWrites pool trace tail) RunReplies (λ r reply w. w.0) (built_run pool others) contents reply writes
 answered (Tune up_to) others tail contents reply writes = writes.0
 answered (Demo seed size workers) others tail contents reply writes = writes.0
 

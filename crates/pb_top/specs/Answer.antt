@@ -6,7 +6,7 @@ use Rattle.pb_outside.specs.declared.shelf.TheConstants.{FILE_LIMIT}
 use Rattle.pb_words.specs.Line.{Line, IsInside}
 use Rattle.pb_words.specs.Files.{file_words}
 use Rattle.pb_words.specs.declared.ask.Pool.{Pool}
-use Rattle.pb_words.specs.declared.ask.Pool.TheVariants.{Serial}
+use Rattle.pb_words.specs.declared.ask.Pool.TheVariants.{Serial, Locked, Steal}
 use Rattle.pb_words.specs.declared.ask.Ask.{Ask}
 use Rattle.pb_words.specs.declared.ask.Ask.TheVariants.{Check, Choices, Run, Tune, Demo}
 use Rattle.pb_top.specs.Reply.{Reply, not_built, usage}
@@ -20,10 +20,15 @@ pub record RunLine : Type 0 where
   pub transform : List ℕ
   pub inputs : List (List ℕ)
 
--- a run on one thread is built
+abbrev pub run_line : List (List ℕ) → Option RunLine
+run_line (program ∷ config ∷ transform ∷ inputs) = Some (record { config = config; transform = transform; inputs = inputs })
+run_line others = None
+
+-- runs on one thread and on threads under a lock are built
 abbrev pub built_run : Pool → List (List ℕ) → Option RunLine
-built_run Serial (program ∷ config ∷ transform ∷ inputs) = Some (record { config = config; transform = transform; inputs = inputs })
-built_run pool others = None
+built_run Serial others = run_line others
+built_run Locked others = run_line others
+built_run Steal others = None
 
 abbrev pub is_built : Ask → List (List ℕ) → Bool
 is_built Check others = true
@@ -31,6 +36,20 @@ is_built Choices others = true
 is_built (Run workers depth grain pool trace) others = is_some (built_run pool others)
 is_built (Tune up_to) others = false
 is_built (Demo seed size workers) others = false
+
+-- what is asked takes threads
+abbrev pub needs_threads : Ask → Bool
+needs_threads Check = false
+needs_threads Choices = false
+needs_threads (Run workers depth grain Serial trace) = false
+needs_threads (Run workers depth grain Locked trace) = true
+needs_threads (Run workers depth grain Steal trace) = true
+needs_threads (Tune up_to) = false
+needs_threads (Demo seed size workers) = true
+
+-- the words are a line that asks for that
+abbrev pub NeedThreads : List (List ℕ) → Type 0
+NeedThreads words = (ask : Ask) × (place : ℕ) × Line words ask place × (needs_threads ask ≡ true)
 
 -- the files that a command takes; one that isn't built takes none
 abbrev pub taken_words : Ask → List (List ℕ) → List (List ℕ)
@@ -81,7 +100,7 @@ Answers words told reply =
 -- what stands after a reply's text on `out`, of a command that has answered with status 0: after the matrices of a run its
 -- trace, if that is asked for
 abbrev pub WorkWrites : Ask → List (List ℕ) → List ℕ → List (List ℕ) → Reply → Type 0
-WorkWrites (Run workers depth grain pool trace) others tail contents reply = Runs depth grain (RunWrites trace tail) (built_run pool others) contents reply
+WorkWrites (Run workers depth grain pool trace) others tail contents reply = Runs depth grain (RunWrites pool trace tail) (built_run pool others) contents reply
 WorkWrites ask others tail contents reply = WorkAnswers ask others contents reply × (tail ≡ [])
 
 -- and nothing after another status

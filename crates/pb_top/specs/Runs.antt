@@ -16,6 +16,9 @@ use Rattle.pb_entry.specs.Entering.{CannotEnter, Enters}
 use Rattle.pb_entry.specs.Fitting.{AreBound, AreUnfit}
 use Rattle.pb_entry.specs.declared.refusal.RunRefusal.{RunRefusal}
 use Rattle.pb_taskgraph.specs.Graphs.{GraphValue, TaskValue}
+use Rattle.pb_taskgraph.specs.Orders.{IsLawful}
+use Rattle.pb_words.specs.declared.ask.Pool.{Pool}
+use Rattle.pb_words.specs.declared.ask.Pool.TheVariants as pools
 use Rattle.pb_recursion.specs.Depths.{call_at}
 use Rattle.pb_runs.specs.Matrices.{run_matrices}
 use Rattle.pb_runs.specs.Steps.{Step}
@@ -101,19 +104,27 @@ call_steps r = run_steps r.program r.found r.config r.grain r.depth r.number (gi
 abbrev pub graph_with : Fitting → List TaskValue → GraphValue
 graph_with r tasks = run_graph (given_as r.inputs) (run_matrices r.program r.found r.config r.grain r.depth r.number (given_as r.inputs)) (call_steps r) tasks
 
--- the trace of its tasks, by number
-pub record IsTraceOf (r : Fitting) (text : List ℕ) : Type 0 where
+-- the orders in which a pool may finish the tasks of a graph: by number on one thread, in any lawful order on several
+abbrev pub orders_of : Pool → GraphValue → List ℕ → Type 0
+orders_of pools.Serial graph order = order ≡ range_with_len 0 (length graph.tasks)
+orders_of pools.Locked graph order = IsLawful graph order
+orders_of pools.Steal graph order = IsLawful graph order
+
+-- the trace of its tasks, in an order in which the pool may finish them
+pub record IsTraceOf (pool : Pool) (r : Fitting) (text : List ℕ) : Type 0 where
   pub tasks : List TaskValue
   pub are_tasks : AreTasksOf (call_steps r) tasks
-  pub is : text ≡ trace_text (graph_with r tasks) (range_with_len 0 (length tasks))
+  pub order : List ℕ
+  pub allowed : orders_of pool (graph_with r tasks) order
+  pub is : text ≡ trace_text (graph_with r tasks) order
 
 -- what stands after the matrices on `out`, if a trace is asked for; after nothing else
-abbrev pub TailAfter : Fitting → Bool → Result (List MatrixValue) TrappedCell → List ℕ → Type 0
-TailAfter r true (Ok matrices) tail = IsTraceOf r tail
-TailAfter r traced answer tail = tail ≡ []
+abbrev pub TailAfter : Pool → Fitting → Bool → Result (List MatrixValue) TrappedCell → List ℕ → Type 0
+TailAfter pool r true (Ok matrices) tail = IsTraceOf pool r tail
+TailAfter pool r traced answer tail = tail ≡ []
 
-abbrev pub RunWrites : Bool → List ℕ → Fitting → Reply → Type 0
-RunWrites traced tail r reply = RunReplies r reply × TailAfter r traced (run_answer r) tail
+abbrev pub RunWrites : Pool → Bool → List ℕ → Fitting → Reply → Type 0
+RunWrites pool traced tail r reply = RunReplies r reply × TailAfter pool r traced (run_answer r) tail
 
 -- ---- all steps of a run, over what is asked of it where its counts are within their limits
 -- of the transform of this name

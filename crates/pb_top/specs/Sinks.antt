@@ -45,6 +45,13 @@ shelf_change files faults bytes asked old new = record {
 abbrev pub IsSound : ShelfChange → Type 0
 IsSound shelf = shelf.faults_now ≡ shelf.faults_before
 
+-- nothing was asked of the shelf
+pub record IsUntouched (shelf : ShelfChange) : Type 0 where
+  pub files : shelf.now ≡ shelf.before
+  pub faults : IsSound shelf
+  pub bytes : shelf.bytes_now ≡ shelf.bytes_before
+  pub asked : shelf.asked_now ≡ shelf.asked_before
+
 -- the first of these names were asked, in their order, and no other
 pub record AsksFront (names : List (List ℕ)) (before now : Option (List (List ℕ))) : Type 0 where
   pub front : List (List ℕ)

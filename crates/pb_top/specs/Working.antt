@@ -24,6 +24,10 @@ use Rattle.pb_top.specs.Sinks.{ShelfChange, SinkChange, IsSound, Gains, IsSteady
 use Rattle.pb_top.specs.Texts.{read_fault_line}
 use Rattle.pb_top.specs.Reply.{Reply, status_code, done_reply, refusal_reply}
 use Rattle.pb_top.specs.Steps.{Takes}
+use Rattle.pb_words.specs.declared.ask.Pool.{Pool}
+use Rattle.pb_words.specs.declared.ask.Pool.TheVariants.{Serial, Locked, Steal}
+use Rattle.pb_words.specs.declared.ask.Ask.{Ask}
+use Rattle.pb_words.specs.declared.ask.Ask.TheVariants.{Check, Choices, Run, Tune, Demo}
 use Rattle.pb_top.specs.Answer.{RunLine, is_dash, limited}
 use Rattle.pb_top.specs.Runs.{Fitting, IsTraceOf, trap_status}
 use Rattle.pb_top.specs.declared.reply.Status.{Status}
@@ -98,9 +102,19 @@ fitting_of r = record {
 }
 
 -- what stands after its matrices
-abbrev pub IsTailFor : RunValue → Bool → List ℕ → Type 0
-IsTailFor r true tail = IsTraceOf (fitting_of r) tail
-IsTailFor r false tail = tail ≡ []
+abbrev pub IsTailFor : Pool → RunValue → Bool → List ℕ → Type 0
+IsTailFor pool r true tail = IsTraceOf pool (fitting_of r) tail
+IsTailFor pool r false tail = tail ≡ []
+
+-- a run that is built and asked for runs on this pool
+abbrev pub RunsOn : Ask → Pool → Type 0
+RunsOn (Run workers depth grain Serial trace) pool = pool ≡ Serial
+RunsOn (Run workers depth grain Locked trace) pool = pool ≡ Locked
+RunsOn (Run workers depth grain Steal trace) pool = Unit {0}
+RunsOn Check pool = Unit {0}
+RunsOn Choices pool = Unit {0}
+RunsOn (Tune up_to) pool = Unit {0}
+RunsOn (Demo seed size workers) pool = Unit {0}
 
 -- the line of a run's trapped cell
 abbrev pub IsTrapped : RunValue → TrappedCell → Reply → Type 0

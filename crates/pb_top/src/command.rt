@@ -1,14 +1,19 @@
-ghost use Rattle.std.specs.Prelude.{◌≡◌, map, IsSome, IfSome, string_bytes, if◌then◌else◌, is_ok};
-ghost use Rattle.pb_top.specs.Sinks.{shelf_change, sink_change};
+ghost use Rattle.std.specs.Prelude.{◌≡◌, ◌≤◌, ⊥, map, IfNone, IfSome, string_bytes, if◌then◌else◌, is_ok};
+ghost use Rattle.pb_words.specs.declared.ask.Pool.TheVariants.{Locked, Serial};
+ghost use Rattle.pb_top.specs.Answer.{NeedThreads, needs_threads};
+ghost use Rattle.pb_top.specs.Sinks.{IsIdle, IsUntouched, shelf_change, sink_change};
 ghost use Rattle.pb_top.specs.Reply.{status_code};
-ghost use Rattle.pb_top.specs.Working.{IsWritten, StopIsWritten, LineIsWritten};
+ghost use Rattle.pb_top.specs.Working.{IsWritten, RunsOn, StopIsWritten, LineIsWritten};
 ghost use Rattle.pb_top.specs.Ends.{Ends};
+ghost use Rattle.pb_words.specs.Ranges.{IsInRange};
 
+use crate::pools::{OneThread, RunsTasks, UnderLock};
 use crate::put::put_all;
 use crate::reply::{Status, Stop, usage};
 use crate::work::work;
 use pb_outside::{Refused, Shelf, Sink};
-use pb_words::read_words;
+use pb_taskgraph::Gate;
+use pb_words::{Ask, Pool, read_words};
 use std::alloc::{AllocError, Global};
 use std::sync::Wait;
 use std::thread::Threads;
@@ -54,10 +59,52 @@ fn write_line<O: Sink, E: Sink>(line: Result<Stop, AllocError>, out: &mut O, err
     }
 }
 
+// Whether what is asked takes threads.
+fn needs_threads(ask: Ask) -> bool
+    ensures { result ≡ needs_threads ask }
+{
+    match ask {
+        Ask::Run {
+            pool: Pool::Locked | Pool::Steal,
+            ..
+        }
+        | Ask::Demo { .. } => true,
+        Ask::Run {
+            pool: Pool::Serial, ..
+        }
+        | Ask::Check
+        | Ask::Choices
+        | Ask::Tune { .. } => false,
+    }
+}
+
+// How many workers are asked for a run under a lock, if one is asked for.
+fn workers_under_lock(ask: Ask) -> Option<u32>
+    requires { IsInRange ask }
+    ensures some { IfSome result (λ workers. (1 ≤ workers) × (workers ≤ 64) × RunsOn ask Locked) }
+    ensures none { IfNone result (RunsOn ask Serial) }
+{
+    match ask {
+        Ask::Run {
+            workers,
+            pool: Pool::Locked,
+            ..
+        } => Some(workers),
+        Ask::Run {
+            pool: Pool::Serial | Pool::Steal,
+            ..
+        }
+        | Ask::Check
+        | Ask::Choices
+        | Ask::Tune { .. }
+        | Ask::Demo { .. } => None,
+    }
+}
+
 /// Does a command that needs no thread, and answers its status: 0 with a text on `out`, another with a line
 /// on `err`, 9 and 10 for a file that couldn't be read and a sink that refused, 11 where memory ran out. `words`
-/// are those after the program's name. It waits for nobody. None would ask for threads, which no command that is built
-/// needs.
+/// are those after the program's name. It waits for nobody. It answers None exactly where the words are in the grammar and
+/// ask for `demo`, or for `run` with a pool of threads; then it has taken no file and written nothing.
 pub fn pb_alone<S: Shelf, O: Sink, E: Sink>(
     alloc: Global,
     words: &[String],
@@ -65,29 +112,63 @@ pub fn pb_alone<S: Shelf, O: Sink, E: Sink>(
     out: &mut O,
     err: &mut E,
 ) -> Option<u8>
-    ensures some { IsSome result }
+    ensures none { IfNone result (NeedThreads (map string_bytes words.now)) }
+    ensures some { IfSome result (λ status. NeedThreads (map string_bytes words.now) → ⊥) }
+    ensures untaken { IfNone result (IsUntouched (shelf_change S.files S.faults S.taken S.asked shelf.old shelf.new)) }
+    ensures unwritten { IfNone result (IsIdle (sink_change O.written O.faults out.old out.new) × IsIdle (sink_change E.written E.faults err.old err.new)) }
     ensures ends { IfSome result (Ends (map string_bytes words.now) (shelf_change S.files S.faults S.taken S.asked shelf.old shelf.new)
         (sink_change O.written O.faults out.old out.new) (sink_change E.written E.faults err.old err.new)) }
 {
     let Some((ask, place)) = read_words(words) else {
         return Some(write_line(usage(alloc), out, err));
     };
-    let found = work(alloc, ask, &words[place..], shelf);
+    if needs_threads(ask) {
+        return None;
+    }
+    let found = work(alloc, &OneThread, ask, &words[place..], shelf);
     Some(write(&found, out, err))
 }
 
-/// Does all that the program does, and answers its status, as `pb_alone` says. `rt` starts the threads of the
-/// commands that need them, of which none is built.
-pub fn pb_command<R: Threads + Wait + Sync, S: Shelf, O: Sink, E: Sink>(
-    _rt: &R,
+// Does a command, with threads where it needs them.
+fn with_threads<R: Threads + Wait + Sync, S: Shelf, O: Sink, E: Sink, G: Gate>(
+    rt: &R,
     alloc: Global,
     words: &[String],
     shelf: &mut S,
     out: &mut O,
     err: &mut E,
+    gate: &G,
 ) -> u8
     ensures ends { Ends (map string_bytes words.now) (shelf_change S.files S.faults S.taken S.asked shelf.old shelf.new)
         (sink_change O.written O.faults out.old out.new) (sink_change E.written E.faults err.old err.new) result }
 {
-    pb_alone(alloc, words, shelf, out, err).unwrap()
+    let Some((ask, place)) = read_words(words) else {
+        return write_line(usage(alloc), out, err);
+    };
+    let others = &words[place..];
+    let found = match workers_under_lock(ask) {
+        Some(workers) => work(alloc, &UnderLock::new(rt, workers, gate), ask, others, shelf),
+        None => work(alloc, &OneThread, ask, others, shelf),
+    };
+    write(&found, out, err)
+}
+
+/// Does all that the program does, and answers its status, as `pb_alone` says. `rt` starts the threads of the
+/// pools, and each worker calls the gate's `enter` before it runs a task.
+pub fn pb_command<R: Threads + Wait + Sync, S: Shelf, O: Sink, E: Sink, G: Gate>(
+    rt: &R,
+    alloc: Global,
+    words: &[String],
+    shelf: &mut S,
+    out: &mut O,
+    err: &mut E,
+    gate: &G,
+) -> u8
+    ensures ends { Ends (map string_bytes words.now) (shelf_change S.files S.faults S.taken S.asked shelf.old shelf.new)
+        (sink_change O.written O.faults out.old out.new) (sink_change E.written E.faults err.old err.new) result }
+{
+    match pb_alone(alloc, words, shelf, out, err) {
+        Some(status) => status,
+        None => with_threads(rt, alloc, words, shelf, out, err, gate),
+    }
 }

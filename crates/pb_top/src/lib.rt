@@ -3,7 +3,7 @@
 //! In: words, a shelf, two sinks. Out: the status, and the text of the answer on one of the sinks. The one
 //! theorem is the clause `ends` of `pb_command`, and `pb_alone` has the same where it answers: `specs/Ends.antt` says how
 //! a call ends, over `specs/Answer.antt`, which says what words and files have for an answer, by the steps of
-//! `specs/Steps.antt` and `specs/Runs.antt`. `check`, `choices` and `run` on one thread are built.
+//! `specs/Steps.antt` and `specs/Runs.antt`. `check`, `choices` and `run` on one thread and on threads under a lock are built.
 //! `reply` names the statuses and the lines on `err`, `work` dispatches, `command` writes.
 #![tactic(auto)]
 
@@ -12,6 +12,7 @@ mod command;
 mod files;
 mod laws;
 mod phases;
+mod pools;
 mod put;
 mod reply;
 mod run;

@@ -4,7 +4,7 @@ ghost use Rattle.pb_top.specs.Answer.{built_run};
 use pb_words::Pool;
 use std::marker::Model;
 
-/// The words of a run on one thread, but for the program.
+/// The words of a run that is built, but for the program.
 #[derive(Drop)]
 pub struct RunLine<'a> {
     pub config: &'a str,
@@ -25,7 +25,7 @@ impl<'a> Model for RunLine<'a> {
 pub fn read_run(pool: Pool, others: &[String]) -> Option<RunLine<'_>>
     ensures { result ≡ built_run pool (map string_bytes others.now) }
 {
-    if !matches!(pool, Pool::Serial) {
+    if matches!(pool, Pool::Steal) {
         return None;
     }
     match others {

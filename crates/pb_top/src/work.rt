@@ -5,10 +5,11 @@ ghost use Rattle.pb_words.specs.Line.{least_others};
 ghost use Rattle.pb_top.specs.Sinks.{shelf_change, AsksFront};
 ghost use Rattle.pb_top.specs.Answer.{AskAnswers, IsTail, Runs, WorkWrites, is_dash, taken_words};
 ghost use Rattle.pb_top.specs.Runs.{RunWrites, RunsProgram};
-ghost use Rattle.pb_top.specs.Working.{HasFewInputs, ShelfWrites, Writes, contents_of, line_files, text_in, texts_of};
+ghost use Rattle.pb_top.specs.Working.{HasFewInputs, RunsOn, ShelfWrites, Writes, contents_of, line_files, text_in, texts_of};
 
 use crate::check::{check, choices};
 use crate::files::fetch_all;
+use crate::pools::RunsTasks;
 use crate::reply::{Stop, not_built};
 use crate::run::{RunLine, read_run};
 use crate::serial::{Request, run_program};
@@ -65,7 +66,7 @@ fn file_names<'a>(alloc: Global, ask: Ask, others: &'a [String]) -> Result<Vec<&
     match ask {
         Ask::Check | Ask::Choices => first_name(alloc, others),
         Ask::Run {
-            pool: Pool::Serial,
+            pool: Pool::Serial | Pool::Locked,
             ..
         } => run_names(alloc, others),
         Ask::Run { .. } | Ask::Tune { .. } | Ask::Demo { .. } => Ok(Vec::new(alloc)),
@@ -73,8 +74,9 @@ fn file_names<'a>(alloc: Global, ask: Ask, others: &'a [String]) -> Result<Vec<&
 }
 
 // A run over the texts of its program, of its configuration and of its inputs.
-fn run_line(
+fn run_line<P: RunsTasks>(
     alloc: Global,
+    pool: &P,
     line: &RunLine<'_>,
     depth: u32,
     grain: u64,
@@ -85,13 +87,14 @@ fn run_line(
 ) -> Result<Vec<u8>, Stop>
     requires texts { length line.now.inputs ≡ length texts.now }
     requires few { length line.now.inputs ≤ 16 }
-    ensures { Writes (λ tail. RunsProgram line.now.transform depth grain (RunWrites traced tail) program.now (text_in config.entry) (zip line.now.inputs (contents_of texts.now))) result }
+    ensures { Writes (λ tail. RunsProgram line.now.transform depth grain (RunWrites P.pool traced tail) program.now (text_in config.entry) (zip line.now.inputs (contents_of texts.now))) result }
 {
     let request = Request {
         transform: line.transform,
         depth,
         grain,
         traced,
+        pool,
         files: line.inputs,
         texts,
     };
@@ -99,8 +102,9 @@ fn run_line(
 }
 
 // A run over the bytes of its files.
-fn run(
+fn run<P: RunsTasks>(
     alloc: Global,
+    pool: &P,
     line: &Option<RunLine<'_>>,
     depth: u32,
     grain: u64,
@@ -109,7 +113,7 @@ fn run(
 ) -> Result<Vec<u8>, Stop>
     requires all { length contents.now ≡ length (line_files line.now) }
     requires few { HasFewInputs line.now }
-    ensures { Writes (λ tail. Runs depth grain (RunWrites traced tail) line.now (contents_of contents.now)) result }
+    ensures { Writes (λ tail. Runs depth grain (RunWrites P.pool traced tail) line.now (contents_of contents.now)) result }
 {
     let Some(line) = line else {
         return Err(not_built(alloc)?);
@@ -118,6 +122,7 @@ fn run(
     if is_dash(line.config) {
         return run_line(
             alloc,
+            pool,
             line,
             depth,
             grain,
@@ -130,6 +135,7 @@ fn run(
     let config = Some(contents[1].as_slice());
     run_line(
         alloc,
+        pool,
         line,
         depth,
         grain,
@@ -141,7 +147,14 @@ fn run(
 }
 
 // What is written of what is asked, over the bytes of its files.
-fn answer(alloc: Global, ask: Ask, others: &[String], contents: &[Vec<u8>]) -> Result<Vec<u8>, Stop>
+fn answer<P: RunsTasks>(
+    alloc: Global,
+    pool: &P,
+    ask: Ask,
+    others: &[String],
+    contents: &[Vec<u8>],
+) -> Result<Vec<u8>, Stop>
+    requires pool { RunsOn ask P.pool }
     requires enough { least_others ask ≤ length others.now }
     requires few { length others.now ≤ 19 }
     requires all { length contents.now ≡ length (taken_words ask (map string_bytes others.now)) }
@@ -151,14 +164,15 @@ fn answer(alloc: Global, ask: Ask, others: &[String], contents: &[Vec<u8>]) -> R
         Ask::Check => check(alloc, &contents[0]),
         Ask::Choices => choices(alloc, &contents[0]),
         Ask::Run {
-            pool,
+            pool: asked,
             trace,
             depth,
             grain,
             ..
         } => run(
             alloc,
-            &read_run(pool, others),
+            pool,
+            &read_run(asked, others),
             depth,
             grain,
             trace,
@@ -168,13 +182,15 @@ fn answer(alloc: Global, ask: Ask, others: &[String], contents: &[Vec<u8>]) -> R
     }
 }
 
-/// The work of what is asked, over the words after the options and the files of a shelf: a text for `out`, or why there is none.
-pub fn work<S: Shelf>(
+/// The work of what is asked, by the pool that it asks for, over the words after the options and the files of a shelf: a text for `out`, or why there is none.
+pub fn work<S: Shelf, P: RunsTasks>(
     alloc: Global,
+    pool: &P,
     ask: Ask,
     others: &[String],
     shelf: &mut S,
 ) -> Result<Vec<u8>, Stop>
+    requires pool { RunsOn ask P.pool }
     requires enough { least_others ask ≤ length others.now }
     requires few { length others.now ≤ 19 }
     ensures answer { ShelfWrites (taken_words ask (map string_bytes others.now)) (λ told tail reply. AskAnswers ask (map string_bytes others.now) told reply × IsTail ask (map string_bytes others.now) told reply tail)
@@ -185,5 +201,5 @@ pub fn work<S: Shelf>(
 {
     let names = file_names(alloc, ask, others)?;
     let contents = fetch_all(alloc, shelf, &names)?;
-    answer(alloc, ask, others, &contents)
+    answer(alloc, pool, ask, others, &contents)
 }

@@ -6,7 +6,7 @@ use Rattle.pb_top.proofs.FinishLemmas.{after_step}
 use Rattle.pb_top.proofs.serial.run_accepted.Goals as goal
 
 pub returns : goal.returns
-returns c =
+returns g c =
     let a = c.args.a.now in
     let p = bare_prog a.program in
     let r = c.args.r.now in
@@ -14,4 +14,4 @@ returns c =
     let text = text_in c.args.config in
     let config = c.in_ok-c.c in
     let said = subst (λ q. Configures (bare_prog q) text (Ok config)) c.prog.ensures.program c.in_ok-c.ensures.gives in
-    after_step (Configures p text) (λ tail. AfterConfig r.transform.now r.depth r.grain (RunWrites r.traced tail) p a.found files) config said c.run_configured.result c.run_configured.ensures
+    after_step (Configures p text) (λ tail. AfterConfig r.transform.now r.depth r.grain (RunWrites g.P.RunsTasks.pool r.traced tail) p a.found files) config said c.run_configured.result c.run_configured.ensures

@@ -9,20 +9,20 @@ use Rattle.pb_top.proofs.FinishLemmas.{after_step, step_stops}
 use Rattle.pb_top.proofs.serial.run_configured.Goals as goal
 
 pub returns-in_err-t : goal.returns-in_err-t
-returns-in_err-t c =
+returns-in_err-t g c =
     let p = bare_prog c.args.a.now.program in
     let r = c.args.r.now in
     let files = files_of r.files.now r.texts.now in
     let same = files_length r.files.now r.texts.now c.requires.texts in
     let e = err_from_is_err_and c.from_residual.result c.from_residual.ensures.1 in
-    rw (e.1, e.2) (step_stops (FindsTransform p r.transform.now (length files)) (λ tail number. AfterName r.transform.now r.depth r.grain (RunWrites r.traced tail) p c.args.a.now.found c.args.c.now number files)
+    rw (e.1, e.2) (step_stops (FindsTransform p r.transform.now (length files)) (λ tail number. AfterName r.transform.now r.depth r.grain (RunWrites g.P.RunsTasks.pool r.traced tail) p c.args.a.now.found c.args.c.now number files)
     c.in_err-t.field-0.0 (subst (λ n. StopsWith (λ reply. FindsTransform p r.transform.now n (Err reply)) c.in_err-t.field-0.0) (sym same) c.in_err-t.ensures))
 
 pub returns : goal.returns
-returns c =
+returns g c =
     let p = bare_prog c.args.a.now.program in
     let r = c.args.r.now in
     let files = files_of r.files.now r.texts.now in
     let same = files_length r.files.now r.texts.now c.requires.texts in
-    after_step (FindsTransform p r.transform.now (length files)) (λ tail number. AfterName r.transform.now r.depth r.grain (RunWrites r.traced tail) p c.args.a.now.found c.args.c.now number files)
+    after_step (FindsTransform p r.transform.now (length files)) (λ tail number. AfterName r.transform.now r.depth r.grain (RunWrites g.P.RunsTasks.pool r.traced tail) p c.args.a.now.found c.args.c.now number files)
     c.in_ok-t.t (subst (λ n. Enters p r.transform.now n c.in_ok-t.t) (sym same) c.in_ok-t.ensures) c.run_transform.result c.run_transform.ensures
