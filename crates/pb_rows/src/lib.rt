@@ -35,6 +35,8 @@ mod segments;
 #[cfg(test)]
 mod serial;
 #[cfg(test)]
+mod threads;
+#[cfg(test)]
 mod traces;
 #[cfg(test)]
 mod traps;

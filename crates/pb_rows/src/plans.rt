@@ -3,7 +3,7 @@ use crate::examples::{BAD, MUL};
 use crate::run::{Row, done, holds, stopped, trapped};
 use std::test::Fail;
 
-const LEFT: &str = "matrix 8 8
+pub const LEFT: &str = "matrix 8 8
 1 2 3 4 5 6 7 8
 2 4 6 8 10 12 14 16
 3 6 9 12 15 18 21 24
@@ -14,7 +14,7 @@ const LEFT: &str = "matrix 8 8
 8 16 24 32 40 48 56 64
 ";
 
-const RIGHT: &str = "matrix 8 8
+pub const RIGHT: &str = "matrix 8 8
 1 1 1 1 1 1 1 1
 0 1 1 1 1 1 1 1
 0 0 1 1 1 1 1 1
@@ -25,7 +25,7 @@ const RIGHT: &str = "matrix 8 8
 0 0 0 0 0 0 0 1
 ";
 
-const PRODUCT: &str = "matrix 8 8
+pub const PRODUCT: &str = "matrix 8 8
 1 3 6 10 15 21 28 36
 2 6 12 20 30 42 56 72
 3 9 18 30 45 63 84 108
@@ -37,7 +37,7 @@ const PRODUCT: &str = "matrix 8 8
 ";
 
 // Cells one by one below a side of 4, and above it each rule for its sides.
-const CHOSEN: &str = "choose MatrixMultiply.AB {0,1,2,3} = 0 until 4 then 1
+pub const CHOSEN: &str = "choose MatrixMultiply.AB {0,1,2,3} = 0 until 4 then 1
 choose MatrixMultiply.AB {0,2,3} = 0 until 4 then 3
 choose MatrixMultiply.AB {0,2} = 0 until 4 then 2
 ";

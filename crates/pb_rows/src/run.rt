@@ -1,7 +1,7 @@
 ghost use Rattle.std.specs.Prelude.{◌<◌};
 
 use pb_outside::{MemShelf, MemSink};
-use pb_taskgraph::OpenGate;
+use pb_taskgraph::{Gate, OpenGate};
 use pb_top::pb_command;
 use std::alloc::{AllocError, Global};
 use std::process::Abort;
@@ -88,11 +88,12 @@ fn words(alloc: Global, line: &str) -> Result<Vec<String>, AllocError> {
     Ok(words)
 }
 
-/// Runs a row and asserts its answer.
-pub fn holds<R: Threads + Wait + Sync + Abort>(
+/// Runs a row, whose workers pass this gate, and asserts its answer.
+pub fn passed<R: Threads + Wait + Sync + Abort, G: Gate>(
     rt: &R,
     alloc: Global,
     row: &Row,
+    gate: &G,
 ) -> Result<(), Fail> {
     let mut files = shelf(alloc, row)?;
     let mut out = sink(alloc, row)?;
@@ -104,12 +105,21 @@ pub fn holds<R: Threads + Wait + Sync + Abort>(
         &mut files,
         &mut out,
         &mut err,
-        &OpenGate,
+        gate,
     );
     assert_eq!(rt; status, row.status, "{}", row.words);
     assert_eq!(rt; out.written(), row.out.as_bytes(), "{}", row.words);
     assert_eq!(rt; err.written(), row.err.as_bytes(), "{}", row.words);
     Ok(())
+}
+
+/// Runs a row and asserts its answer.
+pub fn holds<R: Threads + Wait + Sync + Abort>(
+    rt: &R,
+    alloc: Global,
+    row: &Row,
+) -> Result<(), Fail> {
+    passed(rt, alloc, row, &OpenGate)
 }
 
 // A shelf with the files p and a.

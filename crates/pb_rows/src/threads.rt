@@ -1,0 +1,175 @@
+//! Runs on threads.
+use crate::examples::{DIV, DOUBLE, MUL, PREFIX, ROLL};
+use crate::plans::{CHOSEN, LEFT, PRODUCT, RIGHT};
+use crate::run::{Row, done, holds, passed, trapped};
+use crossbeam_utils::Backoff;
+use pb_taskgraph::Gate;
+use std::sync::atomic::{AtomicBool, Ordering};
+use std::test::Fail;
+
+const PRODUCT_FILES: crate::run::Files = &[("p", MUL), ("c", CHOSEN), ("a", LEFT), ("b", RIGHT)];
+
+const TEN: &str = "matrix 100
+10 10 10 10 10 10 10 10 10 10 10 10 10 10 10 10 10 10 10 10 10 10 10 10 10
+10 10 10 10 10 10 10 10 10 10 10 10 10 10 10 10 10 10 10 10 10 10 10 10 10
+10 10 10 10 10 10 10 10 10 10 10 10 10 10 10 10 10 10 10 10 10 10 10 10 10
+10 10 10 10 10 10 10 10 10 10 10 10 10 10 10 10 10 10 10 10 10 10 10 10 10
+";
+
+// Ones, but for zeros at the places 3 and 90.
+const DIVISORS: &str = "matrix 100
+1 1 1 0 1 1 1 1 1 1 1 1 1 1 1 1 1 1 1 1 1 1 1 1 1
+1 1 1 1 1 1 1 1 1 1 1 1 1 1 1 1 1 1 1 1 1 1 1 1 1
+1 1 1 1 1 1 1 1 1 1 1 1 1 1 1 1 1 1 1 1 1 1 1 1 1
+1 1 1 1 1 1 1 1 1 1 1 1 1 1 1 0 1 1 1 1 1 1 1 1 1
+";
+
+fn answered_rows() -> [Row; 5] {
+    [
+        done(
+            "run --pool locked p c MatrixMultiply a b",
+            PRODUCT_FILES,
+            PRODUCT,
+        ),
+        done(
+            "run --workers 8 --pool locked p c MatrixMultiply a b",
+            PRODUCT_FILES,
+            PRODUCT,
+        ),
+        done(
+            "run --workers 64 --pool locked p - Double a",
+            &[("p", DOUBLE), ("a", "matrix 1\n21\n")],
+            "matrix 1\n42\n",
+        ),
+        done(
+            "run --workers 4 --grain 1 --pool locked p - Prefix2 a",
+            &[("p", PREFIX), ("a", "matrix 3 2\n1 2 3\n4 5 6\n")],
+            "matrix 3 2\n1 3 6\n5 12 21\n",
+        ),
+        done(
+            "run --workers 4 --trace --pool locked p c RollingSum a",
+            &[
+                ("p", ROLL),
+                ("c", "choose RollingSum.B {0,1} = 0 until 2 then 1\n"),
+                ("a", "matrix 4\n1 2 3 4\n"),
+            ],
+            "matrix 4\n1 3 6 10\ntrace 2\ntask 0 call 0 block B[0,1)\ntask 1 call 0 block B[1,4)\n",
+        ),
+    ]
+}
+
+// Every task of two matrices is trapped; the first cell by place is told, whichever came first in time.
+const BOTH: &str = "transform Both from A[n] to B[n], C[n] {
+  to (B.cell(i) b) from (A.cell(i) a) { b = 1 / a; }
+  to (C.cell(i) c) from (A.cell(i) a) { c = 9223372036854775807 + 1 + a; }
+}
+";
+
+fn trapped_rows() -> [Row; 3] {
+    [
+        trapped(
+            "run --workers 8 --pool locked p c RollingSum a",
+            &[
+                ("p", ROLL),
+                ("c", "choose RollingSum.B {0,1} = 1\n"),
+                ("a", "matrix 3\n9223372036854775807 1 5\n"),
+            ],
+            "T Overflow: RollingSum.B (1,0), by RollingSum rule 1 (1,0)\n",
+        ),
+        trapped(
+            "run --grain 8 --workers 4 --pool locked p - Div a d",
+            &[("p", DIV), ("a", TEN), ("d", DIVISORS)],
+            "T DivideByZero: Div.Q (3,0), by Div rule 0 (3,0)\n",
+        ),
+        trapped(
+            "run --workers 2 --pool locked p - Both a",
+            &[("p", BOTH), ("a", "matrix 2\n0 0\n")],
+            "T DivideByZero: Both.B (0,0), by Both rule 0 (0,0)\n",
+        ),
+    ]
+}
+
+#[test]
+fn runs_under_a_lock_have_the_same_answers(rt: HostRuntime) -> Result<(), Fail> {
+    for row in answered_rows() {
+        holds(&rt, rt.alloc(), &row)?;
+    }
+    for row in trapped_rows() {
+        holds(&rt, rt.alloc(), &row)?;
+    }
+    Ok(())
+}
+
+// Two matrices that don't read each other.
+const TWO: &str = "transform Two from A[n] to B[n], C[n] {
+  to (B.cell(i) b) from (A.region(0, i + 1) a) { b = sum(a); }
+  to (B.cell(i) b) from (A.cell(i) a, B.cell(i - 1) l) { b = a + l; }
+  to (C.cell(i) c) from (A.region(0, i + 1) a) { c = sum(a); }
+  to (C.cell(i) c) from (A.cell(i) a, C.cell(i - 1) l) { c = a + l; }
+}
+";
+
+// Holds each of the tasks 0 and 1 until the other has entered, for so many tries.
+#[derive(Drop)]
+struct Meeting {
+    first: AtomicBool,
+    second: AtomicBool,
+    missed: AtomicBool,
+}
+
+const TRIES: u32 = 10_000_000;
+
+impl Meeting {
+    fn new() -> Meeting {
+        Meeting {
+            first: AtomicBool::new(false),
+            second: AtomicBool::new(false),
+            missed: AtomicBool::new(false),
+        }
+    }
+
+    fn meet(&self, mine: &AtomicBool, other: &AtomicBool) {
+        mine.store(true, Ordering::SeqCst);
+        let backoff = Backoff::new();
+        for _ in 0..TRIES {
+            if other.load(Ordering::SeqCst) {
+                return;
+            }
+            backoff.snooze();
+        }
+        self.missed.store(true, Ordering::SeqCst);
+    }
+
+    // Whether both tasks have entered, and none was let go alone.
+    fn has_met(&self) -> bool {
+        let both = self.first.load(Ordering::SeqCst) && self.second.load(Ordering::SeqCst);
+        both && !self.missed.load(Ordering::SeqCst)
+    }
+}
+
+impl Gate for Meeting {
+    fn enter(&self, task: u32) {
+        match task {
+            0 => self.meet(&self.first, &self.second),
+            1 => self.meet(&self.second, &self.first),
+            _ => {}
+        }
+    }
+}
+
+#[test]
+fn both_workers_are_inside_at_once(rt: HostRuntime) -> Result<(), Fail> {
+    let row = done(
+        "run --workers 2 --pool locked p c Two a",
+        &[
+            ("p", TWO),
+            ("c", "choose Two.B {0,1} = 1\nchoose Two.C {2,3} = 3\n"),
+            ("a", "matrix 3\n1 2 3\n"),
+        ],
+        "matrix 3\n1 3 6\nmatrix 3\n1 3 6\n",
+    );
+    let meeting = Meeting::new();
+    passed(&rt, rt.alloc(), &row, &meeting)?;
+    assert!(rt; meeting.has_met());
+    Ok(())
+}
