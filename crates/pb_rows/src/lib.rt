@@ -7,11 +7,15 @@ mod alone;
 #[cfg(test)]
 mod bodies;
 #[cfg(test)]
+mod calls;
+#[cfg(test)]
 mod check;
 #[cfg(test)]
 mod choices;
 #[cfg(test)]
 mod chosen;
+#[cfg(test)]
+mod counts;
 #[cfg(test)]
 mod devices;
 #[cfg(test)]
