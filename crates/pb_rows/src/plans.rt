@@ -165,9 +165,10 @@ const TWICE: &str =
     "transform Copy from A[m] to C[m] { to (C.cell(i) c) from (A.cell(i) a) { c = a; } }
 transform Twice from A[n] to B[n] { to (B b) from (A a) { let t[n]; t = Copy(a); b = Copy(t); } }
 transform Half from A[n] to B[n] { to (B b) from (A a, A.region(0, n/2) h) { let t[n]; t = Copy(h); b = Copy(a); } }
+transform Thrice from A[n] to B[n] { to (B b) from (A a) { let t[n]; t = Twice(a); b = Copy(t); } }
 ";
 
-fn traced_rows() -> [Row; 2] {
+fn traced_rows() -> [Row; 3] {
     [
         done(
             "run --trace --pool serial p - Twice a",
@@ -178,6 +179,12 @@ fn traced_rows() -> [Row; 2] {
             "run --trace --pool serial p - Half a",
             &[("p", TWICE), ("a", "matrix 4\n1 2 3 4\n")],
             "matrix 4\n1 2 3 4\ntrace 3\ntask 0 call 1 trap t[0,4)\ntask 1 call 2 block C[0,4)\ntask 2 call 0 copy B[0,4)\n",
+        ),
+        // The calls of the first call come before the second.
+        done(
+            "run --trace --pool serial p - Thrice a",
+            &[("p", TWICE), ("a", "matrix 3\n1 2 3\n")],
+            "matrix 3\n1 2 3\ntrace 5\ntask 0 call 2 block C[0,3)\ntask 1 call 3 block C[0,3)\ntask 2 call 1 copy B[0,3)\ntask 3 call 4 block C[0,3)\ntask 4 call 0 copy B[0,3)\n",
         ),
     ]
 }

@@ -1,7 +1,7 @@
 //! Runs on threads.
 use crate::examples::{DIV, DOUBLE, MUL, PREFIX, ROLL};
 use crate::plans::{CHOSEN, LEFT, PRODUCT, RIGHT};
-use crate::run::{Row, done, holds, passed, trapped};
+use crate::run::{Row, done, holds, passed, stopped, trapped};
 use crossbeam_utils::Backoff;
 use pb_taskgraph::Gate;
 use std::sync::atomic::{AtomicBool, Ordering};
@@ -89,12 +89,37 @@ fn trapped_rows() -> [Row; 3] {
     ]
 }
 
+fn deep_rows() -> [Row; 3] {
+    [
+        done(
+            "run --workers 2 --depth 8 --pool locked p c MatrixMultiply a b",
+            PRODUCT_FILES,
+            PRODUCT,
+        ),
+        stopped(
+            "run --workers 2 --depth 7 --pool locked p c MatrixMultiply a b",
+            PRODUCT_FILES,
+            8,
+            "T DepthEnded: MatrixMultiply.AB (0,0), by MatrixMultiply rule 2 (0,0)\n",
+        ),
+        stopped(
+            "run --workers 2 --depth 1 --pool locked p c MatrixMultiply a b",
+            PRODUCT_FILES,
+            8,
+            "T DepthEnded: MatrixMultiply.AB (0,0), by MatrixMultiply rule 1 (0,0)\n",
+        ),
+    ]
+}
+
 #[test]
 fn runs_under_a_lock_have_the_same_answers(rt: HostRuntime) -> Result<(), Fail> {
     for row in answered_rows() {
         holds(&rt, rt.alloc(), &row)?;
     }
     for row in trapped_rows() {
+        holds(&rt, rt.alloc(), &row)?;
+    }
+    for row in deep_rows() {
         holds(&rt, rt.alloc(), &row)?;
     }
     Ok(())

@@ -1,4 +1,4 @@
--- What a run on one thread answers to a program, a configuration and inputs, and what it writes after that.
+-- What a run answers to a program, a configuration and inputs, and what it writes after that.
 use Rattle.std.specs.Prelude.{◌≡◌, ℕ, Bool, true, List, [], ◌++◌, length, Option, Some, None, Result, Ok, Err, slice_get}
 use Rattle.std.specs.List.{range_with_len}
 use Rattle.pb_values.specs.declared.outcome.Kind.{Kind}
