@@ -68,7 +68,11 @@ const ALONE: &[(&str, Option<u8>, &str)] = &[
     ("run p - Double a", None, ""),
     ("run --pool steal q - Nope", None, ""),
     ("run --pool locked p - Double a", None, ""),
-    ("run --workers 1 --pool serial p - Double a", Some(0), "p a "),
+    (
+        "run --workers 1 --pool serial p - Double a",
+        Some(0),
+        "p a ",
+    ),
     ("run --pool serial p - Double", Some(5), "p "),
     ("run --pool serial p c Double a", Some(14), "p c "),
     ("run --pool serial p - Double a a a", Some(5), "p a a a "),

@@ -70,7 +70,8 @@ fn needs_threads(ask: Ask) -> bool
         }
         | Ask::Demo { .. } => true,
         Ask::Run {
-            pool: Pool::Serial, ..
+            pool: Pool::Serial,
+            ..
         }
         | Ask::Check
         | Ask::Choices
@@ -147,7 +148,13 @@ fn with_threads<R: Threads + Wait + Sync, S: Shelf, O: Sink, E: Sink, G: Gate>(
     };
     let others = &words[place..];
     let found = match workers_under_lock(ask) {
-        Some(workers) => work(alloc, &UnderLock::new(rt, workers, gate), ask, others, shelf),
+        Some(workers) => work(
+            alloc,
+            &UnderLock::new(rt, workers, gate),
+            ask,
+            others,
+            shelf,
+        ),
         None => work(alloc, &OneThread, ask, others, shelf),
     };
     write(&found, out, err)

@@ -12,8 +12,8 @@ ghost use Rattle.pb_top.specs.Runs.{AfterAccept, AfterConfig, AfterInputs, After
 ghost use Rattle.pb_top.specs.Steps.{AfterResolved};
 ghost use Rattle.pb_top.specs.Working.{IsTailFor, IsTrapped, StopsWith, Writes, files_of, fitting_of, text_in};
 
-use crate::pools::RunsTasks;
 use crate::phases::{accept, read, resolve_names};
+use crate::pools::RunsTasks;
 use crate::reply::{Status, Stop};
 use crate::steps::{begin_run, configure, find_transform, read_inputs};
 use pb_check::Accepted;
@@ -141,7 +141,12 @@ fn run_transform<P: RunsTasks>(
 }
 
 /// The run with a configuration.
-fn run_configured<P: RunsTasks>(alloc: Global, a: &Accepted, c: &Config, r: &Request<'_, P>) -> Result<Vec<u8>, Stop>
+fn run_configured<P: RunsTasks>(
+    alloc: Global,
+    a: &Accepted,
+    c: &Config,
+    r: &Request<'_, P>,
+) -> Result<Vec<u8>, Stop>
     requires valid { IsValid (bare_prog a.now.program) c.now }
     requires texts { length r.now.files.now ≡ length r.now.texts.now }
     requires few { length r.now.files.now ≤ 16 }
