@@ -5,11 +5,14 @@ use Rattle.std.specs.declared.alloc.Global.{Global}
 use Rattle.std.proofs.lemmas.List.{drop-map, length-drop, length-map, take_all}
 use Rattle.pb_outside.specs.Shelf.{Files}
 use Rattle.pb_words.specs.declared.ask.Pool.{Pool}
-use Rattle.pb_top.specs.Answer.{RunLine, Runs, content_at, is_dash, limited}
-use Rattle.pb_top.specs.Reply.{Reply}
+use Rattle.pb_words.specs.declared.ask.Pool.TheVariants.{Locked, Serial, Steal}
+use Rattle.pb_words.specs.declared.ask.Ask.{Ask}
+use Rattle.pb_words.specs.declared.ask.Ask.TheVariants.{Check, Choices, Demo, Run, Tune}
+use Rattle.pb_top.specs.Answer.{RunLine, Runs, content_at, is_dash, is_under_lock, limited, needs_threads}
 use Rattle.pb_top.specs.Runs.{RunWrites, RunsProgram}
 use Rattle.pb_top.specs.Steps.{Takes, TakesFile}
-use Rattle.pb_top.specs.Working.{Writes, contents_of, line_files}
+use Rattle.pb_top.specs.Working.{Prepares, contents_of, line_files}
+use Rattle.pb_top.specs.declared.prepare.Prepared.{Prepared}
 use Rattle.pb_top.specs.declared.reply.Stop.{Stop}
 use Rattle.pb_top.proofs.StepLemmas.{each_length}
 
@@ -37,12 +40,15 @@ rest_is : (contents texts : List (Vec ℕ Global)) (k : ℕ) → texts ≡ take 
 rest_is contents texts k is =
     ap contents_of (is ∙ take_all (length contents - k) (drop k contents) (omega (arith, length-drop k contents))) ∙ sym (drop-map items k contents)
 
-module _ (depth grain : ℕ) (pool : Pool) (traced : Bool) (line : RunLine) (contents : List (Vec ℕ Global)) (count : length contents ≡ length (line_files (Some line))) (a : Vec ℕ Global) (at : a ≡ get_or contents 0 a) (program : List ℕ) (program_is : program ≡ a.items) (texts : List (Vec ℕ Global)) (found : Result (Vec ℕ Global) Stop) where
-  abbrev End : List ℕ → List ℕ → Option (List ℕ) → List (List ℕ × List ℕ) → Reply → Type 0
-  End tail p text files = RunsProgram line.transform depth grain (RunWrites pool traced tail) p text files
+module _ (depth grain : ℕ) (traced : Bool) (line : RunLine) (contents : List (Vec ℕ Global)) (count : length contents ≡ length (line_files (Some line))) (a : Vec ℕ Global) (at : a ≡ get_or contents 0 a) (program : List ℕ) (program_is : program ≡ a.items) (texts : List (Vec ℕ Global)) (found : Result Prepared Stop) where
+  abbrev Is : List ℕ → Option (List ℕ) → List (List ℕ) → Type 0
+  Is p text rest = Prepares line.transform depth grain traced (λ pool tail. RunsProgram line.transform depth grain (RunWrites pool traced tail) p text (zip line.inputs rest)) found
 
   abbrev Goal : Option (List ℕ) → List (List ℕ) → Type 0
-  Goal text rest = Writes (λ tail. End tail (content_at (contents_of contents) 0) text (zip line.inputs rest)) found
+  Goal text rest = Is (content_at (contents_of contents) 0) text rest
+
+  abbrev All : Type 0
+  All = Prepares line.transform depth grain traced (λ pool tail. Runs depth grain (RunWrites pool traced tail) (Some line) (contents_of contents)) found
 
   some_there : (dash : Bool) → is_dash line.config ≡ dash → 0 < length contents
   some_there dash is = omega (arith, count)
@@ -50,19 +56,27 @@ module _ (depth grain : ℕ) (pool : Pool) (traced : Bool) (line : RunLine) (con
   first : program ≡ content_at (contents_of contents) 0
   first = program_is ∙ content_is contents 0 a (some_there (is_dash line.config) refl) at
 
-  pub without_config : is_dash line.config ≡ true → texts ≡ take (length contents - 1) (drop 1 contents) → Writes (λ tail. End tail program None (zip line.inputs (contents_of texts))) found
-      → Writes (λ tail. Runs depth grain (RunWrites pool traced tail) (Some line) (contents_of contents)) found
+  pub without_config : is_dash line.config ≡ true → texts ≡ take (length contents - 1) (drop 1 contents) → Is program None (contents_of texts) → All
   without_config dash rest writes =
-      let moved : Goal None (drop 1 (contents_of contents)) = subst (λ r. Goal None r) (rest_is contents texts 1 rest) (subst (λ p. Writes (λ tail. End tail p None (zip line.inputs (contents_of texts))) found) first writes) in
+      let moved : Goal None (drop 1 (contents_of contents)) = subst (λ r. Goal None r) (rest_is contents texts 1 rest) (subst (λ p. Is p None (contents_of texts)) first writes) in
       subst (λ b. Goal (cond b None (Some (content_at (contents_of contents) 1))) (drop (cond b 1 2) (contents_of contents))) (sym dash) moved
 
   module _ (plain : is_dash line.config ≡ false) (b : Vec ℕ Global) (at_b : b ≡ get_or contents 1 b) (config : List ℕ) (config_is : config ≡ b.items) where
     two_there : 1 < length contents
     two_there = omega (arith, count, ap (λ d. length ([] ∷ cond d line.inputs (line.config ∷ line.inputs))) plain)
 
-    pub with_config : texts ≡ take (length contents - 2) (drop 2 contents) → Writes (λ tail. End tail program (Some config) (zip line.inputs (contents_of texts))) found
-        → Writes (λ tail. Runs depth grain (RunWrites pool traced tail) (Some line) (contents_of contents)) found
+    pub with_config : texts ≡ take (length contents - 2) (drop 2 contents) → Is program (Some config) (contents_of texts) → All
     with_config rest writes =
         let second = config_is ∙ content_is contents 1 b two_there at_b in
-        let moved : Goal (Some (content_at (contents_of contents) 1)) (drop 2 (contents_of contents)) = subst (λ c. Goal (Some c) (drop 2 (contents_of contents))) second (subst (λ r. Goal (Some config) r) (rest_is contents texts 2 rest) (subst (λ p. Writes (λ tail. End tail p (Some config) (zip line.inputs (contents_of texts))) found) first writes)) in
+        let moved : Goal (Some (content_at (contents_of contents) 1)) (drop 2 (contents_of contents)) = subst (λ c. Goal (Some c) (drop 2 (contents_of contents))) second (subst (λ r. Goal (Some config) r) (rest_is contents texts 2 rest) (subst (λ p. Is p (Some config) (contents_of texts)) first writes)) in
         subst (λ d. Goal (cond d None (Some (content_at (contents_of contents) 1))) (drop (cond d 1 2) (contents_of contents))) (sym plain) moved
+
+-- what is asked on no lock is what it is
+pub not_locked : (ask : Ask) → needs_threads ask ≡ false → is_under_lock ask ≡ false
+not_locked Check plain = refl
+not_locked Choices plain = refl
+not_locked (Run workers depth grain Serial trace) plain = refl
+not_locked (Run workers depth grain Locked trace) plain = absurd (cc)
+not_locked (Run workers depth grain Steal trace) plain = refl
+not_locked (Tune up_to) plain = refl
+not_locked (Demo seed size workers) plain = refl

@@ -1,5 +1,5 @@
 -- From what the work ended with, once it was written, to how the call ends.
-use Rattle.std.proofs.Common.{◌≡◌, ◌≢◌, ℕ, suc, ◌<◌, ◌≤◌, List, [], ◌∷◌, ◌++◌, length, map, take, drop, ◌-◌, String, Option, Some, None, ◌⊎◌, Result, Ok, Err, IfOk, Vec, Contains, inl, inr, string_bytes, refl, sym, ap, subst, ◌∙◌, append-nil, arith}
+use Rattle.std.proofs.Common.{◌≡◌, ◌≢◌, true, false, ℕ, suc, ◌<◌, ◌≤◌, List, [], ◌∷◌, ◌++◌, length, map, take, drop, ◌-◌, String, Option, Some, None, ◌⊎◌, Result, Ok, Err, IfOk, Vec, Contains, inl, inr, string_bytes, refl, sym, ap, subst, ◌∙◌, append-nil, arith}
 use Rattle.std.specs.declared.alloc.Global.{Global}
 use Rattle.std.specs.declared.alloc.AllocError.{AllocError}
 use Rattle.std.proofs.lemmas.List.Elements.{Contains-append_right}
@@ -11,7 +11,7 @@ use Rattle.pb_words.specs.declared.ask.Ask.{Ask}
 use Rattle.pb_words.proofs.LineLemmas.{one_reading}
 use Rattle.pb_top.specs.Sinks.{ShelfChange, SinkChange, IsSound, IsUntouched, AsksFront, Gains, Stays, IsIdle}
 use Rattle.pb_top.specs.Reply.{Reply, status_code, done_reply, refusal_reply, usage}
-use Rattle.pb_top.specs.Answer.{taken_words, AskAnswers, Answers, IsTail, IsTailOf, IsOut, IsFileWord, AreFileWords}
+use Rattle.pb_top.specs.Answer.{NeedThreads, needs_threads, taken_words, AskAnswers, Answers, IsTail, IsTailOf, IsOut, IsFileWord, AreFileWords}
 use Rattle.pb_top.specs.Ends.{IsReadFault, Shows, IsAnswerStatus, AreSteady, AsksInOrder, OutBreaks, ErrBreaks, Ends}
 use Rattle.pb_top.specs.Working.{IsRefusal, StopsWith, ShelfWrites, WritesTo, IsWritten, LineIsWritten}
 use Rattle.pb_top.specs.declared.reply.Status.{Status}
@@ -237,3 +237,51 @@ usage_ends words shelf out err line status outside same =
 pub texts_after : (words : List (String Global)) (place : ℕ) → map string_bytes (take (length words - place) (drop place words)) ≡ drop place (map string_bytes words)
 texts_after words place =
     ap (map string_bytes) (take_all (length words - place) (drop place words) (omega (arith, length-drop place words))) ∙ sym (drop-map string_bytes place words)
+
+-- ---- commands that need threads, and those that don't
+pub no_threads : (words : List (List ℕ)) (ask : Ask) (place : ℕ) → Line words ask place → needs_threads ask ≡ false → NeedThreads words → ⊥
+no_threads words ask place line plain (other, there, again, need) =
+    let same = one_reading words other ask there place again line in
+    let both : false ≡ true = sym plain ∙ subst (λ a. needs_threads a ≡ true) same.0 need in
+    absurd (cc)
+
+-- what is done after nothing was done
+abbrev shelf_after : ShelfChange → ShelfChange → ShelfChange
+shelf_after a b = record { before = a.before; now = b.now; faults_before = a.faults_before; faults_now = b.faults_now; bytes_before = a.bytes_before; bytes_now = b.bytes_now; asked_before = a.asked_before; asked_now = b.asked_now }
+
+abbrev sink_after : SinkChange → SinkChange → SinkChange
+sink_after a b = record { before = a.before; now = b.now; faults_before = a.faults_before; faults_now = b.faults_now }
+
+record Follows (a b : ShelfChange) : Type 0 where
+  before : b.before ≡ a.now
+  faults : b.faults_before ≡ a.faults_now
+  bytes : b.bytes_before ≡ a.bytes_now
+  asked : b.asked_before ≡ a.asked_now
+
+record FollowsSink (a b : SinkChange) : Type 0 where
+  before : b.before ≡ a.now
+  faults : b.faults_before ≡ a.faults_now
+
+same_shelf : (a b : ShelfChange) → IsUntouched a → Follows a b → b ≡ shelf_after a b
+same_shelf a b h f i = record {
+  before = (f.before ∙ h.files) i;
+  now = b.now;
+  faults_before = (f.faults ∙ h.faults) i;
+  faults_now = b.faults_now;
+  bytes_before = (f.bytes ∙ h.bytes) i;
+  bytes_now = b.bytes_now;
+  asked_before = (f.asked ∙ h.asked) i;
+  asked_now = b.asked_now;
+}
+
+same_sink : (a b : SinkChange) → IsIdle a → FollowsSink a b → b ≡ sink_after a b
+same_sink a b h f i = record { before = (f.before ∙ h.stays) i; now = b.now; faults_before = (f.faults ∙ h.steady) i; faults_now = b.faults_now }
+
+pub ends_after : (words : List (List ℕ)) (status : ℕ) (a b : ShelfChange) (out_a out_b err_a err_b : SinkChange) → IsUntouched a → IsIdle out_a → IsIdle err_a
+    → (b.before ≡ a.now) × (b.faults_before ≡ a.faults_now) × (b.bytes_before ≡ a.bytes_now) × (b.asked_before ≡ a.asked_now)
+    → (out_b.before ≡ out_a.now) × (out_b.faults_before ≡ out_a.faults_now) → (err_b.before ≡ err_a.now) × (err_b.faults_before ≡ err_a.faults_now)
+    → Ends words b out_b err_b status → Ends words (shelf_after a b) (sink_after out_a out_b) (sink_after err_a err_b) status
+ends_after words status a b out_a out_b err_a err_b h out_idle err_idle f fo fe ends =
+    subst (λ s. Ends words s (sink_after out_a out_b) (sink_after err_a err_b) status) (same_shelf a b h (record { before = f.0; faults = f.1; bytes = f.2; asked = f.3 }))
+    (subst (λ o. Ends words b o (sink_after err_a err_b) status) (same_sink out_a out_b out_idle (record { before = fo.0; faults = fo.1 }))
+    (subst (λ e. Ends words b out_b e status) (same_sink err_a err_b err_idle (record { before = fe.0; faults = fe.1 })) ends))

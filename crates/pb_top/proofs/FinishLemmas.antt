@@ -1,5 +1,5 @@
 -- From the steps of a run to what it writes.
-use Rattle.std.proofs.Common.{◌≡◌, ◌∙◌, refl, sym, ap, subst, ℕ, zero, suc, ◌+◌, ◌<◌, Bool, true, false, List, [], ◌∷◌, length, Option, Some, None, slice_get, Result, Ok, Err, Vec, ◌⊎◌, inl, inr, arith}
+use Rattle.std.proofs.Common.{◌≡◌, ◌∙◌, refl, sym, ap, subst, ℕ, zero, suc, ◌+◌, ◌<◌, Bool, true, false, List, [], ◌∷◌, length, get_or, Option, Some, None, slice_get, Result, Ok, Err, Vec, ◌⊎◌, inl, inr, arith}
 use Rattle.std.specs.Prelude.{IsSomeAnd}
 use Rattle.std.specs.List.{All, range_with_len, zip}
 use Rattle.std.specs.declared.alloc.Global.{Global}
@@ -26,9 +26,12 @@ use Rattle.pb_taskgraph.specs.Trace.{trace_text}
 use Rattle.pb_run_lines.specs.RunLines.{run_line}
 use Rattle.pb_top.specs.Reply.{Reply, done_reply, refusal_reply}
 use Rattle.pb_words.specs.declared.ask.Pool.{Pool}
+use Rattle.pb_words.specs.declared.ask.Pool.TheVariants.{Locked, Serial, Steal}
+use Rattle.pb_taskgraph.specs.Orders.{IsLawful}
 use Rattle.pb_top.specs.Runs.{AfterInputs, Fitting, IsTraceOf, RunWrites, TailAfter, orders_of, answer_reply, graph_with, run_answer}
 use Rattle.pb_top.specs.Steps.{Then}
-use Rattle.pb_top.specs.Working.{CannotRun, IsTailFor, IsTrapped, StopsWith, Writes, fitting_of, refusal_status}
+use Rattle.pb_top.specs.Working.{CannotRun, Continues, IsTailFor, IsTrapped, Prepares, StopsWith, Writes, fitting_of, refusal_status}
+use Rattle.pb_top.specs.declared.prepare.Prepared.{Prepared}
 use Rattle.pb_top.specs.declared.reply.Status.{Status}
 use Rattle.pb_top.specs.declared.reply.Status.TheVariants as status
 use Rattle.pb_top.specs.declared.reply.Stop.{Stop}
@@ -40,13 +43,30 @@ below : (a n top : ℕ) → a + n ≡ top → All (λ t. t < top) (range_with_le
 below a zero top e = All-nil (λ t. t < top)
 below a (suc n) top e = All-cons (λ t. t < top) a (range_with_len (a + 1) n) (omega (arith, e)) (below (a + 1) n top (omega (arith, e)))
 
-pub are_tasks : (order : List ℕ) (n : ℕ) → order ≡ range_with_len 0 n → All (λ t. t < n) order
+are_tasks : (order : List ℕ) (n : ℕ) → order ≡ range_with_len 0 n → All (λ t. t < n) order
 are_tasks order n is = subst (All (λ t. t < n)) (sym is) (below 0 n n (omega arith))
+
+-- an order that a pool may have names tasks of the graph alone
+same_at : (xs : List ℕ) (k d : ℕ) → k < length xs → get_or xs k (get_or xs k d) ≡ get_or xs k d
+same_at [] k d below = absurd (omega (arith, below))
+same_at (x ∷ xs) zero d below = refl
+same_at (x ∷ xs) (suc k) d below = same_at xs k d (omega (arith, below))
+
+lawful_below : (g : GraphValue) (order : List ℕ) → IsLawful g order → All (λ t. t < length g.tasks) order
+lawful_below g order is k d below = is.only (get_or order k d) (k, below, same_at order k d below)
+
+orders_below : (pool : Pool) (g : GraphValue) (order : List ℕ) → orders_of pool g order → All (λ t. t < length g.tasks) order
+orders_below Serial g order is = are_tasks order (length g.tasks) is
+orders_below Locked g order is = lawful_below g order is
+orders_below Steal g order is = lawful_below g order is
 
 -- the graph of what a run stands for
 pub run_graph : (r : RunValue) → (run_plan r).graph ≡ graph_with (fitting_of r) r.graph.tasks
 unfolding run_plan plan_of_run
 run_graph r = refl
+
+pub names_tasks : (pool : Pool) (r : RunValue) (order : List ℕ) → orders_of pool (run_plan r).graph order → All (λ t. t < length r.graph.tasks) order
+names_tasks pool r order allowed = orders_below pool (graph_with (fitting_of r) r.graph.tasks) order (subst (λ g. orders_of pool g order) (run_graph r) allowed)
 
 pub is_trace : (pool : Pool) (r : RunValue) → IsRunning r → (order text : List ℕ) → orders_of pool (run_plan r).graph order → text ≡ trace_text r.graph order → IsTraceOf pool (fitting_of r) text
 is_trace pool r is order text allowed written = record {
@@ -56,6 +76,9 @@ is_trace pool r is order text allowed written = record {
   allowed = subst (λ g. orders_of pool g order) (run_graph r) allowed;
   is = written ∙ ap (λ (g : GraphValue). trace_text g order) is.begun.graph;
 }
+
+pub is_tail : (r : RunValue) → IsRunning r → (order text : List ℕ) → text ≡ trace_text r.graph order → (pool : Pool) → orders_of pool (run_plan r).graph order → IsTailFor pool r true text
+is_tail r is order text written pool allowed = is_trace pool r is order text allowed written
 
 -- ---- the answer
 answer_is : (r : RunValue) (o : Option TrappedCell) → trapped_in r ≡ o → run_answer (fitting_of r) ≡ unless_trapped o (results_in r)
@@ -146,12 +169,25 @@ module _ (a : AcceptedValue) (config : ConfigValue) (number : ℕ) (name : List 
         grain = u.of_grain i;
       }
 
--- ---- steps one after another
-pub after_step : {A : Type 0} (Step : Result A Reply → Type 0) (next : List ℕ → A → Reply → Type 0) (x : A) → Step (Ok x) → (found : Result (Vec ℕ Global) Stop) → Writes (λ tail. next tail x) found → Writes (λ tail. Then Step (next tail)) found
-after_step Step next x step = writes_map (λ tail. next tail x) (λ tail. Then Step (next tail)) (λ tail reply more. inl (x, step, more))
+-- ---- the steps before a run, one after another
+module _ (name : List ℕ) (depth grain : ℕ) (traced : Bool) where
+  pub prepares_map : (P Q : Pool → List ℕ → Reply → Type 0) → ((pool : Pool) (tail : List ℕ) (reply : Reply) → P pool tail reply → Q pool tail reply) → (found : Result Prepared Stop)
+      → Prepares name depth grain traced P found → Prepares name depth grain traced Q found
+  prepares_map P Q each (Ok b) says = λ pool tail reply more. each pool tail reply (says pool tail reply more)
+  prepares_map P Q each (Err stop) stops = λ pool. stops_map (P pool []) (Q pool []) (each pool []) stop (stops pool)
 
-pub step_stops : {A : Type 0} (Step : Result A Reply → Type 0) (next : List ℕ → A → Reply → Type 0) (stop : Stop) → StopsWith (λ reply. Step (Err reply)) stop → StopsWith (Then Step (next [])) stop
-step_stops Step next stop = stops_map (λ reply. Step (Err reply)) (Then Step (next [])) (λ reply s. inr s) stop
+  pub after_step : {A : Type 0} (Step : Result A Reply → Type 0) (next : Pool → List ℕ → A → Reply → Type 0) (x : A) → Step (Ok x) → (found : Result Prepared Stop)
+      → Prepares name depth grain traced (λ pool tail. next pool tail x) found → Prepares name depth grain traced (λ pool tail. Then Step (next pool tail)) found
+  after_step Step next x step = prepares_map (λ pool tail. next pool tail x) (λ pool tail. Then Step (next pool tail)) (λ pool tail reply more. inl (x, step, more))
+
+  pub step_stops : {A : Type 0} (Step : Result A Reply → Type 0) (next : Pool → List ℕ → A → Reply → Type 0) (stop : Stop) → StopsWith (λ reply. Step (Err reply)) stop
+      → Prepares name depth grain traced (λ pool tail. Then Step (next pool tail)) (Err stop)
+  step_stops Step next stop stops pool = stops_map (λ reply. Step (Err reply)) (Then Step (next pool [])) (λ reply s. inr s) stop stops
+
+  -- what a prepared run comes to is what the steps before it say
+  pub prepared_writes : (P : Pool → List ℕ → Reply → Type 0) (b : Prepared) (pool : Pool) (found : Result (Vec ℕ Global) Stop) → Prepares name depth grain traced P (Ok b)
+      → Writes (Continues name depth grain traced b pool) found → Writes (P pool) found
+  prepared_writes P b pool found says = writes_map (Continues name depth grain traced b pool) (P pool) (λ tail reply more. says pool tail reply more) found
 
 -- ---- inputs
 pub zip_length : {A B : Type 0} (xs : List A) (ys : List B) → length xs ≡ length ys → length (zip xs ys) ≡ length xs

@@ -47,6 +47,16 @@ needs_threads (Run workers depth grain Steal trace) = true
 needs_threads (Tune up_to) = false
 needs_threads (Demo seed size workers) = true
 
+-- a run on threads under a lock is asked for
+abbrev pub is_under_lock : Ask → Bool
+is_under_lock Check = false
+is_under_lock Choices = false
+is_under_lock (Run workers depth grain Serial trace) = false
+is_under_lock (Run workers depth grain Locked trace) = true
+is_under_lock (Run workers depth grain Steal trace) = false
+is_under_lock (Tune up_to) = false
+is_under_lock (Demo seed size workers) = false
+
 -- the words are a line that asks for that
 abbrev pub NeedThreads : List (List ℕ) → Type 0
 NeedThreads words = (ask : Ask) × (place : ℕ) × Line words ask place × (needs_threads ask ≡ true)

@@ -25,11 +25,13 @@ use Rattle.pb_top.specs.Texts.{read_fault_line}
 use Rattle.pb_top.specs.Reply.{Reply, status_code, done_reply, refusal_reply}
 use Rattle.pb_top.specs.Steps.{Takes}
 use Rattle.pb_words.specs.declared.ask.Pool.{Pool}
-use Rattle.pb_words.specs.declared.ask.Pool.TheVariants.{Serial, Locked, Steal}
-use Rattle.pb_words.specs.declared.ask.Ask.{Ask}
-use Rattle.pb_words.specs.declared.ask.Ask.TheVariants.{Check, Choices, Run, Tune, Demo}
 use Rattle.pb_top.specs.Answer.{RunLine, is_dash, limited}
-use Rattle.pb_top.specs.Runs.{Fitting, IsTraceOf, trap_status}
+use Rattle.pb_top.specs.Runs.{AfterInputs, Fitting, IsTraceOf, RunWrites, trap_status}
+use Rattle.pb_top.specs.declared.prepare.Prepared.{Prepared}
+use Rattle.pb_program.specs.Configs.{IsValid}
+use Rattle.pb_region.specs.Dims.{HasTransform}
+use Rattle.pb_run_work.specs.Given.{IsWhole}
+use Rattle.std.specs.List.{All}
 use Rattle.pb_top.specs.declared.reply.Status.{Status}
 use Rattle.pb_top.specs.declared.reply.Status.TheVariants.{Config, Input, TooLarge as TooMuch}
 use Rattle.pb_top.specs.declared.reply.Stop.{Stop}
@@ -106,19 +108,24 @@ abbrev pub IsTailFor : Pool → RunValue → Bool → List ℕ → Type 0
 IsTailFor pool r true tail = IsTraceOf pool (fitting_of r) tail
 IsTailFor pool r false tail = tail ≡ []
 
--- a run that is built and asked for runs on this pool
-abbrev pub RunsOn : Ask → Pool → Type 0
-RunsOn (Run workers depth grain Serial trace) pool = pool ≡ Serial
-RunsOn (Run workers depth grain Locked trace) pool = pool ≡ Locked
-RunsOn (Run workers depth grain Steal trace) pool = Unit {0}
-RunsOn Check pool = Unit {0}
-RunsOn Choices pool = Unit {0}
-RunsOn (Tune up_to) pool = Unit {0}
-RunsOn (Demo seed size workers) pool = Unit {0}
-
 -- the line of a run's trapped cell
 abbrev pub IsTrapped : RunValue → TrappedCell → Reply → Type 0
 IsTrapped r cell reply = reply ≡ refusal_reply (trap_status cell.trap.kind) (trap_line (prog_of r) r.number cell)
+
+-- what a run begins with fits together
+pub record IsReady (b : Prepared) : Type 0 where
+  pub valid : IsValid (bare_prog b.accepted.program) b.config
+  pub count : HasTransform (bare_prog b.accepted.program) b.transform (λ t. length b.inputs.items ≡ t.inputs)
+  pub whole : All IsWhole b.inputs.items
+
+-- what it comes to on a pool, with what stands after the matrices
+abbrev pub Continues : List ℕ → ℕ → ℕ → Bool → Prepared → Pool → List ℕ → Reply → Type 0
+Continues name depth grain traced b pool tail = AfterInputs name depth grain (RunWrites pool traced tail) (bare_prog b.accepted.program) b.accepted.found b.config b.transform b.inputs.items
+
+-- the steps before a run give what it begins with, so that what this comes to is what the relation says; or they stop
+abbrev pub Prepares : List ℕ → ℕ → ℕ → Bool → (Pool → List ℕ → Reply → Type 0) → Result Prepared Stop → Type 0
+Prepares name depth grain traced Says (Ok b) = (pool : Pool) (tail : List ℕ) (reply : Reply) → Continues name depth grain traced b pool tail reply → Says pool tail reply
+Prepares name depth grain traced Says (Err stop) = (pool : Pool) → StopsWith (Says pool []) stop
 
 -- the texts that slices refer to
 abbrev pub texts_of : List (Bor (List ℕ)) → List (List ℕ)

@@ -1,16 +1,13 @@
-ghost use Rattle.std.specs.Prelude.{◌≡◌, ◌≤◌, ⊥, map, IfNone, IfSome, string_bytes, if◌then◌else◌, is_ok};
-ghost use Rattle.pb_words.specs.declared.ask.Pool.TheVariants.{Locked, Serial};
+ghost use Rattle.std.specs.Prelude.{◌≡◌, map, IfNone, IfSome, string_bytes, if◌then◌else◌, is_ok};
 ghost use Rattle.pb_top.specs.Answer.{NeedThreads, needs_threads};
 ghost use Rattle.pb_top.specs.Sinks.{IsIdle, IsUntouched, shelf_change, sink_change};
 ghost use Rattle.pb_top.specs.Reply.{status_code};
-ghost use Rattle.pb_top.specs.Working.{IsWritten, RunsOn, StopIsWritten, LineIsWritten};
+ghost use Rattle.pb_top.specs.Working.{IsWritten, StopIsWritten, LineIsWritten};
 ghost use Rattle.pb_top.specs.Ends.{Ends};
-ghost use Rattle.pb_words.specs.Ranges.{IsInRange};
 
-use crate::pools::{OneThread, RunsTasks, UnderLock};
 use crate::put::put_all;
 use crate::reply::{Status, Stop, usage};
-use crate::work::work;
+use crate::work::{work, work_beside};
 use pb_outside::{Refused, Shelf, Sink};
 use pb_taskgraph::Gate;
 use pb_words::{Ask, Pool, read_words};
@@ -79,29 +76,6 @@ fn needs_threads(ask: Ask) -> bool
     }
 }
 
-// How many workers are asked for a run under a lock, if one is asked for.
-fn workers_under_lock(ask: Ask) -> Option<u32>
-    requires { IsInRange ask }
-    ensures some { IfSome result (λ workers. (1 ≤ workers) × (workers ≤ 64) × RunsOn ask Locked) }
-    ensures none { IfNone result (RunsOn ask Serial) }
-{
-    match ask {
-        Ask::Run {
-            workers,
-            pool: Pool::Locked,
-            ..
-        } => Some(workers),
-        Ask::Run {
-            pool: Pool::Serial | Pool::Steal,
-            ..
-        }
-        | Ask::Check
-        | Ask::Choices
-        | Ask::Tune { .. }
-        | Ask::Demo { .. } => None,
-    }
-}
-
 /// Does a command that needs no thread, and answers its status: 0 with a text on `out`, another with a line
 /// on `err`, 9 and 10 for a file that couldn't be read and a sink that refused, 11 where memory ran out. `words`
 /// are those after the program's name. It waits for nobody. It answers None exactly where the words are in the grammar and
@@ -126,7 +100,7 @@ pub fn pb_alone<S: Shelf, O: Sink, E: Sink>(
     if needs_threads(ask) {
         return None;
     }
-    let found = work(alloc, &OneThread, ask, &words[place..], shelf);
+    let found = work(alloc, ask, &words[place..], shelf);
     Some(write(&found, out, err))
 }
 
@@ -146,17 +120,7 @@ fn with_threads<R: Threads + Wait + Sync, S: Shelf, O: Sink, E: Sink, G: Gate>(
     let Some((ask, place)) = read_words(words) else {
         return write_line(usage(alloc), out, err);
     };
-    let others = &words[place..];
-    let found = match workers_under_lock(ask) {
-        Some(workers) => work(
-            alloc,
-            &UnderLock::new(rt, workers, gate),
-            ask,
-            others,
-            shelf,
-        ),
-        None => work(alloc, &OneThread, ask, others, shelf),
-    };
+    let found = work_beside(rt, alloc, ask, &words[place..], shelf, gate);
     write(&found, out, err)
 }
 

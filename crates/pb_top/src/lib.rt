@@ -10,13 +10,14 @@
 mod check;
 mod command;
 mod files;
+mod finish;
 mod laws;
 mod phases;
 mod pools;
+mod prepare;
 mod put;
 mod reply;
 mod run;
-mod serial;
 mod steps;
 mod work;
 

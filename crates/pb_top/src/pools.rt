@@ -1,76 +1,65 @@
 //! Who runs the tasks of a run.
 ghost use Rattle.std.specs.Prelude.{◌≡◌, ◌≤◌, IfOk};
-ghost use Rattle.pb_run_work.specs.Running.{run_plan};
-ghost use Rattle.pb_top.specs.Runs.{orders_of};
+ghost use Rattle.pb_words.specs.declared.ask.Pool.TheVariants.{Locked, Serial};
+ghost use Rattle.pb_top.specs.Working.{Continues, IsReady, Writes};
 
+use crate::finish::finish;
+use crate::prepare::Prepared;
+use crate::reply::Stop;
+use crate::steps::begin_run;
 use pb_locked::run_locked;
-use pb_taskgraph::{Finished, Gate, run_serial};
-use pb_unroll::Run;
-use std::alloc::{AllocError, Global};
-use std::marker::Model;
+use pb_taskgraph::{Gate, run_serial};
+use std::alloc::Global;
 use std::sync::Wait;
 use std::thread::Threads;
 
-/// What runs the tasks of a run, as one of the pools.
-pub trait RunsTasks {
-    ghost use Rattle.pb_words.specs.declared.ask.Pool.{Pool};
-
-    /// Which pool it is.
-    ghost pool: { Pool };
-
-    /// Runs all tasks: the outcomes of all cells, and the tasks in an order in which the pool may finish them.
-    fn run_tasks(&self, alloc: Global, run: &Run<'_>) -> Result<Finished, AllocError>
-        ensures outcomes { IfOk result (λ f. f.outcomes ≡ (run_plan run.now).solution) }
-        ensures order { IfOk result (λ f. orders_of pool (run_plan run.now).graph f.order) };
+/// The run on one thread, which runs the tasks by their numbers.
+pub fn run_alone(
+    alloc: Global,
+    prepared: Prepared,
+    name: &str,
+    depth: u32,
+    grain: u64,
+    traced: bool,
+) -> Result<Vec<u8>, Stop>
+    requires { IsReady prepared }
+    ensures { Writes (Continues name.now depth grain traced prepared Serial) result }
+{
+    let Prepared {
+        accepted,
+        config,
+        transform,
+        inputs,
+    } = prepared;
+    let run = begin_run(alloc, &accepted, &config, transform, name, inputs, depth, grain)?;
+    let finished = run_serial(alloc, &run)?;
+    finish(alloc, &run, &finished, traced)
 }
 
-/// One thread, which runs the tasks by their numbers.
-#[derive(Clone, Copy, Debug)]
-pub struct OneThread;
-
-impl RunsTasks for OneThread {
-    ghost use Rattle.pb_words.specs.declared.ask.Pool.TheVariants.{Serial};
-
-    ghost pool = { Serial };
-
-    fn run_tasks(&self, alloc: Global, run: &Run<'_>) -> Result<Finished, AllocError> {
-        run_serial(alloc, run)
-    }
-}
-
-/// So many workers over a board under one lock. Each calls the gate's `enter` before it runs a task.
-#[derive(Drop)]
-pub struct UnderLock<'a, R: Threads + Wait + Sync, G: Gate> {
-    rt: &'a R,
+/// The run on so many threads over a board under one lock. Each calls the gate's `enter` before it runs a task.
+pub fn run_under_lock<R: Threads + Wait + Sync, G: Gate>(
+    rt: &R,
+    alloc: Global,
+    prepared: Prepared,
+    name: &str,
+    depth: u32,
+    grain: u64,
+    traced: bool,
     workers: u32,
-    gate: &'a G,
-}
-
-impl<'a, R: Threads + Wait + Sync, G: Gate> Model for UnderLock<'a, R, G> {
-    ghost use Rattle.std.specs.Prelude.{ℕ, ◌≤◌};
-
-    ghost Value = { ℕ };
-
-    ghost view = { λ p. p.workers };
-
-    ghost invariant = { λ p. (1 ≤ p.workers) × (p.workers ≤ 64) };
-}
-
-impl<'a, R: Threads + Wait + Sync, G: Gate> UnderLock<'a, R, G> {
-    pub fn new(rt: &'a R, workers: u32, gate: &'a G) -> UnderLock<'a, R, G>
-        requires some { 1 ≤ workers }
-        requires few { workers ≤ 64 }
-    {
-        UnderLock { rt, workers, gate }
-    }
-}
-
-impl<'a, R: Threads + Wait + Sync, G: Gate> RunsTasks for UnderLock<'a, R, G> {
-    ghost use Rattle.pb_words.specs.declared.ask.Pool.TheVariants.{Locked};
-
-    ghost pool = { Locked };
-
-    fn run_tasks(&self, alloc: Global, run: &Run<'_>) -> Result<Finished, AllocError> {
-        run_locked(self.rt, alloc, run, self.workers, self.gate)
-    }
+    gate: &G,
+) -> Result<Vec<u8>, Stop>
+    requires ready { IsReady prepared }
+    requires some { 1 ≤ workers }
+    requires few { workers ≤ 64 }
+    ensures { Writes (Continues name.now depth grain traced prepared Locked) result }
+{
+    let Prepared {
+        accepted,
+        config,
+        transform,
+        inputs,
+    } = prepared;
+    let run = begin_run(alloc, &accepted, &config, transform, name, inputs, depth, grain)?;
+    let finished = run_locked(rt, alloc, &run, workers, gate)?;
+    finish(alloc, &run, &finished, traced)
 }

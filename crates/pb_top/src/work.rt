@@ -1,21 +1,26 @@
-ghost use Rattle.std.specs.Prelude.{◌≡◌, ◌≤◌, ◌++◌, [], length, take, map, string_bytes, IfOk};
+ghost use Rattle.std.specs.Prelude.{◌≡◌, ◌≤◌, ◌++◌, [], Some, false, length, take, map, string_bytes, IfOk};
+ghost use Rattle.pb_words.specs.Ranges.{IsInRange};
+ghost use Rattle.pb_words.specs.declared.ask.Pool.TheVariants.{Locked, Serial};
 ghost use Rattle.std.specs.List.{zip};
 ghost use Rattle.pb_words.specs.Files.{run_files};
 ghost use Rattle.pb_words.specs.Line.{least_others};
 ghost use Rattle.pb_top.specs.Sinks.{shelf_change, AsksFront};
-ghost use Rattle.pb_top.specs.Answer.{AskAnswers, IsTail, Runs, WorkWrites, is_dash, taken_words};
+ghost use Rattle.pb_top.specs.Answer.{AskAnswers, IsTail, Runs, WorkWrites, is_dash, is_under_lock, taken_words};
 ghost use Rattle.pb_top.specs.Runs.{RunWrites, RunsProgram};
-ghost use Rattle.pb_top.specs.Working.{HasFewInputs, RunsOn, ShelfWrites, Writes, contents_of, line_files, text_in, texts_of};
+ghost use Rattle.pb_top.specs.Working.{HasFewInputs, IsReady, Prepares, ShelfWrites, Writes, contents_of, line_files, text_in, texts_of};
 
 use crate::check::{check, choices};
 use crate::files::fetch_all;
-use crate::pools::RunsTasks;
+use crate::pools::{run_alone, run_under_lock};
+use crate::prepare::{Prepared, Request, prepare};
 use crate::reply::{Stop, not_built};
 use crate::run::{RunLine, read_run};
-use crate::serial::{Request, run_program};
 use pb_outside::Shelf;
+use pb_taskgraph::Gate;
 use pb_words::{Ask, Pool};
 use std::alloc::{AllocError, Global};
+use std::sync::Wait;
+use std::thread::Threads;
 
 // The first of some words.
 fn first_name<'a>(alloc: Global, words: &'a [String]) -> Result<Vec<&'a str>, AllocError>
@@ -73,10 +78,9 @@ fn file_names<'a>(alloc: Global, ask: Ask, others: &'a [String]) -> Result<Vec<&
     }
 }
 
-// A run over the texts of its program, of its configuration and of its inputs.
-fn run_line<P: RunsTasks>(
+// The steps before a run, over the texts of its program, of its configuration and of its inputs.
+fn prepare_texts(
     alloc: Global,
-    pool: &P,
     line: &RunLine<'_>,
     depth: u32,
     grain: u64,
@@ -84,45 +88,41 @@ fn run_line<P: RunsTasks>(
     program: &[u8],
     config: Option<&[u8]>,
     texts: &[Vec<u8>],
-) -> Result<Vec<u8>, Stop>
+) -> Result<Prepared, Stop>
     requires texts { length line.now.inputs ≡ length texts.now }
     requires few { length line.now.inputs ≤ 16 }
-    ensures { Writes (λ tail. RunsProgram line.now.transform depth grain (RunWrites P.pool traced tail) program.now (text_in config.entry) (zip line.now.inputs (contents_of texts.now))) result }
+    ensures prepares { Prepares line.now.transform depth grain traced (λ pool tail. RunsProgram line.now.transform depth grain (RunWrites pool traced tail) program.now (text_in config.entry) (zip line.now.inputs (contents_of texts.now))) result }
+    ensures ready { IfOk result IsReady }
 {
     let request = Request {
         transform: line.transform,
         depth,
         grain,
         traced,
-        pool,
         files: line.inputs,
         texts,
     };
-    run_program(alloc, program, config, &request)
+    prepare(alloc, program, config, &request)
 }
 
-// A run over the bytes of its files.
-fn run<P: RunsTasks>(
+// The steps before a run, over the bytes of its files.
+fn prepare_line(
     alloc: Global,
-    pool: &P,
-    line: &Option<RunLine<'_>>,
+    line: &RunLine<'_>,
     depth: u32,
     grain: u64,
     traced: bool,
     contents: &[Vec<u8>],
-) -> Result<Vec<u8>, Stop>
-    requires all { length contents.now ≡ length (line_files line.now) }
-    requires few { HasFewInputs line.now }
-    ensures { Writes (λ tail. Runs depth grain (RunWrites P.pool traced tail) line.now (contents_of contents.now)) result }
+) -> Result<Prepared, Stop>
+    requires all { length contents.now ≡ length (line_files (Some line.now)) }
+    requires few { length line.now.inputs ≤ 16 }
+    ensures prepares { Prepares line.now.transform depth grain traced (λ pool tail. Runs depth grain (RunWrites pool traced tail) (Some line.now) (contents_of contents.now)) result }
+    ensures ready { IfOk result IsReady }
 {
-    let Some(line) = line else {
-        return Err(not_built(alloc)?);
-    };
     let program = &contents[0];
     if is_dash(line.config) {
-        return run_line(
+        return prepare_texts(
             alloc,
-            pool,
             line,
             depth,
             grain,
@@ -133,9 +133,8 @@ fn run<P: RunsTasks>(
         );
     }
     let config = Some(contents[1].as_slice());
-    run_line(
+    prepare_texts(
         alloc,
-        pool,
         line,
         depth,
         grain,
@@ -146,15 +145,55 @@ fn run<P: RunsTasks>(
     )
 }
 
-// What is written of what is asked, over the bytes of its files.
-fn answer<P: RunsTasks>(
+// A run on one thread, over the bytes of its files.
+fn run_line(
     alloc: Global,
-    pool: &P,
-    ask: Ask,
-    others: &[String],
+    line: &Option<RunLine<'_>>,
+    depth: u32,
+    grain: u64,
+    traced: bool,
     contents: &[Vec<u8>],
 ) -> Result<Vec<u8>, Stop>
-    requires pool { RunsOn ask P.pool }
+    requires all { length contents.now ≡ length (line_files line.now) }
+    requires few { HasFewInputs line.now }
+    ensures { Writes (λ tail. Runs depth grain (RunWrites Serial traced tail) line.now (contents_of contents.now)) result }
+{
+    let Some(line) = line else {
+        return Err(not_built(alloc)?);
+    };
+    let prepared = prepare_line(alloc, line, depth, grain, traced, contents)?;
+    run_alone(alloc, prepared, line.transform, depth, grain, traced)
+}
+
+// A run on so many threads, over the bytes of its files.
+fn run_line_beside<R: Threads + Wait + Sync, G: Gate>(
+    rt: &R,
+    alloc: Global,
+    line: &Option<RunLine<'_>>,
+    depth: u32,
+    grain: u64,
+    traced: bool,
+    contents: &[Vec<u8>],
+    workers: u32,
+    gate: &G,
+) -> Result<Vec<u8>, Stop>
+    requires all { length contents.now ≡ length (line_files line.now) }
+    requires few { HasFewInputs line.now }
+    requires some_workers { 1 ≤ workers }
+    requires few_workers { workers ≤ 64 }
+    ensures { Writes (λ tail. Runs depth grain (RunWrites Locked traced tail) line.now (contents_of contents.now)) result }
+{
+    let Some(line) = line else {
+        return Err(not_built(alloc)?);
+    };
+    let prepared = prepare_line(alloc, line, depth, grain, traced, contents)?;
+    let name = line.transform;
+    run_under_lock(rt, alloc, prepared, name, depth, grain, traced, workers, gate)
+}
+
+// What is written of what is asked, on one thread, over the bytes of its files.
+fn answer(alloc: Global, ask: Ask, others: &[String], contents: &[Vec<u8>]) -> Result<Vec<u8>, Stop>
+    requires alone { (is_under_lock ask) ≡ false }
     requires enough { least_others ask ≤ length others.now }
     requires few { length others.now ≤ 19 }
     requires all { length contents.now ≡ length (taken_words ask (map string_bytes others.now)) }
@@ -164,33 +203,76 @@ fn answer<P: RunsTasks>(
         Ask::Check => check(alloc, &contents[0]),
         Ask::Choices => choices(alloc, &contents[0]),
         Ask::Run {
-            pool: asked,
+            pool: Pool::Serial,
             trace,
             depth,
             grain,
             ..
-        } => run(
+        } => run_line(
             alloc,
-            pool,
-            &read_run(asked, others),
+            &read_run(Pool::Serial, others),
             depth,
             grain,
             trace,
             contents,
         ),
-        Ask::Tune { .. } | Ask::Demo { .. } => Err(not_built(alloc)?),
+        Ask::Run { .. } | Ask::Tune { .. } | Ask::Demo { .. } => Err(not_built(alloc)?),
     }
 }
 
-/// The work of what is asked, by the pool that it asks for, over the words after the options and the files of a shelf: a text for `out`, or why there is none.
-pub fn work<S: Shelf, P: RunsTasks>(
+// What is written of what is asked, with threads where it needs them, over the bytes of its files.
+fn answer_beside<R: Threads + Wait + Sync, G: Gate>(
+    rt: &R,
     alloc: Global,
-    pool: &P,
+    ask: Ask,
+    others: &[String],
+    contents: &[Vec<u8>],
+    gate: &G,
+) -> Result<Vec<u8>, Stop>
+    requires range { IsInRange ask }
+    requires enough { least_others ask ≤ length others.now }
+    requires few { length others.now ≤ 19 }
+    requires all { length contents.now ≡ length (taken_words ask (map string_bytes others.now)) }
+    ensures { Writes (λ tail. WorkWrites ask (map string_bytes others.now) tail (contents_of contents.now)) result }
+{
+    match ask {
+        Ask::Run {
+            workers,
+            pool: Pool::Locked,
+            trace,
+            depth,
+            grain,
+        } => run_line_beside(
+            rt,
+            alloc,
+            &read_run(Pool::Locked, others),
+            depth,
+            grain,
+            trace,
+            contents,
+            workers,
+            gate,
+        ),
+        Ask::Run {
+            pool: Pool::Serial | Pool::Steal,
+            ..
+        }
+        | Ask::Check
+        | Ask::Choices
+        | Ask::Tune { .. }
+        | Ask::Demo { .. } => answer(alloc, ask, others, contents),
+    }
+}
+
+/// The work of what is asked, where it needs no thread, over the words after the options and the files of a shelf: a text for
+/// `out`, or why there is none.
+pub fn work<S: Shelf>(
+    alloc: Global,
     ask: Ask,
     others: &[String],
     shelf: &mut S,
 ) -> Result<Vec<u8>, Stop>
-    requires pool { RunsOn ask P.pool }
+    requires alone { (is_under_lock ask) ≡ false }
     requires enough { least_others ask ≤ length others.now }
     requires few { length others.now ≤ 19 }
     ensures answer { ShelfWrites (taken_words ask (map string_bytes others.now)) (λ told tail reply. AskAnswers ask (map string_bytes others.now) told reply × IsTail ask (map string_bytes others.now) told reply tail)
@@ -201,5 +283,28 @@ pub fn work<S: Shelf, P: RunsTasks>(
 {
     let names = file_names(alloc, ask, others)?;
     let contents = fetch_all(alloc, shelf, &names)?;
-    answer(alloc, pool, ask, others, &contents)
+    answer(alloc, ask, others, &contents)
+}
+
+/// The work of what is asked, with threads where it needs them, in the same way.
+pub fn work_beside<R: Threads + Wait + Sync, S: Shelf, G: Gate>(
+    rt: &R,
+    alloc: Global,
+    ask: Ask,
+    others: &[String],
+    shelf: &mut S,
+    gate: &G,
+) -> Result<Vec<u8>, Stop>
+    requires range { IsInRange ask }
+    requires enough { least_others ask ≤ length others.now }
+    requires few { length others.now ≤ 19 }
+    ensures answer { ShelfWrites (taken_words ask (map string_bytes others.now)) (λ told tail reply. AskAnswers ask (map string_bytes others.now) told reply × IsTail ask (map string_bytes others.now) told reply tail)
+        (shelf_change S.files S.faults S.taken S.asked shelf.old shelf.new) result }
+    ensures stays { S.files shelf.new ≡ S.files shelf.old }
+    ensures asked { AsksFront (taken_words ask (map string_bytes others.now)) (S.asked shelf.old) (S.asked shelf.new) }
+    ensures untaken { taken_words ask (map string_bytes others.now) ≡ [] → S.taken shelf.new ≡ S.taken shelf.old }
+{
+    let names = file_names(alloc, ask, others)?;
+    let contents = fetch_all(alloc, shelf, &names)?;
+    answer_beside(rt, alloc, ask, others, &contents, gate)
 }

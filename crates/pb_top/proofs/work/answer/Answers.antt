@@ -8,7 +8,7 @@ use Rattle.pb_top.proofs.WorkLemmas.{writes_alone}
 use Rattle.pb_top.proofs.work.answer.Goals as goal
 
 pub returns-in-Check : goal.returns-in-Check
-returns-in-Check g c =
+returns-in-Check c =
     let words = map string_bytes c.args.others.now in
     let contents = contents_of c.args.contents.now in
     let first = first_content c.args.others.now (taken_words c.args.ask words) c.args.contents.now c.index-contents-0.result (least_others c.args.ask) c.requires.enough (ap least_others c.in-Check.is) (ap (λ a. taken_words a words) c.in-Check.is) c.requires.all c.index-contents-0.is in
@@ -16,7 +16,7 @@ returns-in-Check g c =
     (writes_alone (CheckAnswers (content_at contents 0)) c.check.result (subst (λ t. Replies (CheckAnswers t) c.check.result) (c.deref.ensures.value ∙ first) c.check.ensures))
 
 pub returns-in-Choices : goal.returns-in-Choices
-returns-in-Choices g c =
+returns-in-Choices c =
     let words = map string_bytes c.args.others.now in
     let contents = contents_of c.args.contents.now in
     let first = first_content c.args.others.now (taken_words c.args.ask words) c.args.contents.now c.index-contents-0-in-Choices.result (least_others c.args.ask) c.requires.enough (ap least_others c.in-Choices.is) (ap (λ a. taken_words a words) c.in-Choices.is) c.requires.all c.index-contents-0-in-Choices.is in
