@@ -114,7 +114,7 @@ fn with_threads<R: Threads + Wait + Sync, S: Shelf, O: Sink, E: Sink, G: Gate>(
     err: &mut E,
     gate: &G,
 ) -> u8
-    ensures ends { Ends (map string_bytes words.now) (shelf_change S.files S.faults S.taken S.asked shelf.old shelf.new)
+    ensures { Ends (map string_bytes words.now) (shelf_change S.files S.faults S.taken S.asked shelf.old shelf.new)
         (sink_change O.written O.faults out.old out.new) (sink_change E.written E.faults err.old err.new) result }
 {
     let Some((ask, place)) = read_words(words) else {

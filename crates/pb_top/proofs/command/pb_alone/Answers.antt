@@ -34,3 +34,6 @@ work-found-requires-clause-alone g c = not_locked c.in-Some.ask (sym c.needs_thr
 
 pub returns-clause-some : goal.returns-clause-some
 returns-clause-some g c = no_threads (map string_bytes c.args.words.now) c.in-Some.ask c.in-Some.place c.in-Some.ensures.found (sym c.needs_threads.ensures ∙ c.if-needs_threads.false)
+
+pub returns-in_default-clause-some : goal.returns-in_default-clause-some
+returns-in_default-clause-some g c need = c.in_default.ensures.none need.0 need.1 need.2

@@ -4,16 +4,16 @@ use Rattle.pb_top.specs.Sinks.{shelf_change, sink_change}
 use Rattle.pb_top.proofs.EndLemmas.{few_others, usage_ends, work_ends, texts_after}
 use Rattle.pb_top.proofs.command.with_threads.Goals as goal
 
-pub returns-in_default-clause-ends : goal.returns-in_default-clause-ends
-returns-in_default-clause-ends g c =
+pub returns-in_default : goal.returns-in_default
+returns-in_default g c =
     usage_ends (map string_bytes c.args.words.now) (shelf_change g.S.Shelf.files g.S.Shelf.faults g.S.Shelf.taken g.S.Shelf.asked c.args.shelf.now c.args.shelf.now)
     (sink_change g.O.Sink.written g.O.Sink.faults c.args.out.now c.write_line.new.out)
     (sink_change g.E.Sink.written g.E.Sink.faults c.args.err.now c.write_line.new.err)
     c.usage.result c.write_line.result (λ inside. c.in_default.ensures.none inside.0 inside.1 inside.2)
     (record { files = refl; faults = refl; bytes = refl; asked = refl }) c.usage.ensures c.write_line.ensures
 
-pub returns-clause-ends : goal.returns-clause-ends
-returns-clause-ends g c =
+pub returns : goal.returns
+returns g c =
     work_ends (map string_bytes c.args.words.now) c.in-Some.ask c.in-Some.place c.in-Some.ensures.found
     (shelf_change g.S.Shelf.files g.S.Shelf.faults g.S.Shelf.taken g.S.Shelf.asked c.args.shelf.now c.work_beside-found.new.shelf)
     (sink_change g.O.Sink.written g.O.Sink.faults c.args.out.now c.write.new.out)
@@ -22,7 +22,7 @@ returns-clause-ends g c =
     c.work_beside-found.ensures.untaken c.work_beside-found.ensures.answer c.write.ensures
 
 pub work_beside-found-requires-clause-few : goal.work_beside-found-requires-clause-few
-work_beside-found-requires-clause-few g c =
+work_beside-found-requires-clause-few g c κs within =
     let words = c.args.words.now in
     let place = c.in-Some.place in
     let after = take (length words - place) (drop place words) in

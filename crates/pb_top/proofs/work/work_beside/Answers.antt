@@ -18,6 +18,6 @@ returns-clause-answer g c =
     (subst (λ items. Writes (λ tail. WorkWrites c.args.ask others tail (contents_of items)) c.answer_beside.result) c.deref-2.ensures.value c.answer_beside.ensures)
 
 pub answer_beside-requires-clause-all : goal.answer_beside-requires-clause-all
-answer_beside-requires-clause-all g c =
+answer_beside-requires-clause-all g c κs within =
     let names = subst (λ names. Takes (g.S.Shelf.files c.args.shelf.now) (limited names) (Ok (contents_of c.in_ok-contents.contents.items))) (ap texts_of c.deref.ensures.value ∙ c.in_ok-names.ensures) c.in_ok-contents.ensures.taken.1 in
     ap length c.deref-2.ensures.value ∙ taken_length (g.S.Shelf.files c.args.shelf.now) (taken_words c.args.ask (map string_bytes c.args.others.now)) c.in_ok-contents.contents.items names
