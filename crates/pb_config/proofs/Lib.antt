@@ -7,3 +7,4 @@ pub mod ValidLemmas
 pub mod AgainParts
 pub mod AgainLines
 pub mod AgainLemmas
+pub mod ExtensionLemmas

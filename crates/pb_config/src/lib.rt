@@ -8,6 +8,7 @@
 mod choice;
 mod chosen;
 mod entries;
+mod extension;
 mod laws;
 mod lines;
 mod parts;
@@ -17,6 +18,7 @@ mod refusal;
 mod site;
 
 pub use chosen::choose;
+pub use extension::extend;
 pub use laws::printed_is_read;
 pub use print::print_config;
 pub use read::read_config;
