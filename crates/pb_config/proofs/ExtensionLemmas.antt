@@ -1,9 +1,10 @@
 -- One more level at a site: what is put where, and that a configuration stays valid.
-use Rattle.std.proofs.Common.{◌≡◌, ℕ, zero, suc, ◌+◌, ◌-◌, ◌<◌, ◌≤◌, Bool, true, false, ◌&&◌, ◌||◌, not, nat_le, nat_lt, ◌==◌, List, [], ◌∷◌, ◌++◌, length, map, Option, Some, None, if◌then◌else◌, slice_get, slice_index, slice_set, eq-eqb, length-append, refl, subst, sym, ap, ◌∙◌, arith}
-use Rattle.std.specs.List.{AllByRecursion, find, last_or, list_all, list_any, position_or_len}
+use Rattle.std.proofs.Common.{◌≡◌, ℕ, zero, suc, ◌+◌, ◌-◌, ◌<◌, ◌≤◌, Bool, true, false, ◌&&◌, ◌||◌, not, nat_le, nat_lt, ◌==◌, List, [], ◌∷◌, ◌++◌, length, map, Some, None, if◌then◌else◌, slice_get, slice_index, slice_set, eq-eqb, length-append, refl, subst, sym, ap, ◌∙◌, arith}
+use Rattle.std.specs.List.{AllByRecursion, find, last_or, list_any, position_or_len}
 use Rattle.std.specs.Option.{option_map_or}
 use Rattle.std.specs.Str.{bytes_eq}
 use Rattle.std.proofs.lemmas.Bool.{eqb-true, leb-false, lt-leb, lt-ltb, ne_eqb}
+use Rattle.std.proofs.lemmas.Cmp.{nat_list_eq_equiv}
 use Rattle.std.proofs.lemmas.List.Folds.{list_all-append}
 use Rattle.std.proofs.lemmas.Slice.Eq.{bytes_eq-Decides}
 use Rattle.pb_program.specs.Trees.{ProgTransform}
@@ -44,7 +45,7 @@ place_known test (x ∷ xs) within = by (test x) (place_known test xs) within
     by true ih within = refl
     by false ih within = ih (omega (arith, within))
 
-place_unknown : {A : Type 0} (test : A → Bool) (xs : List A) → length xs ≤ position_or_len test xs → list_any test xs ≡ false
+pub place_unknown : {A : Type 0} (test : A → Bool) (xs : List A) → length xs ≤ position_or_len test xs → list_any test xs ≡ false
 place_unknown test [] past = refl
 place_unknown test (x ∷ xs) past = by (test x) (place_unknown test xs) past
   where
@@ -53,7 +54,7 @@ place_unknown test (x ∷ xs) past = by (test x) (place_unknown test xs) past
     by true ih past = absurd (omega (arith, past))
     by false ih past = ih (omega (arith, past))
 
-abbrev place : EntryValue → List EntryValue → ℕ
+abbrev pub place : EntryValue → List EntryValue → ℕ
 place e es = position_or_len (λ old. same_site e.site old.site) es
 
 module _ (e own : EntryValue) (es all : List EntryValue) (k : ℕ) (is : own ≡ e) (at : k ≡ place e es) (same : all ≡ es) where
@@ -74,6 +75,9 @@ same_is a b e =
     let matrix = eqb-true a.matrix b.matrix numbers.1 in
     let set = (bytes_eq-Decides a.set b.set).0 parts.1 in
     λ i. record { transform = transform i; matrix = matrix i; set = set i }
+
+pub site_same : (s : SiteValue) → same_site s s ≡ true
+site_same s = rw (eq-eqb s.transform s.transform refl, eq-eqb s.matrix s.matrix refl, nat_list_eq_equiv.refl s.set) refl
 
 -- a write
 set_all : {A : Type 0} (P : A → Type 0) (xs : List A) (i : ℕ) (x : A) → AllByRecursion P xs → P x → AllByRecursion P (slice_set xs i x)

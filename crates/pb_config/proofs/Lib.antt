@@ -8,3 +8,4 @@ pub mod AgainParts
 pub mod AgainLines
 pub mod AgainLemmas
 pub mod ExtensionLemmas
+pub mod ChosenLemmas

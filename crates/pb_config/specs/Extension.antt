@@ -1,5 +1,5 @@
 -- A configuration with one more level at a site.
-use Rattle.std.specs.Prelude.{◌≡◌, ℕ, Bool, false, ◌||◌, ◌==◌, nat_le, List, [], ◌∷◌, ◌++◌, length, Option, Some, None, slice_index, slice_set, if◌then◌else◌}
+use Rattle.std.specs.Prelude.{ℕ, Bool, false, ◌||◌, ◌==◌, nat_le, List, [], ◌∷◌, ◌++◌, length, Option, Some, None, slice_index, slice_set, if◌then◌else◌}
 use Rattle.std.specs.List.{find, last_or, position_or_len}
 use Rattle.std.specs.Option.{option_map_or}
 use Rattle.pb_program.specs.Configs.{SiteValue, SelectorValue, EntryValue, ConfigValue, has_site, same_site}

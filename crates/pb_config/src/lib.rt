@@ -19,7 +19,7 @@ mod site;
 
 pub use chosen::choose;
 pub use extension::extend;
-pub use laws::printed_is_read;
+pub use laws::{an_extension_chooses_from_its_size, printed_is_read};
 pub use print::print_config;
 pub use read::read_config;
 pub use refusal::ConfigRefusal;

@@ -1,5 +1,4 @@
 use Rattle.std.proofs.Common.{arith, ◌∙◌}
-use Rattle.pb_program.specs.Configs.{EntryValue}
 use Rattle.pb_config.proofs.ExtensionLemmas.{in_place, at_end}
 use Rattle.pb_config.proofs.extension.with_entry.Goals as goal
 
