@@ -9,7 +9,7 @@ use Rattle.std.proofs.lemmas.List.Folds.{list_all-append}
 use Rattle.std.proofs.lemmas.Slice.Eq.{bytes_eq-Decides}
 use Rattle.pb_program.specs.Trees.{ProgTransform}
 use Rattle.pb_program.specs.Configs.{SiteValue, SelectorValue, EntryValue, ConfigValue, IsSite, IsSelector, IsEntry, IsValid, HaveDistinctSites, has_site, same_site, is_cutoff, is_in, is_rising}
-use Rattle.pb_config.specs.Extension.{extended, is_nothing_new, last_level, reaches, selector_at, top_rule, with_entry, with_level, with_selector}
+use Rattle.pb_config.specs.Extension.{extended, is_nothing_new, last_level, reaches, selector_at, last_rule, with_entry, with_level, with_selector}
 use Rattle.pb_config.proofs.ValidLemmas.{all_push, both, distinct_push, neither}
 
 -- the last level
@@ -29,8 +29,8 @@ module _ (s : SelectorValue) (size rule : ℕ) (l : ℕ × ℕ) (ls : List (ℕ 
   has_room : nat_le 7 (length s.levels) ≡ false
   has_room = lt-leb 7 (length s.levels) (subst (λ x. length x < 7) same few)
 
-  pub told_top : l.1 ≡ rule → (l.1 == rule) ≡ is_nothing_new s size rule
-  told_top top = rw (is_last, has_room, eq-eqb l.1 rule top) refl
+  pub told_rule : l.1 ≡ rule → (l.1 == rule) ≡ is_nothing_new s size rule
+  told_rule last = rw (is_last, has_room, eq-eqb l.1 rule last) refl
 
   pub told_cutoff : (l.1 ≡ rule → ⊥) → nat_le size l.0 ≡ is_nothing_new s size rule
   told_cutoff other = rw (is_last, has_room, ne_eqb l.1 rule other) refl
@@ -136,7 +136,7 @@ push_rising (l ∷ m ∷ ls) size rule rising below =
 level_fits : (set : List ℕ) (s : SelectorValue) (size rule : ℕ) → IsSelector set s → is_in set rule ≡ true → is_cutoff size ≡ true → is_nothing_new s size rule ≡ false
     → IsSelector set (with_level size rule s)
 level_fits set s size rule is there cutoff new =
-    let rest = neither (top_rule s == rule) (nat_le 7 (length s.levels) || reaches size s) new in
+    let rest = neither (last_rule s == rule) (nat_le 7 (length s.levels) || reaches size s) new in
     let parts = neither (nat_le 7 (length s.levels)) (reaches size s) rest.1 in
     record {
       first = is.first;

@@ -15,17 +15,16 @@ abbrev pub last_level : SelectorValue → Option (ℕ × ℕ)
 last_level s = last_or None s.levels
 
 -- the rule of the last level
-abbrev pub top_rule : SelectorValue → ℕ
-top_rule s = option_map_or (λ l. l.1) (last_level s) s.first
+abbrev pub last_rule : SelectorValue → ℕ
+last_rule s = option_map_or (λ l. l.1) (last_level s) s.first
 
 -- the last cutoff is at least the size
 abbrev pub reaches : ℕ → SelectorValue → Bool
 reaches size s = option_map_or (λ l. nat_le size l.0) (last_level s) false
 
--- a further level would say nothing new or has no place: the rule is that of the last level, all levels are there, or
--- the last cutoff is at least the size
+-- nothing new: the last level has this rule, 8 levels are there, or the last cutoff is at least the size
 abbrev pub is_nothing_new : SelectorValue → ℕ → ℕ → Bool
-is_nothing_new s size rule = top_rule s == rule || (nat_le MOST_CUTOFFS (length s.levels) || reaches size s)
+is_nothing_new s size rule = last_rule s == rule || (nat_le MOST_CUTOFFS (length s.levels) || reaches size s)
 
 -- a level after the others
 abbrev pub with_level : ℕ → ℕ → SelectorValue → SelectorValue

@@ -57,7 +57,7 @@ fn selector_at(alloc: Global, c: &Config, site: &Site) -> Result<Selector, Alloc
     })
 }
 
-// Whether a further level has no place after the others, or says what the last one does.
+// Whether the last level has this rule, 8 levels are there, or the last cutoff is at least the size.
 fn is_nothing_new(selector: &Selector, size: u64, rule: u32) -> bool
     ensures { result ≡ is_nothing_new selector.now size rule }
 {
@@ -65,7 +65,7 @@ fn is_nothing_new(selector: &Selector, size: u64, rule: u32) -> bool
         return true;
     }
     match selector.levels.last() {
-        Some((cutoff, top)) => *top == rule || *cutoff >= size,
+        Some((cutoff, last)) => *last == rule || *cutoff >= size,
         None => selector.first == rule,
     }
 }
@@ -116,11 +116,11 @@ fn with_selector(
     })
 }
 
-/// The configuration with one more level for a site: from this size on, the rule. Where the site has no entry, a new
-/// one comes after all others, whose first level is the first rule of the set.
+/// The configuration with one more level at a site: the rule from the size on. A site without an entry gets one after all
+/// others, which has the first rule of the set below the size.
 ///
-/// Answers `None` where that says nothing new: the rule of the last level is this one, 8 levels are there, or the last
-/// cutoff is at least the size.
+/// Answers `None` where that says nothing new: the last level has this rule, 8 levels are there, or the last cutoff is at
+/// least the size.
 pub fn extend(
     alloc: Global,
     c: &Config,
