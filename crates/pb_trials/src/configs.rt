@@ -81,12 +81,7 @@ const EXTENSIONS: [(&str, u64, u32, &str); 19] = [
         "choose T.B {0,1} = 0 until 1048576 then 1\n",
     ),
     ("", 4, 0, "nothing new"),
-    (
-        "choose T.M {0,1} = 0\nchoose T.B {0} = 0",
-        2,
-        1,
-        "unread",
-    ),
+    ("choose T.M {0,1} = 0\nchoose T.B {0} = 0", 2, 1, "unread"),
     (
         "choose T.M {1} = 1\nchoose T.B {0} = 0",
         2,
