@@ -1,0 +1,3 @@
+pub mod SelectionLemmas
+pub mod ValidLemmas
+pub mod GenerationLemmas
