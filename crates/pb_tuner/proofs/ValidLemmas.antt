@@ -1,9 +1,9 @@
 -- Candidates and populations are valid.
-use Rattle.std.proofs.Common.{◌≡◌, ℕ, Bool, true, false, ◌||◌, if◌then◌else◌, List, [], ◌∷◌, ◌++◌, map, take, Option, Some, None, refl}
+use Rattle.std.proofs.Common.{◌≡◌, ℕ, Bool, true, false, if◌then◌else◌, List, [], ◌∷◌, ◌++◌, map, take, Option, Some, None, refl}
 use Rattle.std.specs.List.{AllByRecursion, cons_option, filter_map, flat_map}
 use Rattle.std.specs.Option.{option_map}
 use Rattle.std.specs.Prelude.{IfSome}
-use Rattle.std.proofs.lemmas.Bool.{eq-eqb}
+use Rattle.std.proofs.lemmas.Bool.{eq-eqb, or_right}
 use Rattle.std.proofs.lemmas.List.Elements.{All-from_recursion, All-take, recursion_from_All}
 use Rattle.pb_program.specs.Trees.{ProgTransform}
 use Rattle.pb_program.specs.Configs.{ConfigValue, SelectorValue, SiteValue, IsSite, IsValid, is_cutoff, is_in}
@@ -36,13 +36,9 @@ module _ {X : Type 0} (P : X → Type 0) where
       by (Some x) here rest = (here, rest)
 
 -- each rule of a set is in it
-or_true : (b : Bool) → (b || true) ≡ true
-or_true true = refl
-or_true false = refl
-
 rules_in : (set rules : List ℕ) → ((r : ℕ) → is_in rules r ≡ true → is_in set r ≡ true) → AllByRecursion (λ r. is_in set r ≡ true) rules
 rules_in set [] among = tt
-rules_in set (r ∷ rules) among = (among r (rw (eq-eqb r r refl) refl), rules_in set rules (λ q there. among q (rw there (or_true _))))
+rules_in set (r ∷ rules) among = (among r (rw (eq-eqb r r refl) refl), rules_in set rules (λ q there. among q (or_right _ _ there)))
 
 all_weaker : {X : Type 0} (P Q : X → Type 0) → ((x : X) → P x → Q x) → (xs : List X) → AllByRecursion P xs → AllByRecursion Q xs
 all_weaker P Q weaker [] all = tt
