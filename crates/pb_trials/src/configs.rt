@@ -81,12 +81,7 @@ const EXTENSIONS: [(&str, u64, u32, &str); 19] = [
         "choose T.B {0,1} = 0 until 1048576 then 1\n",
     ),
     ("", 4, 0, "nothing new"),
-    (
-        "choose T.M {0,1} = 0\nchoose T.B {0} = 0",
-        2,
-        1,
-        "unread",
-    ),
+    ("choose T.M {0,1} = 0\nchoose T.B {0} = 0", 2, 1, "unread"),
     (
         "choose T.M {1} = 1\nchoose T.B {0} = 0",
         2,
@@ -149,7 +144,7 @@ const EXTENSIONS: [(&str, u64, u32, &str); 19] = [
 ];
 
 // Each cell of `B` is a sum of cells of `A`, or made from the cell before it.
-const ROLL: &str =
+pub(crate) const ROLL: &str =
     "transform RollingSum from A[n] to B[n] { to (B.cell(i) b) from (A.region(0, i + 1) a) { b = sum(a); } \
 to (B.cell(i) b) from (A.cell(i) a, B.cell(i - 1) l) { b = a + l; } }";
 
@@ -228,7 +223,7 @@ fn extended(
     }
 }
 
-fn program(alloc: Global, text: &str) -> Result<Prog, Refusal>
+pub(crate) fn program(alloc: Global, text: &str) -> Result<Prog, Refusal>
     ensures { IfOk result (λ p. IsWellFormed (bare_prog p)) }
 {
     let tree = read_text(alloc, text.as_bytes())?;
