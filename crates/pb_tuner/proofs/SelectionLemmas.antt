@@ -23,7 +23,7 @@ abbrev pub before_or_among : ℕ → List (ℕ × ConfigValue) → List (ℕ × 
 before_or_among cost first rest = option_or (at_cost cost first) (at_cost cost rest)
 
 -- equal costs are equal numbers
-same_test : (a b : ℕ) → is_eq (nat_cmp a b) ≡ nat_eq a b
+pub same_test : (a b : ℕ) → is_eq (nat_cmp a b) ≡ nat_eq a b
 same_test a b = ⊎_elim
     (λ below. rw (lt-ltb a b below, ne_eqb a b (λ same. omega (arith, below))) refl)
     (λ above. rw (le-ltb a b above) (by (nat_eq a b)))
