@@ -144,7 +144,7 @@ const EXTENSIONS: [(&str, u64, u32, &str); 19] = [
 ];
 
 // Each cell of `B` is a sum of cells of `A`, or made from the cell before it.
-const ROLL: &str =
+pub(crate) const ROLL: &str =
     "transform RollingSum from A[n] to B[n] { to (B.cell(i) b) from (A.region(0, i + 1) a) { b = sum(a); } \
 to (B.cell(i) b) from (A.cell(i) a, B.cell(i - 1) l) { b = a + l; } }";
 
@@ -223,7 +223,7 @@ fn extended(
     }
 }
 
-fn program(alloc: Global, text: &str) -> Result<Prog, Refusal>
+pub(crate) fn program(alloc: Global, text: &str) -> Result<Prog, Refusal>
     ensures { IfOk result (λ p. IsWellFormed (bare_prog p)) }
 {
     let tree = read_text(alloc, text.as_bytes())?;
