@@ -7,3 +7,5 @@ pub mod ValidLemmas
 pub mod AgainParts
 pub mod AgainLines
 pub mod AgainLemmas
+pub mod ExtensionLemmas
+pub mod ChosenLemmas

@@ -192,7 +192,7 @@ by_choice p before line text e None said h = absurd (cc)
 by_choice p before line text e (Some c) said h = by_site p before line c e (choice_fits text c said) (site_of p c.names c.set) refl h
 
 -- the entries
-all_push : {A : Type 0} (P : A → Type 0) (xs : List A) (x : A) → AllByRecursion P xs → P x → AllByRecursion P (xs ++ x ∷ [])
+pub all_push : {A : Type 0} (P : A → Type 0) (xs : List A) (x : A) → AllByRecursion P xs → P x → AllByRecursion P (xs ++ x ∷ [])
 all_push P [] x all here = (here, tt)
 all_push P (y ∷ ys) x all here = (all.0, all_push P ys x all.1 here)
 
@@ -209,7 +209,7 @@ pub neither : (a b : Bool) → (a || b) ≡ false → (a ≡ false) × (b ≡ fa
 neither true b e = absurd (cc)
 neither false b e = (refl, e)
 
-distinct_push : (es : List EntryValue) (x : EntryValue) → HaveDistinctSites es → has_site x.site es ≡ false → HaveDistinctSites (es ++ x ∷ [])
+pub distinct_push : (es : List EntryValue) (x : EntryValue) → HaveDistinctSites es → has_site x.site es ≡ false → HaveDistinctSites (es ++ x ∷ [])
 distinct_push [] x distinct new = (refl, tt)
 distinct_push (e ∷ es) x distinct new =
     let parts = neither (same_site x.site e.site) (has_site x.site es) new in

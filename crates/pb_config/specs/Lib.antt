@@ -5,3 +5,4 @@ pub mod Bad
 pub mod Choices
 pub mod Reading
 pub mod Texts
+pub mod Extension

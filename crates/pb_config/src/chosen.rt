@@ -3,7 +3,8 @@ ghost use Rattle.pb_program.specs.Configs.{chosen, same_site};
 
 use pb_program::{Config, Site};
 
-fn is_at(site: &Site, t: u32, matrix: u32, set: &[u32]) -> bool
+/// Whether this is the site of a transform, a matrix and a set.
+pub(crate) fn is_at(site: &Site, t: u32, matrix: u32, set: &[u32]) -> bool
     ensures { result ≡ same_site (record { transform = t; matrix = matrix; set = set.now }) site.now }
 {
     site.transform == t && site.matrix == matrix && site.set.as_slice() == set

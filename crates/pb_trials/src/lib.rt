@@ -26,6 +26,8 @@ mod ranks;
 #[cfg(test)]
 mod tokens;
 #[cfg(test)]
+mod tuner;
+#[cfg(test)]
 mod values;
 #[cfg(test)]
 mod words;

@@ -1,0 +1,4 @@
+pub mod SelectionLemmas
+pub mod ValidLemmas
+pub mod GenerationLemmas
+pub mod OneTuningLemmas
