@@ -31,7 +31,9 @@ pub fn run_alone(
         transform,
         inputs,
     } = prepared;
-    let run = begin_run(alloc, &accepted, &config, transform, name, inputs, depth, grain)?;
+    let run = begin_run(
+        alloc, &accepted, &config, transform, name, inputs, depth, grain,
+    )?;
     let finished = run_serial(alloc, &run)?;
     finish(alloc, &run, &finished, traced)
 }
@@ -59,7 +61,9 @@ pub fn run_under_lock<R: Threads + Wait + Sync, G: Gate>(
         transform,
         inputs,
     } = prepared;
-    let run = begin_run(alloc, &accepted, &config, transform, name, inputs, depth, grain)?;
+    let run = begin_run(
+        alloc, &accepted, &config, transform, name, inputs, depth, grain,
+    )?;
     let finished = run_locked(rt, alloc, &run, workers, gate)?;
     finish(alloc, &run, &finished, traced)
 }

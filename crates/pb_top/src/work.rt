@@ -188,7 +188,9 @@ fn run_line_beside<R: Threads + Wait + Sync, G: Gate>(
     };
     let prepared = prepare_line(alloc, line, depth, grain, traced, contents)?;
     let name = line.transform;
-    run_under_lock(rt, alloc, prepared, name, depth, grain, traced, workers, gate)
+    run_under_lock(
+        rt, alloc, prepared, name, depth, grain, traced, workers, gate,
+    )
 }
 
 // What is written of what is asked, on one thread, over the bytes of its files.

@@ -10,7 +10,7 @@ pub returns-clause-ready : goal.returns-clause-ready
 returns-clause-ready c = record {
   valid = c.requires.valid;
   count =
-    as_many (slice_get (bare_prog c.args.a.program) c.args.t) (length c.args.r.now.files.now) (length c.in_ok-inputs.inputs.items)
-    (inputs_count c.args.r.now.files.now c.args.r.now.texts.now c.requires.texts c.in_ok-inputs.inputs.items c.in_ok-inputs.ensures.gives) c.requires.count;
+      as_many (slice_get (bare_prog c.args.a.program) c.args.t) (length c.args.r.now.files.now) (length c.in_ok-inputs.inputs.items)
+      (inputs_count c.args.r.now.files.now c.args.r.now.texts.now c.requires.texts c.in_ok-inputs.inputs.items c.in_ok-inputs.ensures.gives) c.requires.count;
   whole = c.in_ok-inputs.ensures.whole;
 }
