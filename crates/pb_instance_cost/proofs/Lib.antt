@@ -1,0 +1,7 @@
+mod CellLemmas
+pub mod CostLemmas
+mod ExtentLemmas
+mod ListLemmas
+mod PartLemmas
+mod RowLemmas
+mod TopLemmas

@@ -1,0 +1,4 @@
+pub mod Extents
+pub mod Shown
+pub mod Parts
+pub mod Costs
