@@ -3,7 +3,7 @@
 //! In: a run of a transform, with all calls of its plans, and the outcomes of all its cells. Out: the first trapped cell of its first
 //! call, with the trap; and the texts of the matrices that this call gives. The theorems are `first_trapped` and `results_text`.
 //! What a command needs before that is handed on from the crates below: the transform of a name (`enter`), and the run of a
-//! transform with matrices (`unroll`).
+//! transform with matrices (`unroll`); and the cost of a configuration (`cost`).
 #![tactic(auto)]
 
 mod places;
@@ -11,6 +11,7 @@ mod results;
 mod texts;
 mod trapped;
 
+pub use pb_cost::cost;
 pub use pb_entry::{Count, RunRefusal, enter};
 pub use pb_run_work::{Run, unroll};
 pub use results::results_text;
