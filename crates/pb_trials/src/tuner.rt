@@ -271,25 +271,38 @@ fn the_rolling_sum_is_tuned(rt: HostRuntime) -> Result<(), Fail> {
     Ok(())
 }
 
+// What is said where the judge fails at the question with this number, and the judge's faults after it.
+fn failing_at(alloc: Global, program: &Prog, failing: u64) -> Result<(Vec<u8>, u64), AllocError>
+    requires { IsWellFormed (bare_prog program.now) }
+{
+    let mut judge = Rolling {
+        program,
+        failing,
+        questions: 0,
+        faults: 0,
+    };
+    let found = said(alloc, program, SITES, 8, &mut judge)?;
+    Ok((found, judge.faults))
+}
+
 #[test]
-fn a_judge_that_fails_at_its_third_question_ends_the_tuning(rt: HostRuntime) -> Result<(), Fail> {
+fn a_judge_that_fails_ends_the_tuning(rt: HostRuntime) -> Result<(), Fail> {
     let alloc = rt.alloc();
     let Ok(program) = program(alloc, ROLL) else {
         assert!(rt; false, "the program is refused");
         return Ok(());
     };
-    let mut judge = Rolling {
-        program: &program,
-        failing: 3,
-        questions: 0,
-        faults: 0,
-    };
-    let found = said(alloc, &program, SITES, 8, &mut judge)?;
-    assert!(rt;
-        found.as_slice() == "failed at 2 after 2".as_bytes(),
-        "{found:?}"
-    );
-    assert_eq!(rt; judge.faults, 1);
+    let rows = [
+        (1, "failed at 1 after 0"),
+        (3, "failed at 2 after 2"),
+        (4, "failed at 2 after 3"),
+        (10, "failed at 8 after 9"),
+    ];
+    for (failing, wanted) in rows {
+        let (found, faults) = failing_at(alloc, &program, failing)?;
+        assert!(rt; found.as_slice() == wanted.as_bytes(), "{found:?}");
+        assert_eq!(rt; faults, 1);
+    }
     Ok(())
 }
 

@@ -2,3 +2,4 @@ pub mod SelectionLemmas
 pub mod ValidLemmas
 pub mod GenerationLemmas
 pub mod OneTuningLemmas
+pub mod SomeTuningLemmas

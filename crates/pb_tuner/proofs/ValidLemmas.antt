@@ -40,7 +40,7 @@ rules_in : (set rules : List ℕ) → ((r : ℕ) → is_in rules r ≡ true → 
 rules_in set [] among = tt
 rules_in set (r ∷ rules) among = (among r (rw (eq-eqb r r refl) refl), rules_in set rules (λ q there. among q (or_right _ _ there)))
 
-all_weaker : {X : Type 0} (P Q : X → Type 0) → ((x : X) → P x → Q x) → (xs : List X) → AllByRecursion P xs → AllByRecursion Q xs
+pub all_weaker : {X : Type 0} (P Q : X → Type 0) → ((x : X) → P x → Q x) → (xs : List X) → AllByRecursion P xs → AllByRecursion Q xs
 all_weaker P Q weaker [] all = tt
 all_weaker P Q weaker (x ∷ xs) all = (weaker x all.0, all_weaker P Q weaker xs all.1)
 

@@ -1,12 +1,9 @@
 use std::alloc::{AllocError, AllocFailed};
-use thiserror::Error;
 
 /// Why nothing was found. `JudgeFault`: the judge failed at this size, after so many answers. `Memory`: memory ran out.
-#[derive(Debug, Drop, Error)]
+#[derive(Debug, Drop)]
 pub enum TuneFault {
-    #[error("the judge failed at size {size} after {asked} answers")]
     JudgeFault { size: u64, asked: u64 },
-    #[error("out of memory")]
     Memory,
 }
 
