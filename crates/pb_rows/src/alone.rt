@@ -64,6 +64,8 @@ const ALONE: &[(&str, Option<u8>, &str)] = &[
     ("run --pool serial q - Double a", Some(14), "q "),
     ("choices p", Some(0), "p "),
     ("choices q", Some(14), "q "),
+    ("tune --up-to 2 p Nope", Some(5), "p "),
+    ("tune q Double", Some(14), "q "),
     ("demo 1 96 4", None, ""),
     ("run p - Double a", None, ""),
     ("run --pool steal q - Nope", None, ""),

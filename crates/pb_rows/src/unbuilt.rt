@@ -16,10 +16,8 @@ fn without_files(words: &'static str) -> Row {
     }
 }
 
-fn command_rows() -> [Row; 6] {
+fn command_rows() -> [Row; 4] {
     [
-        without_files("tune p Double"),
-        without_files("tune --up-to 8 p Double"),
         without_files("demo 1 96 4"),
         without_files("run p - Double a"),
         without_files("run --workers 4 --grain 1 --trace p c Double a"),

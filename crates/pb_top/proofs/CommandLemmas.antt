@@ -4,7 +4,6 @@ use Rattle.std.specs.List.{zip}
 use Rattle.std.specs.declared.alloc.Global.{Global}
 use Rattle.std.proofs.lemmas.List.{drop-map, length-drop, length-map, take_all}
 use Rattle.pb_outside.specs.Shelf.{Files}
-use Rattle.pb_words.specs.declared.ask.Pool.{Pool}
 use Rattle.pb_words.specs.declared.ask.Pool.TheVariants.{Locked, Serial, Steal}
 use Rattle.pb_words.specs.declared.ask.Ask.{Ask}
 use Rattle.pb_words.specs.declared.ask.Ask.TheVariants.{Check, Choices, Demo, Run, Tune}
@@ -28,6 +27,12 @@ content_is : (contents : List (Vec ℕ Global)) (k : ℕ) (a : Vec ℕ Global) �
 content_is [] k a below at = absurd (omega (arith, below))
 content_is (x ∷ contents) zero a below at = ap items at
 content_is (x ∷ contents) (suc k) a below at = content_is contents k a (omega (arith, below)) at
+
+-- the word at a place
+pub word_is : (words : List (String Global)) (k : ℕ) (a : String Global) → k < length words → a ≡ get_or words k a → string_bytes a ≡ get_or (map string_bytes words) k []
+word_is [] k a below at = absurd (omega (arith, below))
+word_is (x ∷ words) zero a below at = ap string_bytes at
+word_is (x ∷ words) (suc k) a below at = word_is words k a (omega (arith, below)) at
 
 -- the bytes of the program, where just its file is taken
 pub first_content : (others : List (String Global)) (taken : List (List ℕ)) (contents : List (Vec ℕ Global)) (a : Vec ℕ Global) (least : ℕ) → least ≤ length others → least ≡ 1 → taken ≡ take 1 (map string_bytes others)

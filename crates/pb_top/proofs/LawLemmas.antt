@@ -8,7 +8,7 @@ use Rattle.pb_words.proofs.LineLemmas.{one_reading}
 use Rattle.pb_top.specs.Reply.{Reply}
 use Rattle.pb_top.specs.Steps.{Takes}
 use Rattle.pb_top.specs.Check.{its_canonical, its_report}
-use Rattle.pb_top.specs.Answer.{RunLine, Runs, built_run, config_text, input_files, taken_words, limited, content_at, WorkAnswers, AskAnswers, Answers}
+use Rattle.pb_top.specs.Answer.{RunLine, Runs, built_run, config_text, input_files, taken_words, tuned_name, limited, content_at, WorkAnswers, AskAnswers, Answers}
 use Rattle.pb_top.specs.Runs.{RunReplies}
 use Rattle.pb_top.specs.Sinks.{ShelfChange, SinkChange}
 use Rattle.pb_top.specs.Ends.{Shows, IsAnswered, IsAnswerStatus, OutBreaks, ErrBreaks, Ends, IsFaultless, IsComplete}
@@ -16,6 +16,7 @@ use Rattle.pb_top.proofs.StepLemmas.{then_one, takes_one}
 use Rattle.pb_top.proofs.AcceptLemmas.{prints_one}
 use Rattle.pb_top.proofs.EndLemmas.{other_status}
 use Rattle.pb_top.proofs.RunLemmas.{run_one}
+use Rattle.pb_top.proofs.TuneLemmas.{tunes_one}
 
 one_line : (depth grain : ℕ) (line : Option RunLine) (contents : List (List ℕ)) (first second : Reply) → Runs depth grain RunReplies line contents first → Runs depth grain RunReplies line contents second → first ≡ second
 one_line depth grain (Some line) contents first second left right =
@@ -26,7 +27,7 @@ one_work : (ask : Ask) (others contents : List (List ℕ)) (first second : Reply
 one_work Check others contents first second left right = prints_one its_canonical (content_at contents 0) first second left right
 one_work Choices others contents first second left right = prints_one its_report (content_at contents 0) first second left right
 one_work (Run workers depth grain pool trace) others contents first second left right = one_line depth grain (built_run pool others) contents first second left right
-one_work (Tune up_to) others contents first second left right = left ∙ sym right
+one_work (Tune up_to) others contents first second left right = tunes_one (tuned_name others) up_to (content_at contents 0) first second left right
 one_work (Demo seed size workers) others contents first second left right = left ∙ sym right
 
 one_asked : (ask : Ask) (others : List (List ℕ)) (files : Files) (first second : Reply) → AskAnswers ask others (Some files) first → AskAnswers ask others (Some files) second

@@ -12,3 +12,5 @@ pub mod FinishLemmas
 pub mod LimitLemmas
 pub mod InputLemmas
 pub mod CommandLemmas
+pub mod SiteLemmas
+pub mod TuneLemmas

@@ -1,5 +1,5 @@
 -- A run has one answer.
-use Rattle.std.proofs.Common.{◌≡◌, ◌≢◌, ◌∙◌, refl, sym, ap, subst, ℕ, zero, suc, ◌<◌, ◌≤◌, Bool, true, false, nat_lt, cond, IsTrue, ◌↔◌, List, [], ◌∷◌, length, map, flat_map, filter_map, take, Option, Some, None, slice_get, Result, Ok, Err, ◌⊎◌, inl, inr, arith}
+use Rattle.std.proofs.Common.{◌≡◌, ◌∙◌, refl, sym, ap, subst, ℕ, zero, suc, Bool, true, false, nat_lt, cond, IsTrue, ◌↔◌, List, [], ◌∷◌, length, flat_map, filter_map, take, Option, Some, None, slice_get, Result, Ok, Err, ◌⊎◌, inl, inr, arith}
 use Rattle.std.specs.List.{list_all, position_from}
 use Rattle.std.specs.Str.{bytes_eq}
 use Rattle.std.specs.Str.Lines.{lines}
@@ -76,7 +76,7 @@ same_bytes xs ys = by (bytes_eq xs ys) (bytes_eq-Decides xs ys)
     by true is = inl (is.0 refl)
     by false is = inr (λ e. let never : false ≡ true = is.1 e in cc)
 
-name_or_not : (p : List ProgTransform) (name : List ℕ) → ((t : ℕ) × HasName p name t) ⊎ IsNowhere p name
+pub name_or_not : (p : List ProgTransform) (name : List ℕ) → ((t : ℕ) × HasName p name t) ⊎ IsNowhere p name
 name_or_not [] name = inr (λ t transform at named. absurd (cc))
 name_or_not (x ∷ p) name = by (same_bytes x.name.bytes name) (name_or_not p name)
   where

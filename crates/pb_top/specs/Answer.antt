@@ -13,6 +13,7 @@ use Rattle.pb_top.specs.Reply.{Reply, not_built, usage}
 use Rattle.pb_top.specs.Steps.{Then, Takes}
 use Rattle.pb_top.specs.Check.{CheckAnswers, ChoicesAnswers}
 use Rattle.pb_top.specs.Runs.{Fitting, RunReplies, RunWrites, RunsProgram}
+use Rattle.pb_top.specs.Tunes.{TunesProgram}
 
 -- the words of a run
 pub record RunLine : Type 0 where
@@ -34,7 +35,7 @@ abbrev pub is_built : Ask → List (List ℕ) → Bool
 is_built Check others = true
 is_built Choices others = true
 is_built (Run workers depth grain pool trace) others = is_some (built_run pool others)
-is_built (Tune up_to) others = false
+is_built (Tune up_to) others = true
 is_built (Demo seed size workers) others = false
 
 -- what is asked takes threads
@@ -89,12 +90,16 @@ abbrev pub Runs : ℕ → ℕ → (Fitting → Reply → Type 0) → Option RunL
 Runs depth grain End (Some line) contents reply = RunsProgram line.transform depth grain End (content_at contents 0) (config_text line contents) (input_files line contents) reply
 Runs depth grain End None contents reply = reply ≡ not_built
 
+-- the name of the transform that is tuned, after the program
+abbrev pub tuned_name : List (List ℕ) → List ℕ
+tuned_name others = slice_index_or others 1 []
+
 -- the answer to what is asked, over the words after the options and the bytes of the files that it takes
 abbrev pub WorkAnswers : Ask → List (List ℕ) → List (List ℕ) → Reply → Type 0
 WorkAnswers Check others contents reply = CheckAnswers (content_at contents 0) reply
 WorkAnswers Choices others contents reply = ChoicesAnswers (content_at contents 0) reply
 WorkAnswers (Run workers depth grain pool trace) others contents reply = Runs depth grain RunReplies (built_run pool others) contents reply
-WorkAnswers (Tune up_to) others contents reply = reply ≡ not_built
+WorkAnswers (Tune up_to) others contents reply = TunesProgram (tuned_name others) up_to (content_at contents 0) reply
 WorkAnswers (Demo seed size workers) others contents reply = reply ≡ not_built
 
 -- all files of a command are taken before any is looked at

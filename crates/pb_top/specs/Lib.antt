@@ -5,6 +5,7 @@ pub mod Reply
 pub mod Steps
 pub mod Check
 pub mod Runs
+pub mod Tunes
 pub mod Answer
 pub mod Ends
 -- what only proofs use: the contracts of the private functions on the way

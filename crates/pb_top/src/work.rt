@@ -1,13 +1,14 @@
 ghost use Rattle.std.specs.Prelude.{◌≡◌, ◌≤◌, ◌++◌, [], Some, false, length, take, map, string_bytes, IfOk};
-ghost use Rattle.pb_words.specs.Ranges.{IsInRange};
+ghost use Rattle.pb_words.specs.Ranges.{IsInRange, IsWithin};
 ghost use Rattle.pb_words.specs.declared.ask.Pool.TheVariants.{Locked, Serial};
 ghost use Rattle.std.specs.List.{zip};
 ghost use Rattle.pb_words.specs.Files.{run_files};
 ghost use Rattle.pb_words.specs.Line.{least_others};
 ghost use Rattle.pb_top.specs.Sinks.{shelf_change, AsksFront};
-ghost use Rattle.pb_top.specs.Answer.{AskAnswers, IsTail, Runs, WorkWrites, is_dash, is_under_lock, taken_words};
+ghost use Rattle.pb_top.specs.Answer.{AskAnswers, IsTail, Runs, WorkWrites, content_at, is_dash, is_under_lock, taken_words, tuned_name};
 ghost use Rattle.pb_top.specs.Runs.{RunWrites, RunsProgram};
-ghost use Rattle.pb_top.specs.Working.{HasFewInputs, IsReady, Prepares, ShelfWrites, Writes, contents_of, line_files, text_in, texts_of};
+ghost use Rattle.pb_top.specs.Tunes.{TunesProgram};
+ghost use Rattle.pb_top.specs.Working.{HasFewInputs, IsReady, Prepares, Replies, ShelfWrites, Writes, contents_of, line_files, text_in, texts_of};
 
 use crate::check::{check, choices};
 use crate::files::fetch_all;
@@ -15,6 +16,7 @@ use crate::pools::{run_alone, run_under_lock};
 use crate::prepare::{Prepared, Request, prepare};
 use crate::reply::{Stop, not_built};
 use crate::run::{RunLine, read_run};
+use crate::tune::tune;
 use pb_outside::Shelf;
 use pb_taskgraph::Gate;
 use pb_words::{Ask, Pool};
@@ -69,12 +71,12 @@ fn file_names<'a>(alloc: Global, ask: Ask, others: &'a [String]) -> Result<Vec<&
     ensures { IfOk result (λ names. texts_of names.items ≡ taken_words ask (map string_bytes others.now)) }
 {
     match ask {
-        Ask::Check | Ask::Choices => first_name(alloc, others),
+        Ask::Check | Ask::Choices | Ask::Tune { .. } => first_name(alloc, others),
         Ask::Run {
             pool: Pool::Serial | Pool::Locked,
             ..
         } => run_names(alloc, others),
-        Ask::Run { .. } | Ask::Tune { .. } | Ask::Demo { .. } => Ok(Vec::new(alloc)),
+        Ask::Run { .. } | Ask::Demo { .. } => Ok(Vec::new(alloc)),
     }
 }
 
@@ -193,9 +195,25 @@ fn run_line_beside<R: Threads + Wait + Sync, G: Gate>(
     )
 }
 
+// The text of a configuration that is tuned up to a size, over the words after the options and the bytes of the program.
+fn tune_line(
+    alloc: Global,
+    others: &[String],
+    up_to: u64,
+    contents: &[Vec<u8>],
+) -> Result<Vec<u8>, Stop>
+    requires range { IsWithin 1 1048576 up_to }
+    requires enough { 2 ≤ length others.now }
+    requires all { length contents.now ≡ length (take 1 (map string_bytes others.now)) }
+    ensures { Replies (TunesProgram (tuned_name (map string_bytes others.now)) up_to (content_at (contents_of contents.now) 0)) result }
+{
+    tune(alloc, &contents[0], others[1].as_str(), up_to)
+}
+
 // What is written of what is asked, on one thread, over the bytes of its files.
 fn answer(alloc: Global, ask: Ask, others: &[String], contents: &[Vec<u8>]) -> Result<Vec<u8>, Stop>
     requires alone { (is_under_lock ask) ≡ false }
+    requires range { IsInRange ask }
     requires enough { least_others ask ≤ length others.now }
     requires few { length others.now ≤ 19 }
     requires all { length contents.now ≡ length (taken_words ask (map string_bytes others.now)) }
@@ -218,7 +236,8 @@ fn answer(alloc: Global, ask: Ask, others: &[String], contents: &[Vec<u8>]) -> R
             trace,
             contents,
         ),
-        Ask::Run { .. } | Ask::Tune { .. } | Ask::Demo { .. } => Err(not_built(alloc)?),
+        Ask::Tune { up_to } => tune_line(alloc, others, up_to, contents),
+        Ask::Run { .. } | Ask::Demo { .. } => Err(not_built(alloc)?),
     }
 }
 
@@ -275,6 +294,7 @@ pub fn work<S: Shelf>(
     shelf: &mut S,
 ) -> Result<Vec<u8>, Stop>
     requires alone { (is_under_lock ask) ≡ false }
+    requires range { IsInRange ask }
     requires enough { least_others ask ≤ length others.now }
     requires few { length others.now ≤ 19 }
     ensures answer { ShelfWrites (taken_words ask (map string_bytes others.now)) (λ told tail reply. AskAnswers ask (map string_bytes others.now) told reply × IsTail ask (map string_bytes others.now) told reply tail)

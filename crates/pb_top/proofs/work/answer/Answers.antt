@@ -1,7 +1,8 @@
 use Rattle.std.proofs.Common.{◌∙◌, ap, map, string_bytes, subst, sym}
 use Rattle.pb_words.specs.Line.{least_others}
-use Rattle.pb_top.specs.Answer.{WorkWrites, content_at, taken_words}
+use Rattle.pb_top.specs.Answer.{WorkWrites, content_at, taken_words, tuned_name}
 use Rattle.pb_top.specs.Check.{CheckAnswers, ChoicesAnswers}
+use Rattle.pb_top.specs.Tunes.{TunesProgram}
 use Rattle.pb_top.specs.Working.{Replies, Writes, contents_of}
 use Rattle.pb_top.proofs.CommandLemmas.{first_content}
 use Rattle.pb_top.proofs.WorkLemmas.{writes_alone}
@@ -22,3 +23,10 @@ returns-in-Choices c =
     let first = first_content c.args.others.now (taken_words c.args.ask words) c.args.contents.now c.index-contents-0-in-Choices.result (least_others c.args.ask) c.requires.enough (ap least_others c.in-Choices.is) (ap (λ a. taken_words a words) c.in-Choices.is) c.requires.all c.index-contents-0-in-Choices.is in
     subst (λ a. Writes (λ tail. WorkWrites a words tail contents) c.choices.result) (sym c.in-Choices.is)
     (writes_alone (ChoicesAnswers (content_at contents 0)) c.choices.result (subst (λ t. Replies (ChoicesAnswers t) c.choices.result) (c.deref-in-Choices.ensures.value ∙ first) c.choices.ensures))
+
+pub returns-in-Tune : goal.returns-in-Tune
+returns-in-Tune c =
+    let words = map string_bytes c.args.others.now in
+    let contents = contents_of c.args.contents.now in
+    subst (λ a. Writes (λ tail. WorkWrites a words tail contents) c.tune_line.result) (sym c.in-Tune.is)
+    (writes_alone (TunesProgram (tuned_name words) c.in-Tune.up_to (content_at contents 0)) c.tune_line.result c.tune_line.ensures)
