@@ -1,4 +1,4 @@
-//! A run over the words of a table, driven by hand.
+//! A run over the words of a table, driven by hand, and in the machine of its events.
 ghost use Rattle.std.specs.Prelude.{◌≡◌, ◌≤◌, IfOk, IfSome, IsTrue, length};
 ghost use Rattle.std.specs.List.{All};
 ghost use Rattle.pb_program.specs.Configs.{IsValid};
@@ -12,6 +12,7 @@ use crate::programs::{accepted, program};
 use pb_cells::{Cells, Hand, Job};
 use pb_check::Accepted;
 use pb_config::{ConfigRefusal, read_config};
+use pb_core::{Event, EventsRefusal, run_events};
 use pb_matrix::{Matrix, MatrixRefusal, read_matrix};
 use pb_program::Config;
 use pb_taskgraph::{NamesWork, Work};
@@ -111,19 +112,68 @@ fn run_by_hand(alloc: Global, run: &Run<'_>) -> Result<String, AllocError> {
     by_one_hand::<Run, Brand>(alloc, run)
 }
 
+// What comes of these events of one hand.
+fn after<W: Work, N: NamesWork>(
+    alloc: Global,
+    work: &W,
+    events: &[Event],
+) -> Result<String, AllocError>
+    requires { W.plan work.now ≡ N.plan }
+{
+    match run_events::<W, N>(alloc, work, 1, events) {
+        Ok(core) => format!(in alloc; "done {}", core.done()),
+        Err(EventsRefusal::NotEnabled { at }) => format!(in alloc; "{at} isn't enabled"),
+        Err(EventsRefusal::Memory) => Err(AllocError),
+    }
+}
+
+// A task with one cell is run; then it is started once more.
+fn by_events<W: Work, N: NamesWork>(alloc: Global, work: &W) -> Result<String, AllocError>
+    requires { W.plan work.now ≡ N.plan }
+{
+    let events = [
+        Event::Start { hand: 0, task: 0 },
+        Event::Write { hand: 0, cell: 1 },
+        Event::Finish { hand: 0, task: 0 },
+        Event::Start { hand: 0, task: 0 },
+    ];
+    let first = after::<W, N>(alloc, work, &events[..3])?;
+    let second = after::<W, N>(alloc, work, &events)?;
+    format!(in alloc; "{first}, {second}")
+}
+
+fn run_by_events(alloc: Global, run: &Run<'_>) -> Result<String, AllocError> {
+    by_events::<Run, Brand>(alloc, run)
+}
+
+// Who drives a run.
+#[derive(Clone, Copy)]
+enum Driver {
+    Hand,
+    Events,
+}
+
+fn driven_by(alloc: Global, run: &Run<'_>, driver: Driver) -> Result<String, AllocError> {
+    match driver {
+        Driver::Hand => run_by_hand(alloc, run),
+        Driver::Events => run_by_events(alloc, run),
+    }
+}
+
 // The first transform, with these matrices.
 fn unrolled(
     alloc: Global,
     a: &Accepted,
     c: &Config,
     inputs: Vec<Matrix>,
+    driver: Driver,
 ) -> Result<String, AllocError>
     requires valid { IsValid (bare_prog a.now.program) c.now }
     requires count { HasTransform (bare_prog a.now.program) 0 (λ transform. length inputs.items ≡ transform.inputs) }
     requires whole { All IsWhole inputs.items }
 {
     match unroll(alloc, a, c, 0, inputs, 64, 64) {
-        Ok(run) => run_by_hand(alloc, &run),
+        Ok(run) => driven_by(alloc, &run, driver),
         Err(RunRefusal::Memory) => Err(AllocError),
         Err(_) => format!(in alloc; "refused"),
     }
@@ -154,7 +204,13 @@ fn matrix(alloc: Global, text: &str) -> Result<Option<Matrix>, AllocError>
 }
 
 // The first transform of a program, with a configuration and one matrix.
-fn driven(alloc: Global, a: &Accepted, config: &str, input: Matrix) -> Result<String, AllocError>
+fn driven(
+    alloc: Global,
+    a: &Accepted,
+    config: &str,
+    input: Matrix,
+    driver: Driver,
+) -> Result<String, AllocError>
     requires { IsWhole input }
 {
     if !takes(a, 1) {
@@ -162,15 +218,21 @@ fn driven(alloc: Global, a: &Accepted, config: &str, input: Matrix) -> Result<St
     }
     let inputs = vec![in alloc; input]?;
     match read_config(alloc, config.as_bytes(), program(a)) {
-        Ok(c) => unrolled(alloc, a, &c, inputs),
+        Ok(c) => unrolled(alloc, a, &c, inputs, driver),
         Err(ConfigRefusal::Memory) => Err(AllocError),
         Err(_) => format!(in alloc; "no configuration"),
     }
 }
 
-fn said(alloc: Global, text: &str, config: &str, input: &str) -> Result<String, AllocError> {
+fn said(
+    alloc: Global,
+    text: &str,
+    config: &str,
+    input: &str,
+    driver: Driver,
+) -> Result<String, AllocError> {
     match (accepted(alloc, text)?, matrix(alloc, input)?) {
-        (Some(a), Some(found)) => driven(alloc, &a, config, found),
+        (Some(a), Some(found)) => driven(alloc, &a, config, found, driver),
         _ => Ok(String::new(alloc)),
     }
 }
@@ -180,8 +242,19 @@ fn a_hand_runs_what_a_release_opens(rt: HostRuntime) -> Result<(), Fail> {
     let alloc = rt.alloc();
     let config = "choose RollingSum.B {0,1} = 0 until 2 then 1";
     assert_eq!(rt;
-        said(alloc, ROLL, config, "matrix 4\n1 2 3 4")?.as_str(),
+        said(alloc, ROLL, config, "matrix 4\n1 2 3 4", Driver::Hand)?.as_str(),
         "1, 2, 3, 4, 1, 3, 6, 10, numbers 0 1, finished 2"
+    );
+    Ok(())
+}
+
+#[test]
+fn three_events_of_one_hand_run_a_task(rt: HostRuntime) -> Result<(), Fail> {
+    let alloc = rt.alloc();
+    let double = "transform Double from A[n] to B[n] { to (B.cell(i) b) from (A.cell(i) a) { b = a + a; } }";
+    assert_eq!(rt;
+        said(alloc, double, "", "matrix 1\n4", Driver::Events)?.as_str(),
+        "done true, 3 isn't enabled"
     );
     Ok(())
 }
