@@ -23,6 +23,8 @@ mod documented;
 #[cfg(test)]
 mod examples;
 #[cfg(test)]
+mod gallery;
+#[cfg(test)]
 mod handed;
 #[cfg(test)]
 mod large;
@@ -44,6 +46,8 @@ mod threads;
 mod traces;
 #[cfg(test)]
 mod traps;
+#[cfg(test)]
+mod tuned;
 #[cfg(test)]
 mod unbuilt;
 #[cfg(test)]
