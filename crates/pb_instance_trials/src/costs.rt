@@ -7,7 +7,8 @@ use pb_program::Config;
 use std::alloc::{AllocError, Global};
 use std::test::Fail;
 
-const DOUBLE: &str = "transform Double from A[n] to B[n] { to (B.cell(i) b) from (A.cell(i) a) { b = a + a; } }";
+const DOUBLE: &str =
+    "transform Double from A[n] to B[n] { to (B.cell(i) b) from (A.cell(i) a) { b = a + a; } }";
 
 const ROLL: &str = "transform RollingSum from A[n] to B[n] {
   to (B.cell(i) b) from (A.region(0, i + 1) a) { b = sum(a); }
@@ -24,7 +25,8 @@ const BLUR: &str = "transform Blur3 where n >= 2 from A[n] to B[n] {
   secondary to (B.cell(i) b) from (A.cell(i) a) { b = a; }
 }";
 
-const REV: &str = "transform Rev from A[n] to B[n] { to (B b) from (A a) { for (k = 0 .. n) { b.cell(k) = a.cell(n - 1 - k); } } }";
+const REV: &str =
+    "transform Rev from A[n] to B[n] { to (B b) from (A a) { for (k = 0 .. n) { b.cell(k) = a.cell(n - 1 - k); } } }";
 
 // A row and a column, and an output of two parts.
 const LINES: &str = "transform Lines from A[n,n] to B[n], C[n] {
@@ -46,13 +48,16 @@ transform MatrixMultiply from A[c,h], B[w,c] to AB[w,h] {
 }";
 
 // A call that never fits, and a matrix that is empty at size 1.
-const BAD: &str = "transform Copy from A[m] to C[m] { to (C.cell(i) c) from (A.cell(i) a) { c = a; } }
+const BAD: &str =
+    "transform Copy from A[m] to C[m] { to (C.cell(i) c) from (A.cell(i) a) { c = a; } }
 transform Bad from A[n] to B[n] { to (B b) from (A.region(0, n/2) a) { b = Copy(a); } }";
 
-const HALF: &str = "transform Half from A[n], H[n/2] to B[n] { to (B.cell(i) b) from (A.cell(i) a) { b = a; } }";
+const HALF: &str =
+    "transform Half from A[n], H[n/2] to B[n] { to (B.cell(i) b) from (A.cell(i) a) { b = a; } }";
 
 // Each call is one less deep; one of 66 cells ends below the depth.
-const DEEP: &str = "transform Copy from A[m] to C[m] { to (C.cell(i) c) from (A.cell(i) a) { c = a; } }
+const DEEP: &str =
+    "transform Copy from A[m] to C[m] { to (C.cell(i) c) from (A.cell(i) a) { c = a; } }
 transform Deep from A[n] to B[n] {
   to (B.region(0, 1) p, B.region(1, n) q) from (A.region(0, 1) a, A.region(1, n) b) where n >= 2 { p = Copy(a); q = Deep(b); }
   secondary to (B.cell(i) b) from (A.cell(i) a) { b = a; }

@@ -251,7 +251,8 @@ fn a_hand_runs_what_a_release_opens(rt: HostRuntime) -> Result<(), Fail> {
 #[test]
 fn three_events_of_one_hand_run_a_task(rt: HostRuntime) -> Result<(), Fail> {
     let alloc = rt.alloc();
-    let double = "transform Double from A[n] to B[n] { to (B.cell(i) b) from (A.cell(i) a) { b = a + a; } }";
+    let double =
+        "transform Double from A[n] to B[n] { to (B.cell(i) b) from (A.cell(i) a) { b = a + a; } }";
     assert_eq!(rt;
         said(alloc, double, "", "matrix 1\n4", Driver::Events)?.as_str(),
         "done true, 3 isn't enabled"

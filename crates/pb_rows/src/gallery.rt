@@ -2,7 +2,8 @@
 use crate::run::{Row, done, holds};
 use std::test::Fail;
 
-const PRODUCT: &str = "/* The matrix product: each cell is a row of A times a column of B, or the upper and the lower half of the product are made by a call
+const PRODUCT: &str =
+    "/* The matrix product: each cell is a row of A times a column of B, or the upper and the lower half of the product are made by a call
    each, which don't wait for each other. */
 transform Product from A[c,h], B[w,c] to P[w,h] {
   to (P.cell(x,y) p) from (A.row(y) a, B.column(x) b) { p = dot(a, b); }
@@ -13,7 +14,8 @@ transform Product from A[c,h], B[w,c] to P[w,h] {
 }
 ";
 
-const SUMMED_AREA: &str = "/* The summed-area table: S(x,y) is the sum of A over the rectangle from (0,0) to (x,y). The whole rectangle is added up again for each
+const SUMMED_AREA: &str =
+    "/* The summed-area table: S(x,y) is the sum of A over the rectangle from (0,0) to (x,y). The whole rectangle is added up again for each
    cell, or a cell is made from three neighbours; the edges have the first way alone. */
 transform SummedArea from A[w,h] to S[w,h] {
   to (S.cell(x,y) s) from (A.region(0,0,x+1,y+1) a) { s = sum(a); }
@@ -23,7 +25,8 @@ transform SummedArea from A[w,h] to S[w,h] {
 }
 ";
 
-const STENCIL3: &str = "/* Heat along a rod: row y of H is the rod after y steps. A cell is the mean of the three cells around it a step before, and of two
+const STENCIL3: &str =
+    "/* Heat along a rod: row y of H is the rod after y steps. A cell is the mean of the three cells around it a step before, and of two
    at an end, plus what F adds at that step. Row 0 is A with what F adds at first. There is nothing to choose: where the rule for the
    middle can be used it is. */
 transform Stencil3 where n >= 2 from A[n], F[t] to H[n,t] {
@@ -34,7 +37,8 @@ transform Stencil3 where n >= 2 from A[n], F[t] to H[n,t] {
 }
 ";
 
-const STENCIL5: &str = "/* Three steps of a five-point stencil over a plate: a cell becomes the mean of itself and its four neighbours, and a cell of the edge
+const STENCIL5: &str =
+    "/* Three steps of a five-point stencil over a plate: a cell becomes the mean of itself and its four neighbours, and a cell of the edge
    stays. There is nothing to choose. */
 transform Stencil5 where w >= 2, h >= 2 from A[w,h] through B[w,h], C[w,h] to D[w,h] {
   to (B.cell(x,y) b) from (A.cell(x,y) m, A.cell(x-1,y) l, A.cell(x+1,y) r, A.cell(x,y-1) u, A.cell(x,y+1) d) {
@@ -52,7 +56,8 @@ transform Stencil5 where w >= 2, h >= 2 from A[w,h] through B[w,h], C[w,h] to D[
 }
 ";
 
-const CONVOLUTION: &str = "/* One-dimensional convolution with a kernel of five cells, where what lies outside A counts as 0. In the middle a cell is a dot product
+const CONVOLUTION: &str =
+    "/* One-dimensional convolution with a kernel of five cells, where what lies outside A counts as 0. In the middle a cell is a dot product
    of five cells of A with the kernel, or it looks through all of A as the cells near the ends must. */
 transform Convolve where n >= 4 from A[n], K[5] to C[n] {
   to (C.cell(i) c) from (A a, K k) {
@@ -64,7 +69,8 @@ transform Convolve where n >= 4 from A[n], K[5] to C[n] {
 }
 ";
 
-const SUBSEQUENCE: &str = "/* The longest common subsequence: L(x,y) is the length of the longest one of the first x cells of A and the first y of B, so the last
+const SUBSEQUENCE: &str =
+    "/* The longest common subsequence: L(x,y) is the length of the longest one of the first x cells of A and the first y of B, so the last
    cell is that of both. There is nothing to choose; all cells of a diagonal could be made at once. */
 transform CommonSubsequence from A[n], B[m] to L[n+1,m+1] {
   to (L.cell(x,y) l) from (A.cell(x-1) a, B.cell(y-1) b, L.cell(x-1,y-1) both, L.cell(x-1,y) left, L.cell(x,y-1) up) {
@@ -74,7 +80,8 @@ transform CommonSubsequence from A[n], B[m] to L[n+1,m+1] {
 }
 ";
 
-const EDIT_DISTANCE: &str = "/* The edit distance: D(x,y) is how many cells must be put in, taken out or changed to make the first y cells of B of the first x of A, so
+const EDIT_DISTANCE: &str =
+    "/* The edit distance: D(x,y) is how many cells must be put in, taken out or changed to make the first y cells of B of the first x of A, so
    the last cell is that of both. There is nothing to choose. */
 transform EditDistance from A[n], B[m] to D[n+1,m+1] {
   to (D.cell(x,y) d) from (A.cell(x-1) a, B.cell(y-1) b, D.cell(x-1,y-1) both, D.cell(x-1,y) left, D.cell(x,y-1) up) {
@@ -84,7 +91,8 @@ transform EditDistance from A[n], B[m] to D[n+1,m+1] {
 }
 ";
 
-const LEAST: &str = "/* The least cell of A: in one pass, or the lesser of the least cells of both halves, which don't wait for each other. */
+const LEAST: &str =
+    "/* The least cell of A: in one pass, or the lesser of the least cells of both halves, which don't wait for each other. */
 transform Lesser from A[n], B[n] to C[n] {
   to (C.cell(i) c) from (A.cell(i) a, B.cell(i) b) { c = min(a, b); }
 }
@@ -103,7 +111,8 @@ transform Least from A[n] to M[1] {
 }
 ";
 
-const TRANSPOSE: &str = "/* The transpose of A: cell by cell, or by quarters, each transposed by a call, until they fit into what is near. */
+const TRANSPOSE: &str =
+    "/* The transpose of A: cell by cell, or by quarters, each transposed by a call, until they fit into what is near. */
 transform Transpose from A[w,h] to B[h,w] {
   to (B.cell(x,y) b) from (A.cell(y,x) a) { b = a; }
   to (B.region(0,0,h/2,w/2) p, B.region(h/2,0,h,w/2) q, B.region(0,w/2,h/2,w) r, B.region(h/2,w/2,h,w) s)
@@ -117,7 +126,8 @@ transform Transpose from A[w,h] to B[h,w] {
 }
 ";
 
-const POLYNOMIAL: &str = "/* The product of two polynomials, given by their coefficients from the constant on: each coefficient by a pass over both, or the
+const POLYNOMIAL: &str =
+    "/* The product of two polynomials, given by their coefficients from the constant on: each coefficient by a pass over both, or the
    lower and the upper half of A times B, laid over one another. */
 transform Overlap from S[s], R[r], B[m], P[s+m-1], Q[r+m-1] to C[s+r+m-1] {
   to (C.cell(i) c) from (P.cell(i) p, Q.cell(i-s) q) { c = p + q; }
@@ -137,7 +147,8 @@ transform Multiply from A[n], B[m] to C[n+m-1] {
 }
 ";
 
-const RUNNING: &str = "/* The running sum and the running minimum of A: each from all cells up to a place, or by one step from the place before it. */
+const RUNNING: &str =
+    "/* The running sum and the running minimum of A: each from all cells up to a place, or by one step from the place before it. */
 transform Running from A[n] to S[n], M[n] {
   to (S.cell(i) s) from (A.region(0, i+1) a) { s = sum(a); }
   to (S.cell(i) s) from (A.cell(i) a, S.cell(i-1) before) { s = before + a; }
@@ -153,37 +164,66 @@ fn rows() -> [Row; 11] {
     [
         done(
             "run --pool serial p - Product a b",
-            &[("p", PRODUCT), ("a", "matrix 3 4\n1 2 3\n4 5 6\n7 8 9\n1 0 2\n"), ("b", "matrix 2 3\n1 2\n3 4\n5 6\n")],
+            &[
+                ("p", PRODUCT),
+                ("a", "matrix 3 4\n1 2 3\n4 5 6\n7 8 9\n1 0 2\n"),
+                ("b", "matrix 2 3\n1 2\n3 4\n5 6\n"),
+            ],
             "matrix 2 4\n22 28\n49 64\n76 100\n11 14\n",
         ),
         done(
             "run --pool serial p - SummedArea a",
-            &[("p", SUMMED_AREA), ("a", "matrix 4 3\n1 2 3 4\n5 6 7 8\n9 10 11 12\n")],
+            &[
+                ("p", SUMMED_AREA),
+                ("a", "matrix 4 3\n1 2 3 4\n5 6 7 8\n9 10 11 12\n"),
+            ],
             "matrix 4 3\n1 3 6 10\n6 14 24 36\n15 33 54 78\n",
         ),
         done(
             "run --pool serial p - Stencil3 a b",
-            &[("p", STENCIL3), ("a", "matrix 6\n0 0 90 0 0 30\n"), ("b", "matrix 4\n0 3 0 6\n")],
+            &[
+                ("p", STENCIL3),
+                ("a", "matrix 6\n0 0 90 0 0 30\n"),
+                ("b", "matrix 4\n0 3 0 6\n"),
+            ],
             "matrix 6 4\n0 0 90 0 0 30\n3 33 33 33 13 18\n18 23 33 26 21 15\n26 30 33 32 26 24\n",
         ),
         done(
             "run --pool serial p - Stencil5 a",
-            &[("p", STENCIL5), ("a", "matrix 5 5\n100 100 100 100 100\n100 0 0 0 100\n100 0 0 0 100\n100 0 0 0 100\n100 100 100 100 100\n")],
+            &[
+                ("p", STENCIL5),
+                (
+                    "a",
+                    "matrix 5 5\n100 100 100 100 100\n100 0 0 0 100\n100 0 0 0 100\n100 0 0 0 100\n100 100 100 100 100\n",
+                ),
+            ],
             "matrix 5 5\n100 100 100 100 100\n100 67 53 67 100\n100 53 35 53 100\n100 67 53 67 100\n100 100 100 100 100\n",
         ),
         done(
             "run --pool serial p - Convolve a b",
-            &[("p", CONVOLUTION), ("a", "matrix 8\n1 2 3 4 5 6 7 8\n"), ("b", "matrix 5\n1 2 4 2 1\n")],
+            &[
+                ("p", CONVOLUTION),
+                ("a", "matrix 8\n1 2 3 4 5 6 7 8\n"),
+                ("b", "matrix 5\n1 2 4 2 1\n"),
+            ],
             "matrix 8\n11 20 30 40 50 60 61 52\n",
         ),
         done(
             "run --pool serial p - CommonSubsequence a b",
-            &[("p", SUBSEQUENCE), ("a", "matrix 6\n3 1 4 1 5 9\n"), ("b", "matrix 5\n1 4 5 3 9\n")],
+            &[
+                ("p", SUBSEQUENCE),
+                ("a", "matrix 6\n3 1 4 1 5 9\n"),
+                ("b", "matrix 5\n1 4 5 3 9\n"),
+            ],
             "matrix 7 6\n0 0 0 0 0 0 0\n0 0 1 1 1 1 1\n0 0 1 2 2 2 2\n0 0 1 2 2 3 3\n0 1 1 2 2 3 3\n0 1 1 2 2 3 4\n",
         ),
         done(
             "run --pool serial p - EditDistance a b",
-            &[("p", EDIT_DISTANCE), ("a", "matrix 6\n3 1 4 1 5 9\n"), ("b", "matrix 5\n1 4 5 3 9\n")],
+            &[
+                ("p", EDIT_DISTANCE),
+                ("a", "matrix 6\n3 1 4 1 5 9\n"),
+                ("b", "matrix 5\n1 4 5 3 9\n"),
+            ],
             "matrix 7 6\n0 1 2 3 4 5 6\n1 1 1 2 3 4 5\n2 2 2 1 2 3 4\n3 3 3 2 2 2 3\n4 3 4 3 3 3 3\n5 4 4 4 4 4 3\n",
         ),
         done(
@@ -193,12 +233,19 @@ fn rows() -> [Row; 11] {
         ),
         done(
             "run --pool serial p - Transpose a",
-            &[("p", TRANSPOSE), ("a", "matrix 5 3\n1 2 3 4 5\n6 7 8 9 10\n11 12 13 14 15\n")],
+            &[
+                ("p", TRANSPOSE),
+                ("a", "matrix 5 3\n1 2 3 4 5\n6 7 8 9 10\n11 12 13 14 15\n"),
+            ],
             "matrix 3 5\n1 6 11\n2 7 12\n3 8 13\n4 9 14\n5 10 15\n",
         ),
         done(
             "run --pool serial p - Multiply a b",
-            &[("p", POLYNOMIAL), ("a", "matrix 5\n1 2 3 4 5\n"), ("b", "matrix 3\n1 -1 2\n")],
+            &[
+                ("p", POLYNOMIAL),
+                ("a", "matrix 5\n1 2 3 4 5\n"),
+                ("b", "matrix 3\n1 -1 2\n"),
+            ],
             "matrix 7\n1 1 3 5 7 3 10\n",
         ),
         done(
@@ -220,16 +267,36 @@ fn each_kernel_makes_what_it_says(rt: HostRuntime) -> Result<(), Fail> {
 fn tuned_rows() -> [Row; 11] {
     [
         done("tune --up-to 16 p Product", &[("p", PRODUCT)], ""),
-        done("tune --up-to 16 p SummedArea", &[("p", SUMMED_AREA)], "choose SummedArea.S {0,1} = 0 until 4 then 1\n"),
+        done(
+            "tune --up-to 16 p SummedArea",
+            &[("p", SUMMED_AREA)],
+            "choose SummedArea.S {0,1} = 0 until 4 then 1\n",
+        ),
         done("tune --up-to 16 p Stencil3", &[("p", STENCIL3)], ""),
         done("tune --up-to 16 p Stencil5", &[("p", STENCIL5)], ""),
-        done("tune --up-to 16 p Convolve", &[("p", CONVOLUTION)], "choose Convolve.C {0,1} = 0 until 8 then 1\n"),
-        done("tune --up-to 16 p CommonSubsequence", &[("p", SUBSEQUENCE)], ""),
-        done("tune --up-to 16 p EditDistance", &[("p", EDIT_DISTANCE)], ""),
+        done(
+            "tune --up-to 16 p Convolve",
+            &[("p", CONVOLUTION)],
+            "choose Convolve.C {0,1} = 0 until 8 then 1\n",
+        ),
+        done(
+            "tune --up-to 16 p CommonSubsequence",
+            &[("p", SUBSEQUENCE)],
+            "",
+        ),
+        done(
+            "tune --up-to 16 p EditDistance",
+            &[("p", EDIT_DISTANCE)],
+            "",
+        ),
         done("tune --up-to 16 p Least", &[("p", LEAST)], ""),
         done("tune --up-to 16 p Transpose", &[("p", TRANSPOSE)], ""),
         done("tune --up-to 16 p Multiply", &[("p", POLYNOMIAL)], ""),
-        done("tune --up-to 16 p Running", &[("p", RUNNING)], "choose Running.S {0,1} = 0 until 4 then 1\nchoose Running.M {2,3} = 2 until 8 then 3\n"),
+        done(
+            "tune --up-to 16 p Running",
+            &[("p", RUNNING)],
+            "choose Running.S {0,1} = 0 until 4 then 1\nchoose Running.M {2,3} = 2 until 8 then 3\n",
+        ),
     ]
 }
 
@@ -237,17 +304,33 @@ fn configured_rows() -> [Row; 3] {
     [
         done(
             "run --pool serial p c SummedArea a",
-            &[("p", SUMMED_AREA), ("c", "choose SummedArea.S {0,1} = 0 until 4 then 1\n"), ("a", "matrix 4 3\n1 2 3 4\n5 6 7 8\n9 10 11 12\n")],
+            &[
+                ("p", SUMMED_AREA),
+                ("c", "choose SummedArea.S {0,1} = 0 until 4 then 1\n"),
+                ("a", "matrix 4 3\n1 2 3 4\n5 6 7 8\n9 10 11 12\n"),
+            ],
             "matrix 4 3\n1 3 6 10\n6 14 24 36\n15 33 54 78\n",
         ),
         done(
             "run --pool serial p c Convolve a b",
-            &[("p", CONVOLUTION), ("c", "choose Convolve.C {0,1} = 0 until 8 then 1\n"), ("a", "matrix 8\n1 2 3 4 5 6 7 8\n"), ("b", "matrix 5\n1 2 4 2 1\n")],
+            &[
+                ("p", CONVOLUTION),
+                ("c", "choose Convolve.C {0,1} = 0 until 8 then 1\n"),
+                ("a", "matrix 8\n1 2 3 4 5 6 7 8\n"),
+                ("b", "matrix 5\n1 2 4 2 1\n"),
+            ],
             "matrix 8\n11 20 30 40 50 60 61 52\n",
         ),
         done(
             "run --pool serial p c Running a",
-            &[("p", RUNNING), ("c", "choose Running.S {0,1} = 0 until 4 then 1\nchoose Running.M {2,3} = 2 until 8 then 3\n"), ("a", "matrix 5\n4 2 5 1 3\n")],
+            &[
+                ("p", RUNNING),
+                (
+                    "c",
+                    "choose Running.S {0,1} = 0 until 4 then 1\nchoose Running.M {2,3} = 2 until 8 then 3\n",
+                ),
+                ("a", "matrix 5\n4 2 5 1 3\n"),
+            ],
             "matrix 5\n4 6 11 12 15\nmatrix 5\n4 2 2 1 1\n",
         ),
     ]
