@@ -1,5 +1,5 @@
 -- Blank matrices for those after `from`: a run over them can be begun, where its counts are within their limits.
-use Rattle.std.proofs.Common.{◌≡◌, ◌∙◌, refl, sym, subst, ℕ, zero, suc, ◌+◌, ◌*◌, ℤ, pos, negsuc, ◌≤ℤ◌, List, [], ◌∷◌, length, map, take, replicate, slice_get, Some, None, arith}
+use Rattle.std.proofs.Common.{◌≡◌, ◌∙◌, refl, sym, subst, ℕ, zero, suc, ◌*◌, ℤ, pos, negsuc, ◌≤ℤ◌, List, [], ◌∷◌, length, map, take, replicate, slice_get, Some, None, arith}
 use Rattle.std.specs.Prelude.{IsTrue}
 use Rattle.std.specs.List.{All, AllByRecursion}
 use Rattle.std.proofs.lemmas.List.{length-map, length-replicate, length-take-le}
@@ -20,11 +20,10 @@ use Rattle.pb_check.specs.Phases.{IsBounded}
 use Rattle.pb_entry.specs.Fitting.{IsNatural}
 use Rattle.pb_entry.proofs.SideLemmas.{natural_sides}
 use Rattle.pb_taskgraph.specs.Plans.{IsSmall}
-use Rattle.pb_recursion.specs.Counts.{all_of, matrix_of, run_count}
+use Rattle.pb_recursion.specs.Counts.{run_count}
 use Rattle.pb_recursion.specs.Depths.{IsWhole, sides_of_matrix}
 use Rattle.pb_recursion.specs.Shapes.{can_enter, sides_of_decl}
 use Rattle.pb_counts.specs.Limits.{AreFew}
-use Rattle.pb_runs.specs.Placed.{total}
 use Rattle.pb_cost.specs.Costs.{given_sides}
 use Rattle.pb_cost.specs.Linked.{CanBeBegun}
 use Rattle.pb_cost.specs.declared.at_size.TheConstants.{COST_DEPTH}
@@ -57,10 +56,6 @@ module _ (sizes : List ℕ) where
   sides_are : (ds : List DeclValue) → AllByRecursion (IsNatural sizes) ds → map sides_of_matrix (blanks ds) ≡ map (sides_of_decl sizes) ds
   sides_are [] h = refl
   sides_are (d ∷ ds) h = λ i. (natural_is (exact_value d.w sizes) h.0.0 i, natural_is (exact_value d.h sizes) h.0.1 i) ∷ sides_are ds h.1 i
-
-  total_is : (ds : List DeclValue) → total (blanks ds) ≡ (all_of (map matrix_of (map (sides_of_decl sizes) ds))).cells
-  total_is [] = refl
-  total_is (d ∷ ds) = let one = length-replicate (natural (exact_value d.w sizes) * natural (exact_value d.h sizes)) (Value (pos 0)) in λ i. one i + total_is ds i
 
   each_has : (ds : List DeclValue) (n m : ℕ) (d : DeclValue) (g : Outcomes) → slice_get ds m ≡ Some d → slice_get (blanks (take n ds)) m ≡ Some g → HasSides sizes d g
   each_has ds zero m d g at_d at_g = absurd (let wrong : None ≡ Some g = at_g in cc)
@@ -104,12 +99,11 @@ module _ (v : AcceptedValue) (accepted : IsAccepted v) (config : ConfigValue) (v
     each = each_has sizes x.matrices x.inputs;
   }
 
-  module _ (enters : IsTrue (can_enter x (map sides_of_matrix ins))) (few : AreFew (run_count p config COST_DEPTH t (given_sides x sizes))) (cells : ℕ) where
-    pub can_begin : cells ≡ (all_of (map matrix_of (given_sides x sizes))).cells → CanBeBegun v config t (given_sides x sizes) cells
-    can_begin is = record {
+  module _ (enters : IsTrue (can_enter x (map sides_of_matrix ins))) (few : AreFew (run_count p config COST_DEPTH t (given_sides x sizes))) where
+    pub can_begin : CanBeBegun v config t (given_sides x sizes)
+    can_begin = record {
       ins = ins;
       sides = are_sides;
-      all = is ∙ sym (total_is sizes (take x.inputs x.matrices));
       entered = record {
         well = accepted.well_formed;
         sound = accepted.sound;

@@ -7,10 +7,9 @@ use Rattle.pb_program.specs.Trees.{ProgRule, ProgTransform}
 use Rattle.pb_check.specs.Orders.{AnalysisValue}
 use Rattle.pb_frame.specs.Choices.{IsInstance}
 use Rattle.pb_frame.specs.Frames.{parts_of}
-use Rattle.pb_frame.specs.declared.part.FramePart.{FramePart}
 use Rattle.pb_instance_cost.proofs.CostLemmas.{any_same}
 use Rattle.pb_recursion.specs.Counts.{chosen_plans, is_chosen_plan, is_plan_kind}
-use Rattle.pb_cost.specs.Calls.{Entered, entered_calls, entered_in}
+use Rattle.pb_cost.specs.Calls.{entered_calls, entered_in}
 use Rattle.pb_cost.specs.Planned.{rule_calls}
 
 module _ (config : ConfigValue) (number : ℕ) (t : ProgTransform) (a : AnalysisValue) (sizes : List ℕ) (here : IsInstance number t a sizes) (valid : IsValid here.program config) (p : List ProgTransform) where

@@ -1,6 +1,6 @@
 -- Counts within their limits, and past them.
 use Rattle.std.proofs.Common.{◌≡◌, ◌∙◌, refl, sym, ap, subst, ◌⊎◌, ⊎_elim, ℕ, zero, suc, ◌≤◌, ◌<◌, Bool, true, false, ◌&&◌, not, List, [], ◌∷◌, length, map, get_or, slice_get, Option, Some, None, arith}
-use Rattle.std.specs.Prelude.{IfOk, IsTrue, Result, Ok, Err, if◌then◌else◌, nat_le, min}
+use Rattle.std.specs.Prelude.{IfOk, IsTrue, Result, Ok, Err, if◌then◌else◌, nat_le}
 use Rattle.std.specs.Option.{option_map_or}
 use Rattle.std.proofs.lemmas.List.{length-map}
 use Rattle.std.proofs.lemmas.Option.{slice_get-get_or}
@@ -22,7 +22,7 @@ use Rattle.pb_entry.specs.declared.refusal.RunRefusal.TheVariants.{BadShape, Mem
 use Rattle.pb_frame.proofs.FoundLemmas.{of_these, said_of}
 use Rattle.pb_links.specs.Links.{link_count}
 use Rattle.pb_taskgraph.specs.declared.limits.TheConstants.{MOST_CELLS, MOST_LINKS, MOST_TASKS}
-use Rattle.pb_recursion.specs.Counts.{Counted, all_of, matrix_of, run_count}
+use Rattle.pb_recursion.specs.Counts.{Counted, run_count}
 use Rattle.pb_recursion.specs.Depths.{sides_of_matrix}
 use Rattle.pb_recursion.specs.Shapes.{Sides, are_in_range, can_enter}
 use Rattle.pb_recursion.proofs.ShapeLemmas.{map_get, range_is}
@@ -30,9 +30,9 @@ use Rattle.pb_counts.specs.Callable.{IsCallable}
 use Rattle.pb_counts.proofs.PlaceLemmas.{all_callable}
 use Rattle.pb_counts.specs.Limits.{AreFew, AreMany, OfRun}
 use Rattle.pb_counts.specs.declared.count.TheConstants.{MOST_CALLS}
-use Rattle.pb_counts.specs.declared.tally.TheConstants.{TALLY_TOP}
 use Rattle.pb_runs.specs.Steps.{Step, places_of}
 use Rattle.pb_runs.specs.Unrolled.{unrolled_run}
+use Rattle.pb_runs.specs.Placed.{total}
 use Rattle.pb_runs.proofs.RunLemmas.{run_tally}
 use Rattle.pb_run_graph.specs.Linking.{CanBeLinked, IsTooMany}
 use Rattle.pb_steps.specs.Runs.{UnrolledValue}
@@ -129,33 +129,32 @@ module _ (v : AcceptedValue) (accepted : IsAccepted v) (config : ConfigValue) (v
   pub many_told : (e : RunRefusal) → (e ≡ Memory → ⊥) → (e ≡ Memory) ⊎ OfTransform v t (λ transform found. OfRun p config COST_DEPTH t transform sizes (λ n. AreMany n e)) → false ≡ are_few counted
   many_told e other = ⊎_elim (λ memory. absurd (other memory)) (λ h. many_is counted e (over (λ n. AreMany n e) h))
 
-  pub begun : IsTrue (can_enter x (map sides_of_matrix (ins v accepted config valid t x there sizes range))) → are_few counted ≡ true → (cells : ℕ) → cells ≡ min (all_of (map matrix_of given)).cells TALLY_TOP
-      → CanBeBegun v config t given cells
-  begun enters few cells is =
-      let h = is_few counted few in
-      can_begin v accepted config valid t x there sizes range enters h cells (omega (arith, is, h.cells))
+  pub begun : IsTrue (can_enter x (map sides_of_matrix (ins v accepted config valid t x there sizes range))) → are_few counted ≡ true → CanBeBegun v config t given
+  begun enters few = can_begin v accepted config valid t x there sizes range enters (is_few counted few)
 
 -- ---- a run that can be begun can be linked
-pub can_link : (v : AcceptedValue) (config : ConfigValue) (t : ℕ) (given : List Sides) (cells : ℕ) → CanBeBegun v config t given cells → (u : UnrolledValue)
+pub can_link : (v : AcceptedValue) (config : ConfigValue) (t : ℕ) (given : List Sides) → CanBeBegun v config t given → (u : UnrolledValue)
     → AreSteps (bare_prog v.program) v.found u (unrolled_run (bare_prog v.program) v.found config COST_GRAIN COST_DEPTH t given).steps → met_of u.met ≡ (unrolled_run (bare_prog v.program) v.found config COST_GRAIN COST_DEPTH t given).next
-    → AreSeated v config COST_GRAIN u.instances → CanBeLinked v u cells
-can_link v config t given cells b u steps met seated =
-    let tally = run_tally (bare_prog v.program) v.found config COST_GRAIN COST_DEPTH t b.ins b.entered in
-    record {
-      config = config;
-      grain = COST_GRAIN;
-      depth = COST_DEPTH;
-      number = t;
-      ins = b.ins;
-      entered = b.entered;
-      steps = subst (λ (ss : List Sides). AreSteps (bare_prog v.program) v.found u (unrolled_run (bare_prog v.program) v.found config COST_GRAIN COST_DEPTH t ss).steps) (sym b.sides) steps;
-      met = subst (λ (ss : List Sides). met_of u.met ≡ (unrolled_run (bare_prog v.program) v.found config COST_GRAIN COST_DEPTH t ss).next) (sym b.sides) met;
-      seated = seated;
-      side = omega (arith, tally.side, b.few.side);
-      cells = omega (arith, tally.cells, b.few.cells);
-      small = b.small;
-      given = b.all;
-    }
+    → AreSeated v config COST_GRAIN u.instances → (inputs : ℕ) × CanBeLinked v u inputs
+can_link v config t given b u steps met seated =
+    let tally = run_tally (bare_prog v.program) v.found config COST_GRAIN COST_DEPTH t b.ins b.entered in (
+      total b.ins,
+      record {
+        config = config;
+        grain = COST_GRAIN;
+        depth = COST_DEPTH;
+        number = t;
+        ins = b.ins;
+        entered = b.entered;
+        steps = subst (λ (ss : List Sides). AreSteps (bare_prog v.program) v.found u (unrolled_run (bare_prog v.program) v.found config COST_GRAIN COST_DEPTH t ss).steps) (sym b.sides) steps;
+        met = subst (λ (ss : List Sides). met_of u.met ≡ (unrolled_run (bare_prog v.program) v.found config COST_GRAIN COST_DEPTH t ss).next) (sym b.sides) met;
+        seated = seated;
+        side = omega (arith, tally.side, b.few.side);
+        cells = omega (arith, tally.cells, b.few.cells);
+        small = b.small;
+        given = refl;
+      },
+    )
 
 -- ---- a configuration is unfit
 abbrev nothing : Option ℕ

@@ -11,14 +11,12 @@ use Rattle.pb_recursion.specs.Depths.{sides_of_matrix}
 use Rattle.pb_recursion.specs.Shapes.{Sides}
 use Rattle.pb_counts.specs.Limits.{AreFew}
 use Rattle.pb_runs.specs.Laws.{IsEntered}
-use Rattle.pb_runs.specs.Placed.{total}
 use Rattle.pb_cost.specs.declared.at_size.TheConstants.{COST_DEPTH}
 
--- some matrices have these sides and so many cells, and a run over them is entered and counts little
-pub record CanBeBegun (a : AcceptedValue) (config : ConfigValue) (number : ℕ) (given : List Sides) (cells : ℕ) : Type 0 where
+-- some matrices have these sides, and a run over them is entered and counts little
+pub record CanBeBegun (a : AcceptedValue) (config : ConfigValue) (number : ℕ) (given : List Sides) : Type 0 where
   pub ins : List Outcomes
   pub sides : map sides_of_matrix ins ≡ given
-  pub all : cells ≡ total ins
   pub entered : IsEntered (bare_prog a.program) a.found config number ins
   pub small : All (λ (m : Outcomes). All IsSmall m.cells) ins
   pub few : AreFew (run_count (bare_prog a.program) config COST_DEPTH number (map sides_of_matrix ins))

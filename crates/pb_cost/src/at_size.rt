@@ -9,7 +9,6 @@ use crate::known::Known;
 use crate::limits::{has_few_counts, has_few_links};
 use crate::recursion::call_cost;
 use pb_check::Accepted;
-use pb_counts::of_matrices;
 use pb_linear::Sizes;
 use pb_program::{Config, Transform};
 use pb_recursion::given_matrices_can_enter;
@@ -49,8 +48,7 @@ fn cost_at(
     let Some(cost) = call_cost(alloc, a, c, &mut known, COST_DEPTH, t, s)? else {
         return Ok(None);
     };
-    let cells = of_matrices(&given).cells;
-    if !has_few_links(alloc, a, c, t, &given, cells)? {
+    if !has_few_links(alloc, a, c, t, &given)? {
         return Ok(None);
     }
     Ok(Some(cost))

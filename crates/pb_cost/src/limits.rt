@@ -14,7 +14,7 @@ use pb_counts::check_counts;
 use pb_entry::RunRefusal;
 use pb_linear::Sizes;
 use pb_program::{Config, Transform};
-use pb_run_graph::graph_of;
+use pb_run_graph::run_links;
 use pb_steps::unroll;
 use std::alloc::{AllocError, Global};
 
@@ -60,14 +60,13 @@ pub(crate) fn has_few_links(
     c: &Config,
     t: u32,
     given: &[(i64, i64)],
-    cells: u64,
 ) -> Result<bool, AllocError>
     requires valid { IsValid (bare_prog a.now.program) c.now }
-    requires begun { CanBeBegun a.now c.now t given.now cells }
+    requires begun { CanBeBegun a.now c.now t given.now }
     ensures { IfOk result (λ b. b ≡ can_be_linked (unrolled_run (bare_prog a.now.program) a.now.found c.now COST_GRAIN COST_DEPTH t given.now).steps) }
 {
     let run = unroll(alloc, a, c, COST_DEPTH, t, given, COST_GRAIN)?;
-    match graph_of(alloc, a, &run, cells) {
+    match run_links(alloc, a, &run) {
         Ok(_) => Ok(true),
         Err(refusal) => {
             unless_memory(refusal)?;

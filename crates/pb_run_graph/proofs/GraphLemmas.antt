@@ -85,15 +85,15 @@ module _ (a : AcceptedValue) (u : UnrolledValue) (inputs : ℕ) (c : CanBeLinked
     pub are_as_many : length places ≡ length u.steps
     are_as_many = ap length (places_is run_steps c.steps) ∙ length-map run_steps places_of ∙ sym count_is
 
-    module _ (links : LinksValue) (tasks : List TaskValue) (are : AreMadeWith p a.found u links tasks) (is : links ≡ record { before = all_predecessors places; after = all_successors places }) where
-      pub made_tasks : (steps : List Step) → AreSteps p a.found u steps → AreTasksOf steps tasks
-      made_tasks steps h = tasks_are p a.found u steps links tasks are h (is ∙ ap (λ (qs : List PlacesValue). record { before = all_predecessors qs; after = all_successors qs }) (places_is steps h))
+  module _ (links : LinksValue) (tasks : List TaskValue) (are : AreMadeWith p a.found u links tasks) (is : (steps : List Step) → AreSteps p a.found u steps → links ≡ record { before = all_predecessors (map places_of steps); after = all_successors (map places_of steps) }) where
+    pub made_tasks : (steps : List Step) → AreSteps p a.found u steps → AreTasksOf steps tasks
+    made_tasks steps h = tasks_are p a.found u steps links tasks are h (is steps h)
 
-      pub made_graph : length u.steps ≤ MOST_TASKS → link_count places ≤ MOST_LINKS → IsGraph (record { inputs = inputs; cells = u.met.cells; tasks = tasks })
-      unfolding plan_of_run
-      made_graph few links_few =
-          let ms = run_matrices p a.found c.config c.grain c.depth c.number c.ins in
-          let places = places_is run_steps c.steps in
-          let plan = is_plan p a.found c.config c.grain c.depth c.number c.ins c.entered tasks (made_tasks run_steps c.steps) c.small (record { side = c.side; cells = c.cells; tasks = omega (arith, few, count_is); links = omega (arith, links_few, ap link_count places) }) in
-          let cells : u.met.cells ≡ total ms = ap (λ (m : Met). m.cells) c.met ∙ met_cells p a.found c.config c.grain c.depth c.number c.ins c.entered in
-          subst IsGraph (λ z. record { inputs = sym c.given z; cells = sym cells z; tasks = tasks }) plan.graph
+    pub made_graph : ((steps : List Step) → AreSteps p a.found u steps → (length steps ≤ MOST_TASKS) × (link_count (map places_of steps) ≤ MOST_LINKS)) → IsGraph (record { inputs = inputs; cells = u.met.cells; tasks = tasks })
+    unfolding plan_of_run
+    made_graph within =
+        let ms = run_matrices p a.found c.config c.grain c.depth c.number c.ins in
+        let few = within run_steps c.steps in
+        let plan = is_plan p a.found c.config c.grain c.depth c.number c.ins c.entered tasks (made_tasks run_steps c.steps) c.small (record { side = c.side; cells = c.cells; tasks = few.0; links = few.1 }) in
+        let cells : u.met.cells ≡ total ms = ap (λ (m : Met). m.cells) c.met ∙ met_cells p a.found c.config c.grain c.depth c.number c.ins c.entered in
+        subst IsGraph (λ z. record { inputs = sym c.given z; cells = sym cells z; tasks = tasks }) plan.graph

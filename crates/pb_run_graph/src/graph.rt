@@ -1,4 +1,4 @@
-ghost use Rattle.std.specs.Prelude.{◌≡◌, ◌⊎◌, ◌<◌, ◌≤◌, List, IfErr, IfOk, length, map};
+ghost use Rattle.std.specs.Prelude.{◌≡◌, ◌⊎◌, ◌<◌, ◌≤◌, ℕ, List, IfErr, IfOk, length, map};
 ghost use Rattle.std.specs.List.{All};
 ghost use Rattle.pb_program.specs.Trees.{bare_prog};
 ghost use Rattle.pb_entry.specs.declared.refusal.Count.TheVariants.{Links as too_many_links};
@@ -35,8 +35,22 @@ fn links_of(alloc: Global, bases: u32, places: &[Places]) -> Result<Links, RunRe
     }
 }
 
-/// The graph of the tasks of a run, one for each step, where so many of its cells are given. It refuses more tasks than `MOST_TASKS`, before
-/// their links are looked for, and then more links than `MOST_LINKS`.
+/// The links of the tasks of a run, one task for each step. It refuses more tasks than `MOST_TASKS`, before their links are looked for, and
+/// then more links than `MOST_LINKS`.
+pub fn run_links(alloc: Global, a: &Accepted, run: &Unrolled) -> Result<Links, RunRefusal>
+    requires ready { (inputs : ℕ) × CanBeLinked a.now run.now inputs }
+    ensures found { IfOk result (λ l. (steps : List Step) → AreSteps (bare_prog a.now.program) a.now.found run.now steps → l ≡ record { before = all_predecessors (map places_of steps); after = all_successors (map places_of steps) }) }
+    ensures within { IfOk result (λ l. (steps : List Step) → AreSteps (bare_prog a.now.program) a.now.found run.now steps → (length steps ≤ MOST_TASKS) × (link_count (map places_of steps) ≤ MOST_LINKS)) }
+    ensures refused { IfErr result (λ e. (e ≡ Memory) ⊎ ((steps : List Step) → AreSteps (bare_prog a.now.program) a.now.found run.now steps → IsTooMany steps e)) }
+{
+    if run.steps.len() > MOST_TASKS {
+        return Err(RunRefusal::TooLarge { what: Count::Tasks });
+    }
+    let places = all_places(alloc, a, run)?;
+    links_of(alloc, run.met.matrices, &places)
+}
+
+/// The graph of the tasks of a run, one for each step, where so many of its cells are given. It refuses what `run_links` refuses.
 pub fn graph_of(
     alloc: Global,
     a: &Accepted,
@@ -49,11 +63,7 @@ pub fn graph_of(
     ensures within { IfOk result (λ g. (steps : List Step) → AreSteps (bare_prog a.now.program) a.now.found run.now steps → (length steps ≤ MOST_TASKS) × (link_count (map places_of steps) ≤ MOST_LINKS)) }
     ensures refused { IfErr result (λ e. (e ≡ Memory) ⊎ ((steps : List Step) → AreSteps (bare_prog a.now.program) a.now.found run.now steps → IsTooMany steps e)) }
 {
-    if run.steps.len() > MOST_TASKS {
-        return Err(RunRefusal::TooLarge { what: Count::Tasks });
-    }
-    let places = all_places(alloc, a, run)?;
-    let links = links_of(alloc, run.met.matrices, &places)?;
+    let links = run_links(alloc, a, run)?;
     let tasks = tasks_for(alloc, a, run, links)?;
     Ok(TaskGraph::new(alloc, inputs, run.met.cells, tasks)?)
 }

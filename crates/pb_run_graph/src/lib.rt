@@ -2,7 +2,7 @@
 //!
 //! In: an accepted program, and a run of one of its transforms, unrolled to steps: jobs of instances, copies, and calls that can't be
 //! made. Out: the graph of its tasks, where each waits for the others of which a part meets what it reads; or that there are too many
-//! tasks or links. The theorem is `graph_of`.
+//! tasks or links. The theorem is `graph_of`; `run_links` gives the links alone, and visits no cell.
 #![tactic(auto)]
 
 mod graph;
@@ -12,4 +12,4 @@ mod places;
 mod spots;
 mod tasks;
 
-pub use graph::graph_of;
+pub use graph::{graph_of, run_links};

@@ -1,11 +1,7 @@
-use Rattle.std.proofs.Common.{◌∙◌, sym, ap, subst, List, map}
-use Rattle.std.specs.Prelude.{min}
+use Rattle.std.proofs.Common.{◌∙◌, sym, subst}
 use Rattle.pb_linear.proofs.SizesLemmas.{in_range_top}
 use Rattle.pb_linear.specs.Sizes.{leasts_of, sizes_of}
 use Rattle.pb_program.specs.Trees.{bare_prog, bare_transform}
-use Rattle.pb_counts.specs.declared.tally.TheConstants.{TALLY_TOP}
-use Rattle.pb_recursion.specs.Counts.{Counted, all_of, matrix_of}
-use Rattle.pb_recursion.specs.Shapes.{Sides}
 use Rattle.pb_recursion.proofs.ShapeLemmas.{map_get}
 use Rattle.pb_cost.specs.Linked.{CanBeBegun}
 use Rattle.pb_cost.proofs.BlankLemmas.{are_given, ins}
@@ -30,8 +26,7 @@ has_few_links-requires-clause-begun c =
     let x = bare_transform c.args.transform.now in
     let there = map_get bare_transform v.program.transforms c.args.t c.args.transform.now c.requires.there in
     let sizes = sizes_of c.args.s.now in
-    let sides = c.deref-3.ensures.value ∙ c.in_ok-given.ensures in
+    let sides = c.deref-2.ensures.value ∙ c.in_ok-given.ensures in
     let enters = c.given_matrices_can_enter.ensures.enters (bare_prog v.program) c.args.t x sizes (ins v accepted c.args.c.now c.requires.valid c.args.t x there sizes c.requires.range) accepted.well_formed accepted.sound there c.requires.range (are_given v accepted c.args.c.now c.requires.valid c.args.t x there sizes c.requires.range) in
-    let cells = ap (λ (n : Counted). n.cells) c.of_matrices-cells.ensures ∙ ap (λ (l : List Sides). min (all_of (map matrix_of l)).cells TALLY_TOP) (c.deref-2.ensures.value ∙ c.in_ok-given.ensures) in
-    subst (λ (l : List Sides). CanBeBegun v c.args.c.now c.args.t l c.of_matrices-cells.result.cells) (sym sides)
-    (begun v accepted c.args.c.now c.requires.valid c.args.t x there sizes c.requires.range enters (sym c.in_ok-has_few_counts.ensures ∙ c.if-not-branch.false) c.of_matrices-cells.result.cells cells)
+    subst (CanBeBegun v c.args.c.now c.args.t) (sym sides)
+    (begun v accepted c.args.c.now c.requires.valid c.args.t x there sizes c.requires.range enters (sym c.in_ok-has_few_counts.ensures ∙ c.if-not-branch.false))

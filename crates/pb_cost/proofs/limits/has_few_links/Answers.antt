@@ -7,8 +7,8 @@ use Rattle.pb_cost.specs.declared.at_size.TheConstants.{COST_DEPTH, COST_GRAIN}
 use Rattle.pb_cost.proofs.LimitLemmas.{can_link, unlinked_is}
 use Rattle.pb_cost.proofs.limits.has_few_links.Goals as goal
 
-pub graph_of-requires : goal.graph_of-requires
-graph_of-requires c = record { ready = can_link c.args.a.now c.args.c.now c.args.t c.args.given.now c.args.cells c.requires.begun c.in_ok-run.run' c.in_ok-run.ensures.steps c.in_ok-run.ensures.met c.in_ok-run.ensures.seated }
+pub run_links-requires : goal.run_links-requires
+run_links-requires c = record { ready = can_link c.args.a.now c.args.c.now c.args.t c.args.given.now c.requires.begun c.in_ok-run.run' c.in_ok-run.ensures.steps c.in_ok-run.ensures.met c.in_ok-run.ensures.seated }
 
 pub returns : goal.returns
 returns c =
