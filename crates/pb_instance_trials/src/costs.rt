@@ -1,4 +1,7 @@
 //! The costs of configurations, beside counts by hand.
+ghost use Rattle.pb_program.specs.Configs.{IsValid};
+ghost use Rattle.pb_program.specs.Trees.{bare_prog};
+
 use crate::programs::{accepted, program};
 use pb_check::Accepted;
 use pb_config::{ConfigRefusal, read_config};
@@ -63,7 +66,9 @@ transform Deep from A[n] to B[n] {
   secondary to (B.cell(i) b) from (A.cell(i) a) { b = a; }
 }";
 
-fn told(alloc: Global, a: &Accepted, c: &Config, t: u32, size: u64) -> Result<String, AllocError> {
+fn told(alloc: Global, a: &Accepted, c: &Config, t: u32, size: u64) -> Result<String, AllocError>
+    requires valid { IsValid (bare_prog a.now.program) c.now }
+{
     if t as usize >= program(a).transforms.len() || size < 1 || size > 1_048_576 {
         return String::from_str(alloc, "nothing");
     }
