@@ -1,5 +1,5 @@
 -- What the calls of a table ask of its steps.
-use Rattle.std.proofs.Common.{◌≡◌, ◌∙◌, refl, sym, ap, subst, inl, inr, ⊎_elim, ℕ, ◌+◌, ◌-◌, ◌%◌, ◌^◌, ◌<◌, ◌≤◌, List, [], length, get_or, pos, Some, None, IsSome, slice_get, arith}
+use Rattle.std.proofs.Common.{◌≡◌, ◌∙◌, refl, sym, ap, subst, inl, inr, ⊎_elim, ℕ, ◌+◌, ◌-◌, ◌%◌, ◌^◌, ◌<◌, ◌≤◌, true, false, is_some, List, [], length, get_or, pos, Some, None, IsSome, slice_get, arith}
 use Rattle.std.specs.List.{Contains}
 use Rattle.std.proofs.lemmas.Bool.{cases_lt}
 use Rattle.std.proofs.lemmas.List.{get_or-take, get_or_past, length-take}
@@ -19,14 +19,14 @@ use Rattle.pb_taskgraph.proofs.PlanLemmas.{own-below}
 use Rattle.pb_core.proofs.ListedLemmas.{not-true}
 use Rattle.pb_core.proofs.WithLemmas.{of-some}
 use Rattle.pb_cells.specs.declared.view.TaskView.{TaskView}
-use Rattle.pb_cells.specs.Banks.{count_at, finish_at, mark_at}
+use Rattle.pb_cells.specs.Banks.{count_at, filed_at, finish_at, mark_at, number_at}
 use Rattle.pb_cells.specs.Handles.{HandValue, IsHand, IsJob, IsTable, JobValue, task_of, turn_at}
-use Rattle.pb_cells.specs.Steps.{AreTasks, CanRead, Finishes, IsFinishCount, IsPast, Looks, Marks, Me, Reads, Releases, Stores}
+use Rattle.pb_cells.specs.Steps.{AreTasks, CanRead, Draws, Files, IsFiledCount, IsPast, Looks, Marks, Me, Reads, Releases, Stores, StoresNumber}
 use Rattle.pb_cells.specs.Stories.{Holds, is_listed}
-use Rattle.pb_cells.specs.Views.{after_store, hand_view, job_view, joined_view, no_view, released_view, turn_view, without_turn}
+use Rattle.pb_cells.specs.Views.{after_draw, after_keep, after_store, gathered_view, hand_view, job_view, joined_view, no_view, released_view, turn_view, with_task, without_turn}
 use Rattle.pb_cells.specs.Words.{mark_of, outcome_in, word_of}
-use Rattle.pb_cells.proofs.JoinLemmas.{in-listed, listed-in}
-use Rattle.pb_cells.proofs.RuleLemmas.{finish-allows, join-joins, look-allows, mark-allows, read-allows, release-allows, turn-splits, value-allows}
+use Rattle.pb_cells.proofs.SeatLemmas.{in-listed, listed-in}
+use Rattle.pb_cells.proofs.RuleLemmas.{draw-allows, file-allows, gather-joins, join-joins, look-allows, mark-allows, number-allows, read-allows, release-allows, turn-splits, value-allows}
 use Rattle.pb_cells.proofs.LookLemmas.{look-few, look-past, look-tasks}
 use Rattle.pb_cells.proofs.WordLemmas.{outcome-back}
 
@@ -56,16 +56,25 @@ module _ (p : Plan) (table : TableId) (cells tasks : ℕ) (is : IsTable p table 
   pub count-place : (t : ℕ) → cells + cells + t ≡ count_at p.graph t
   count-place t = omega (arith, is.cells)
 
-  pub finish-place : cells + cells + tasks ≡ finish_at p.graph
+  pub number-place : (t : ℕ) → cells + cells + tasks + t ≡ number_at p.graph t
+  number-place t = omega (arith, is.cells, is.tasks)
+
+  pub finish-place : cells + cells + tasks + tasks ≡ finish_at p.graph
   finish-place = omega (arith, is.cells, is.tasks)
+
+  pub filed-place : cells + cells + tasks + tasks + 1 ≡ filed_at p.graph
+  filed-place = omega (arith, is.cells, is.tasks)
 
   pub count-inside : (t : ℕ) → t < length p.graph.tasks → (cells + cells + t < table.words)
   count-inside t below = omega (arith, is.words, is.cells)
 
-  pub finish-inside : cells + cells + tasks < table.words
-  finish-inside = omega (arith, is.words, is.cells, is.tasks)
+  pub number-inside : (t : ℕ) → t < length p.graph.tasks → cells + cells + tasks + t < table.words
+  number-inside t below = omega (arith, is.words, is.cells, is.tasks)
 
-  module _ (self own : TableId) (self_is : table ≡ self) (me : Me) (v : JobValue) (job : IsJob p me) (view_is : record { table = own; at = task_of me.0.job; opened = me.0.opened } ≡ v) (same : v.table ≡ self) where
+  pub filed-inside : cells + cells + tasks + tasks + 1 < table.words
+  filed-inside = omega (arith, is.words, is.cells, is.tasks)
+
+  module _ (self own : TableId) (self_is : table ≡ self) (me : Me) (v : JobValue) (t : ℕ) (job : IsJob p me t) (view_is : record { table = own; at = task_of me.0.job; opened = me.0.opened } ≡ v) (same : v.table ≡ self) where
     pub own-is : own ≡ table
     own-is = ap (λ (w : JobValue). w.table) view_is ∙ (same ∙ sym self_is)
 
@@ -114,11 +123,37 @@ module _ (p : Plan) (table : TableId) (cells tasks : ℕ) (is : IsTable p table 
     pub read-asks : (id word : ℕ) (m : Me) → m ≡ me → Allows (Holds p) table.slots id m word (λ n. n) (Reads p (step table.slots word 0 0 none) m)
     read-asks id word m e = subst (λ (k : Me). Allows (Holds p) table.slots id k word (λ n. n) (Reads p (step table.slots word 0 0 none) k)) (sym (e ∙ me-is)) (read-allows p table.slots id v.at v.opened word)
 
-    pub finish-asks : (id : ℕ) → v.at.number ≡ None → length (p.order v.at.task) ≤ v.at.written
-        → Allows (Holds p) table.slots id me (cells + cells + tasks) (λ n. (n + 1) % 2 ^ 64) (Finishes (step table.slots (cells + cells + tasks) 1 0 none) me)
-    finish-asks id unfinished all = subst (λ i. Allows (Holds p) table.slots id me i (λ n. (n + 1) % 2 ^ 64) (Finishes (step table.slots i 1 0 none) me)) (sym finish-place)
-        (subst (λ (m : Me). Allows (Holds p) table.slots id m (finish_at p.graph) (λ n. (n + 1) % 2 ^ 64) (Finishes (step table.slots (finish_at p.graph) 1 0 none) m)) (sym me-is)
-        (finish-allows p table.slots id v.at v.opened unfinished all))
+    -- an unfinished task isn't filed
+    unfiled : v.at.number ≡ None → v.at.filed ≡ false
+    unfiled unfinished = ap (λ (w : JobValue). w.at.filed) (sym view_is) ∙ (job.filed ∙ (ap (λ (w : JobValue). is_some w.at.number) view_is ∙ ap is_some unfinished))
+
+    -- it is finished: the number is drawn, stored and filed
+    pub task-is : t ≡ v.at.task
+    task-is = job.task_is ∙ ap (λ (w : JobValue). w.at.task) view_is
+
+    pub draw-asks : (id : ℕ) → v.at.number ≡ None → length (p.order v.at.task) ≤ v.at.written
+        → Allows (Holds p) table.slots id me (cells + cells + tasks + tasks) (λ n. (n + 1) % 2 ^ 64) (Draws (step table.slots (cells + cells + tasks + tasks) 1 0 none) me)
+    draw-asks id unfinished all = subst (λ i. Allows (Holds p) table.slots id me i (λ n. (n + 1) % 2 ^ 64) (Draws (step table.slots i 1 0 none) me)) (sym finish-place)
+        (subst (λ (m : Me). Allows (Holds p) table.slots id m (finish_at p.graph) (λ n. (n + 1) % 2 ^ 64) (Draws (step table.slots (finish_at p.graph) 1 0 none) m)) (sym me-is)
+        (draw-allows p table.slots id v.at v.opened unfinished all))
+
+    module _ (n : ℕ) (m : Me) (drawn : Draws (step table.slots (cells + cells + tasks + tasks) 1 0 none) me n m) where
+      drawn-me : m ≡ (job_view (after_draw n v.at) v.opened, [])
+      drawn-me = drawn ∙ ap (λ (k : Me). (with_task (after_draw n) k.0, k.1)) me-is
+
+      pub number-asks : (id place : ℕ) → place ≡ cells + cells + tasks + t → Allows (Holds p) table.slots id m place (λ x. n) (λ x. StoresNumber (step table.slots place n 0 none) m n)
+      number-asks id place e = subst (λ i. Allows (Holds p) table.slots id m i (λ x. n) (λ x. StoresNumber (step table.slots i n 0 none) m n)) (sym (e ∙ (number-place t ∙ ap (number_at p.graph) task-is)))
+          (subst (λ (k : Me). Allows (Holds p) table.slots id k (number_at p.graph v.at.task) (λ x. n) (λ x. StoresNumber (step table.slots (number_at p.graph v.at.task) n 0 none) k n)) (sym drawn-me)
+          (number-allows p table.slots id (after_draw n v.at) v.opened n refl))
+
+      module _ (place : ℕ) (k : Me) (stored : StoresNumber (step table.slots place n 0 none) m n k) where
+        pub stored-me : k ≡ (job_view (after_keep (after_draw n v.at)) v.opened, [])
+        stored-me = stored ∙ ap (λ (l : Me). (with_task after_keep l.0, l.1)) drawn-me
+
+        pub file-asks : (id : ℕ) → v.at.number ≡ None → Allows (Holds p) table.slots id k (cells + cells + tasks + tasks + 1) (λ x. (x + 1) % 2 ^ 64) (Files (step table.slots (cells + cells + tasks + tasks + 1) 1 0 none) k)
+        file-asks id unfinished = subst (λ i. Allows (Holds p) table.slots id k i (λ x. (x + 1) % 2 ^ 64) (Files (step table.slots i 1 0 none) k)) (sym filed-place)
+            (subst (λ (l : Me). Allows (Holds p) table.slots id l (filed_at p.graph) (λ x. (x + 1) % 2 ^ 64) (Files (step table.slots (filed_at p.graph) 1 0 none) l)) (sym stored-me)
+            (file-allows p table.slots id (after_keep (after_draw n v.at)) v.opened refl (unfiled unfinished)))
 
     module _ (next : ℕ) (finished : IsSome v.at.number) (after : Contains (after_of p.graph v.at.task) next) (owed : Contains v.at.released next → ⊥) where
       pub release-asks : (id : ℕ) → Allows (Holds p) table.slots id me (cells + cells + next) (λ n. (n + (2 ^ 64 - 1)) % 2 ^ 64) (Releases p (step table.slots (cells + cells + next) 1 0 none) me)
@@ -146,27 +181,32 @@ read-gives p is c mark word result gives is_mark is_word = gives ∙ ((λ i. out
 -- ---- what the calls of a hand ask
 module _ (p : Plan) (id : ℕ) (me : Me) (hand : IsHand me) where
   pub look-asks : (table : TableId) (cells tasks : ℕ) → IsTable p table cells tasks
-      → Allows (Holds p) table.slots id me (cells + cells + tasks) (λ n. n) (Looks p (step table.slots (cells + cells + tasks) 0 0 none) me)
-  look-asks table cells tasks is = subst (λ i. Allows (Holds p) table.slots id me i (λ n. n) (Looks p (step table.slots i 0 0 none) me)) (sym (finish-place p table cells tasks is))
-      (subst (λ (m : Me). Allows (Holds p) table.slots id m (finish_at p.graph) (λ n. n) (Looks p (step table.slots (finish_at p.graph) 0 0 none) m)) (sym hand)
-      (look-allows p id table.slots me.0.opened me.0.ran me.0.seen))
+      → Allows (Holds p) table.slots id me (cells + cells + tasks + tasks + 1) (λ n. n) (Looks p (step table.slots (cells + cells + tasks + tasks + 1) 0 0 none) me)
+  look-asks table cells tasks is = subst (λ i. Allows (Holds p) table.slots id me i (λ n. n) (Looks p (step table.slots i 0 0 none) me)) (sym (filed-place p table cells tasks is))
+      (subst (λ (m : Me). Allows (Holds p) table.slots id m (filed_at p.graph) (λ n. n) (Looks p (step table.slots (filed_at p.graph) 0 0 none) m)) (sym hand)
+      (look-allows p id table.slots me.0.opened me.0.ran me.0.seen me.0.looks))
 
   -- what a look tells
-  module _ (own : TableId) (v : HandValue) (view_is : record { table = own; opened = me.0.opened; ran = me.0.ran; seen = me.0.seen } ≡ v) (n : ℕ) (told : IsFinishCount p me.0 n) where
-    pub look-count : IsFinishCount p (hand_view v.opened v.ran v.seen) n
-    look-count = subst (λ (w : HandValue). IsFinishCount p (hand_view w.opened w.ran w.seen) n) view_is (subst (λ (m : Me). IsFinishCount p m.0 n) hand told)
+  module _ (own : TableId) (v : HandValue) (view_is : record { table = own; opened = me.0.opened; ran = me.0.ran; seen = me.0.seen; looks = me.0.looks } ≡ v) (n : ℕ) (told : IsFiledCount p me.0 n) where
+    pub look-count : IsFiledCount p (hand_view v.opened v.ran v.seen v.looks) n
+    look-count = subst (λ (w : HandValue). IsFiledCount p (hand_view w.opened w.ran w.seen w.looks) n) view_is (subst (λ (m : Me). IsFiledCount p m.0 n) hand told)
 
-    pub look-tells : (after : Me) → after ≡ (record me.0 { seen = n }, me.1) → (n ≤ length p.graph.tasks) × AreTasks p after.0.opened after.0.ran × IsPast v.seen v.ran n
+    pub look-tells : (after : Me) → after ≡ (record me.0 { seen = n; looks = me.0.looks + 1 }, me.1) → (n ≤ length p.graph.tasks) × AreTasks p after.0.opened after.0.ran × IsPast v.seen v.ran n
     look-tells after same = (
-      look-few p v.opened v.ran v.seen n look-count,
-      subst (λ (m : Me). AreTasks p m.0.opened m.0.ran) (sym same) (look-tasks p me.0.opened me.0.ran me.0.seen n (subst (λ (m : Me). IsFinishCount p m.0 n) hand told)),
-      look-past p v.opened v.ran v.seen n look-count,
+      look-few p v.opened v.ran v.seen v.looks n look-count,
+      subst (λ (m : Me). AreTasks p m.0.opened m.0.ran) (sym same) (look-tasks p me.0.opened me.0.ran me.0.seen me.0.looks n (subst (λ (m : Me). IsFiledCount p m.0 n) hand told)),
+      look-past p v.opened v.ran v.seen v.looks n look-count,
     )
 
-  pub join-asks : (other : ℕ) (them : Me) (j : TaskView) (opened : List ℕ) → them ≡ (job_view j opened, []) → IsSome j.number → ((next : ℕ) → Contains (after_of p.graph j.task) next → Contains j.released next)
+  pub join-asks : (other : ℕ) (them : Me) (j : TaskView) (opened : List ℕ) → them ≡ (job_view j opened, []) → j.filed ≡ is_some j.number → IsSome j.number → ((next : ℕ) → Contains (after_of p.graph j.task) next → Contains j.released next)
       → Joins {S = Unit {0}} (Holds p) id me.0 other them.0 (joined_view me.0 them.0) no_view
-  join-asks other them j opened e finished paid =
+  join-asks other them j opened e filed finished paid =
       let number = of-some j.number finished in
       subst (λ (m : Me). Joins {S = Unit {0}} (Holds p) id m.0 other them.0 (joined_view m.0 them.0) no_view) (sym hand)
-      (subst (λ (m : Me). Joins {S = Unit {0}} (Holds p) id (hand_view me.0.opened me.0.ran me.0.seen) other m.0 (joined_view (hand_view me.0.opened me.0.ran me.0.seen) m.0) no_view) (sym e)
-      (join-joins p id 0 me.0.opened me.0.ran me.0.seen other j opened number.0 number.1 (λ u after. in-listed j.released u (paid u after))))
+      (subst (λ (m : Me). Joins {S = Unit {0}} (Holds p) id (hand_view me.0.opened me.0.ran me.0.seen me.0.looks) other m.0 (joined_view (hand_view me.0.opened me.0.ran me.0.seen me.0.looks) m.0) no_view) (sym e)
+      (join-joins p id 0 me.0.opened me.0.ran me.0.seen me.0.looks other j opened number.0 number.1 (filed ∙ ap is_some number.1) (λ u after. in-listed j.released u (paid u after))))
+
+  pub gather-asks : (other : ℕ) (them : Me) → IsHand them → Joins {S = Unit {0}} (Holds p) id me.0 other them.0 (gathered_view me.0 them.0) no_view
+  gather-asks other them is = subst (λ (m : Me). Joins {S = Unit {0}} (Holds p) id m.0 other them.0 (gathered_view m.0 them.0) no_view) (sym hand)
+      (subst (λ (m : Me). Joins {S = Unit {0}} (Holds p) id (hand_view me.0.opened me.0.ran me.0.seen me.0.looks) other m.0 (gathered_view (hand_view me.0.opened me.0.ran me.0.seen me.0.looks) m.0) no_view) (sym is)
+      (gather-joins p id 0 me.0.opened me.0.ran me.0.seen me.0.looks other them.0.opened them.0.ran them.0.seen them.0.looks))

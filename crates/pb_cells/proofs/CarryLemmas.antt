@@ -4,7 +4,7 @@ use Rattle.pb_taskgraph.specs.Plans.{Plan, outcome_at}
 use Rattle.pb_cells.specs.declared.view.TaskView.{TaskView}
 use Rattle.pb_cells.specs.declared.view.View.{View}
 use Rattle.pb_cells.specs.Banks.{Bank}
-use Rattle.pb_cells.specs.Stories.{Fits, FitsJob, FitsLeft, FitsOpened, FitsRan, FitsTask, FitsTurns, HasOpened, HoldsTurn, Runs, Story}
+use Rattle.pb_cells.specs.Stories.{Fits, FitsJob, FitsLeft, FitsOpened, FitsRan, FitsTask, FitsTurns, HasOpened, HoldsTurn, Runs, Story, is_listed}
 use Rattle.pb_cells.specs.Words.{word_of}
 
 -- for a seat, two stories say the same of the task that it runs, and a value word that was right is right
@@ -13,6 +13,8 @@ pub record SameTask (p : Plan) (b c : Bank) (y z : Story) (id : ℕ) : Type 0 wh
   pub back : (t : ℕ) → Runs z.core.runner z.taker t id → Runs y.core.runner y.taker t id
   pub wrote : (t : ℕ) → Runs y.core.runner y.taker t id → z.wrote t ≡ y.wrote t
   pub number : (t : ℕ) → Runs y.core.runner y.taker t id → z.core.number t ≡ y.core.number t
+  pub kept : (t : ℕ) → Runs y.core.runner y.taker t id → z.kept t ≡ y.kept t
+  pub filed : (t : ℕ) → Runs y.core.runner y.taker t id → is_listed z.filed t ≡ is_listed y.filed t
   pub released : (t u : ℕ) → Runs y.core.runner y.taker t id → z.core.released t u ≡ y.core.released t u
   pub right : (d : ℕ) → b.value d ≡ word_of (outcome_at p.solution d) → c.value d ≡ word_of (outcome_at p.solution d)
 
@@ -25,7 +27,7 @@ pub record SameRest (b c : Bank) (y z : Story) (id : ℕ) : Type 0 where
   pub takes : (t : ℕ) → y.taker t ≡ Some id → z.taker t ≡ Some id
   pub taken : (t : ℕ) → z.taker t ≡ Some id → y.taker t ≡ Some id
   pub ended : (t : ℕ) → y.taker t ≡ Some id → z.core.number t ≡ y.core.number t
-  pub finish : b.finish ≤ c.finish
+  pub more : b.filed ≤ c.filed
 
 module _ (p : Plan) (b c : Bank) (y z : Story) (id : ℕ) where
   pub same-task : (j : TaskView) → SameTask p b c y z id → FitsTask p b y id j → FitsTask p c z id j
@@ -35,6 +37,8 @@ module _ (p : Plan) (b c : Bank) (y z : Story) (id : ℕ) where
     wrote = same.wrote j.task fits.runs ∙ fits.wrote;
     stored = λ e. let was = fits.stored e in (was.0, same.right _ was.1);
     number = same.number j.task fits.runs ∙ fits.number;
+    kept = same.kept j.task fits.runs ∙ fits.kept;
+    filed = same.filed j.task fits.runs ∙ fits.filed;
     released = λ u. same.released j.task u fits.runs ∙ fits.released u;
   }
 
@@ -65,7 +69,7 @@ module _ (p : Plan) (b c : Bank) (y z : Story) (id : ℕ) where
       opened = same-opened v.opened fits.opened;
       left = fits.left;
       ran = same-ran v.ran fits.ran;
-      seen = let more = same.finish in let was = fits.seen in omega arith;
+      seen = let more = same.more in let was = fits.seen in omega arith;
     }
 
     -- the seat whose own task has gone on
@@ -76,5 +80,5 @@ module _ (p : Plan) (b c : Bank) (y z : Story) (id : ℕ) where
       opened = same-opened v.opened fits.opened;
       left = left;
       ran = same-ran v.ran fits.ran;
-      seen = let more = same.finish in let was = fits.seen in omega arith;
+      seen = let more = same.more in let was = fits.seen in omega arith;
     }

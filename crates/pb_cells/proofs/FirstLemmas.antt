@@ -11,11 +11,11 @@ use Rattle.pb_taskgraph.specs.Plans.{IsPlan, Plan, outcome_at}
 use Rattle.pb_taskgraph.proofs.GraphLemmas.{before-at}
 use Rattle.pb_core.specs.States.{with}
 use Rattle.pb_core.proofs.WithLemmas.{with-each}
-use Rattle.pb_cells.specs.Banks.{Bank, bank_of, count_at, finish_at, mark_at, width}
+use Rattle.pb_cells.specs.Banks.{Bank, bank_of, count_at, filed_at, finish_at, mark_at, width}
 use Rattle.pb_cells.specs.Openings.{AreCells, AreCounts, AreTold}
 use Rattle.pb_cells.specs.Views.{ready_tasks}
 use Rattle.pb_cells.specs.Words.{mark_of, word_of}
-use Rattle.pb_cells.proofs.BankLemmas.{get-mark, get-finish, set-count, set-mark, set-value}
+use Rattle.pb_cells.proofs.BankLemmas.{get-filed, get-finish, get-mark, set-count, set-mark, set-value}
 use Rattle.pb_cells.proofs.SeatLemmas.{with-both}
 
 last-range : (a n j : ℕ) → a + n ≡ j → range_with_len a (suc n) ≡ range_with_len a n ++ j ∷ []
@@ -41,6 +41,7 @@ module _ (p : Plan) where
           blank = λ c first below. sym (get-mark p.graph words long c below) ∙ (ap (λ l. get_or l (mark_at p.graph c) 0) is ∙ zeros n (mark_at p.graph c));
         };
         finish = sym (get-finish p.graph words long) ∙ (ap (λ l. get_or l (finish_at p.graph) 0) is ∙ zeros n (finish_at p.graph));
+        filed = sym (get-filed p.graph words long) ∙ (ap (λ l. get_or l (filed_at p.graph) 0) is ∙ zeros n (filed_at p.graph));
       }
 
   module _ (is : IsPlan p) (words : List ℕ) (first : ℕ) (told : AreTold p first words) where
@@ -59,6 +60,7 @@ module _ (p : Plan) where
         blank = λ c above below. with-each b.mark first mark c (λ m. m ≡ 0) (λ same. absurd (omega arith)) (λ other. told.cells.blank c (omega arith) below);
       };
       finish = ap (λ (d : Bank). d.finish) bank ∙ told.finish;
+      filed = ap (λ (d : Bank). d.filed) bank ∙ told.filed;
     }
       where
         inside : first < p.graph.cells
@@ -83,6 +85,7 @@ module _ (p : Plan) where
         width = length-set words (cells + cells + t) n ∙ told.width;
         cells = subst (AreCells p first) (sym bank) record { told = told.cells.told; blank = told.cells.blank };
         finish = ap (λ (d : Bank). d.finish) bank ∙ told.finish;
+        filed = ap (λ (d : Bank). d.filed) bank ∙ told.filed;
       }
 
       pub count-more : AreCounts p t b.count → AreCounts p (t + 1) (bank_of p.graph (set words (cells + cells + t) n)).count

@@ -1,8 +1,6 @@
--- A hand looks at the finish count, and takes in a Job.
-use Rattle.std.proofs.Common.{◌≡◌, ◌∙◌, refl, sym, ap, subst, inl, inr, ⊎_elim, ℕ, ◌<◌, true, false, List, [], ◌∷◌, ◌++◌, length, map, Some, None, IsSome, set, arith}
+-- A hand looks at the filed count, and takes in a Job.
+use Rattle.std.proofs.Common.{◌≡◌, ◌∙◌, refl, sym, ap, subst, inl, inr, ⊎_elim, ℕ, ◌+◌, ◌<◌, true, false, List, [], ◌∷◌, ◌++◌, length, map, Some, None, IsSome, set, arith}
 use Rattle.std.specs.List.{Contains}
-use Rattle.std.proofs.lemmas.Bool.{cases_eq}
-use Rattle.std.proofs.lemmas.Bool.Decides.{nat_tests}
 use Rattle.std.proofs.lemmas.List.Elements.{Contains-append_cases, Contains-append_left, Contains-append_right, Contains-push, Contains-push_cases}
 use mathlib.Core.Option.{some}
 use lib.ListN.{get_elem?}
@@ -19,24 +17,9 @@ use Rattle.pb_cells.specs.Stories.{Fits, FitsOpened, FitsRan, FitsTask, HasOpene
 use Rattle.pb_cells.specs.Views.{hand_view, job_view, joined_view, no_view, numbered}
 use Rattle.pb_cells.proofs.CarryLemmas.{SameRest, SameTask, same-fits}
 use Rattle.pb_cells.proofs.ReleaseLemmas.{once-push}
-use Rattle.pb_cells.proofs.SeatLemmas.{keeps-same, none-some, seat-inside, seat-joins, seat-steps, some-one}
+use Rattle.pb_cells.proofs.SeatLemmas.{keeps-same, listed-in, none-some, seat-inside, seat-joins, seat-steps, some-one}
 
--- ---- whether a number is listed
-pub in-listed : (xs : List ℕ) (n : ℕ) → Contains xs n → is_listed xs n ≡ true
-in-listed [] n h = absurd (in_none n h)
-in-listed (x ∷ xs) n h = elim (in_cases x n xs h) [
-  | inl same ↦ grind (arith, nat_tests)
-  | inr later ↦ let rest = in-listed xs n later in grind (arith, nat_tests)
-]
-
-pub listed-in : (xs : List ℕ) (n : ℕ) → is_listed xs n ≡ true → Contains xs n
-listed-in [] n e = let wrong : false ≡ true = e in absurd (cc)
-listed-in (x ∷ xs) n e = ⊎_elim
-    (λ (same : n ≡ x). subst (Contains (x ∷ xs)) (sym same) (in_head x xs))
-    (λ (other : n ≡ x → ⊥). in_tail x n xs (listed-in xs n (grind (arith, nat_tests))))
-    (cases_eq n x)
-
-once-append : (xs ys : List ℕ) → EachOnce xs → EachOnce ys → ((x : ℕ) → Contains xs x → Contains ys x → ⊥) → EachOnce (xs ++ ys)
+pub once-append : (xs ys : List ℕ) → EachOnce xs → EachOnce ys → ((x : ℕ) → Contains xs x → Contains ys x → ⊥) → EachOnce (xs ++ ys)
 once-append [] ys a c apart = c
 once-append (x ∷ xs) ys a c apart = one-more x (xs ++ ys) (once-append xs ys (once-rest x xs a) c (λ z h k. apart z (in_tail x z xs h) k)) (λ h. elim (Contains-append_cases xs ys x h) [
   | inl there ↦ once-head x xs a there
@@ -47,13 +30,13 @@ map-push : {A B : Type 0} (f : A → B) (xs : List A) (x : A) → map f (xs ++ x
 map-push f [] x = refl
 map-push f (z ∷ zs) x = ap (λ l. f z ∷ l) (map-push f zs x)
 
-module _ (p : Plan) (is : IsPlan p) (b : Bank) (views : List View) (y : Story) (ok : IsStory p b views y) (id : ℕ) (opened : List ℕ) (ran : List (ℕ × ℕ)) (seen : ℕ) (at : get_elem? views id ≡ some (hand_view opened ran seen)) where
-  abbrev own : Fits p b y id (hand_view opened ran seen)
-  own = ok.fits id (hand_view opened ran seen) at
+module _ (p : Plan) (is : IsPlan p) (b : Bank) (views : List View) (y : Story) (ok : IsStory p b views y) (id : ℕ) (opened : List ℕ) (ran : List (ℕ × ℕ)) (seen looks : ℕ) (at : get_elem? views id ≡ some (hand_view opened ran seen looks)) where
+  abbrev own : Fits p b y id (hand_view opened ran seen looks)
+  own = ok.fits id (hand_view opened ran seen looks) at
 
-  -- ---- a look at the finish count
-  pub look-keeps : IsStory p b (set views id (hand_view opened ran b.finish)) y
-  look-keeps = seat-steps p b views y ok id (hand_view opened ran seen) at b y (hand_view opened ran b.finish) ok.tells ok.seats
+  -- ---- a look at the filed count
+  pub look-keeps : IsStory p b (set views id (hand_view opened ran b.filed (looks + 1))) y
+  look-keeps = seat-steps p b views y ok id (hand_view opened ran seen looks) at b y (hand_view opened ran b.filed (looks + 1)) ok.tells ok.seats
       record { job = own.job; turns = own.turns; opened = own.opened; left = tt; ran = own.ran; seen = omega arith }
       (λ o u apart was. was)
 
@@ -90,6 +73,8 @@ module _ (p : Plan) (is : IsPlan p) (b : Bank) (views : List View) (y : Story) (
       back = λ t h. (h.0, (taker-none t h.1).1);
       wrote = λ t h. refl;
       number = λ t h. refl;
+      kept = λ t h. refl;
+      filed = λ t h. refl;
       released = λ t u h. refl;
       right = λ d was. was;
     }
@@ -118,7 +103,7 @@ module _ (p : Plan) (is : IsPlan p) (b : Bank) (views : List View) (y : Story) (
       takes = λ t h. takes-on t o h;
       taken = λ t. taken-back t o apart_;
       ended = λ t h. refl;
-      finish = omega arith;
+      more = omega arith;
     }
 
     left-fits : Fits p b join_story other no_view
@@ -137,7 +122,7 @@ module _ (p : Plan) (is : IsPlan p) (b : Bank) (views : List View) (y : Story) (
       seen = omega arith;
     }
 
-    module _ (n : ℕ) (ended : j.number ≡ Some n) (paid : (u : ℕ) → Contains (after_of p.graph j.task) u → is_listed j.released u ≡ true) where
+    module _ (n : ℕ) (ended : j.number ≡ Some n) (filed : j.filed ≡ true) (paid : (u : ℕ) → Contains (after_of p.graph j.task) u → is_listed j.released u ≡ true) where
       pair-parts : (t m : ℕ) → ◌≡◌ {A = ℕ × ℕ} (j.task, n) (t, m) → (j.task ≡ t) × (n ≡ m)
       pair-parts t m e = (ap (λ (q : ℕ × ℕ). q.0) e, ap (λ (q : ℕ × ℕ). q.1) e)
 
@@ -183,7 +168,7 @@ module _ (p : Plan) (is : IsPlan p) (b : Bank) (views : List View) (y : Story) (
             apart (keeps-same y.core.runner y.taker second.0 id other (subst (λ u. Keeps y.core.runner y.taker u id) (some-one (y.opener t) first.0 second.0 first.1 second.1) first.2) second.2));
       }
 
-      joined-fits : Fits p b join_story id (joined_view (hand_view opened ran seen) (job_view j more))
+      joined-fits : Fits p b join_story id (joined_view (hand_view opened ran seen looks) (job_view j more))
       joined-fits = record {
         job = λ t h. own.job t (h.0, (taker-none t h.1).1);
         turns = own.turns;
@@ -193,8 +178,8 @@ module _ (p : Plan) (is : IsPlan p) (b : Bank) (views : List View) (y : Story) (
         seen = own.seen;
       }
 
-      pub join-keeps : IsStory p b (set (set views id (joined_view (hand_view opened ran seen) (job_view j more))) other no_view) join_story
-      join-keeps = seat-joins p b views y ok id (hand_view opened ran seen) other (job_view j more) at apart there join_story (joined_view (hand_view opened ran seen) (job_view j more)) no_view
+      pub join-keeps : IsStory p b (set (set views id (joined_view (hand_view opened ran seen looks) (job_view j more))) other no_view) join_story
+      join-keeps = seat-joins p b views y ok id (hand_view opened ran seen looks) other (job_view j more) at apart there join_story (joined_view (hand_view opened ran seen looks) (job_view j more)) no_view
           record {
             sound = ok.tells.sound;
             counts = ok.tells.counts;
@@ -204,14 +189,15 @@ module _ (p : Plan) (is : IsPlan p) (b : Bank) (views : List View) (y : Story) (
             unbegun = ok.tells.unbegun;
             opened = ok.tells.opened;
             opens = ok.tells.opens;
-            taken = λ t o. with-each y.taker j.task (Some id) t (λ a. a ≡ Some o → IsSome (y.core.number t) × ((u : ℕ) → Contains (after_of p.graph t) u → y.core.released t u ≡ true))
-                (λ same e. (some-of (y.core.number t) n (ap y.core.number same ∙ (fits.number ∙ ended)), λ u h. ap (λ k. y.core.released k u) same ∙ (fits.released u ∙ paid u (subst (λ k. Contains (after_of p.graph k) u) same h))))
+            taken = λ t o. with-each y.taker j.task (Some id) t (λ a. a ≡ Some o → IsSome (y.core.number t) × ((u : ℕ) → Contains (after_of p.graph t) u → y.core.released t u ≡ true) × Contains y.filed t)
+                (λ same e. (some-of (y.core.number t) n (ap y.core.number same ∙ (fits.number ∙ ended)), λ u h. ap (λ k. y.core.released k u) same ∙ (fits.released u ∙ paid u (subst (λ k. Contains (after_of p.graph k) u) same h)), subst (Contains y.filed) (sym same) (listed-in y.filed j.task (fits.filed ∙ filed))))
                 (λ else_ e. ok.tells.taken t o e);
+            numbers = ok.tells.numbers;
           }
           record {
             holders = ok.seats.holders;
             runners = ok.seats.runners;
-            takers = λ t i. with-each y.taker j.task (Some id) t (λ a. a ≡ Some i → i < length views) (λ same e. let here : id ≡ i = cc in subst (λ k. k < length views) here (seat-inside views id (hand_view opened ran seen) at)) (λ else_ e. ok.seats.takers t i e);
+            takers = λ t i. with-each y.taker j.task (Some id) t (λ a. a ≡ Some i → i < length views) (λ same e. let here : id ≡ i = cc in subst (λ k. k < length views) here (seat-inside views id (hand_view opened ran seen looks) at)) (λ else_ e. ok.seats.takers t i e);
           }
           joined-fits left-fits
           (λ o u apart_ another was. same-fits p b b y join_story o (join-rest o apart_ another) u (join-task o another) was)

@@ -7,10 +7,12 @@ pub mod FinishLemmas
 pub mod ReleaseLemmas
 pub mod SplitLemmas
 pub mod JoinLemmas
+pub mod GatherLemmas
 pub mod BankLemmas
 pub mod OpeningLemmas
 pub mod RuleLemmas
 pub mod LookLemmas
+pub mod EndLemmas
 pub mod CallLemmas
 pub mod PortLemmas
 pub mod FirstLemmas

@@ -47,7 +47,7 @@ module _ (p : Plan) where
   open-once = once-filter is_open (range_with_len 0 (length p.graph.tasks)) (range-once (length p.graph.tasks))
 
   abbrev pub first_story : Story
-  first_story = record { core = first_state p 1; wrote = λ t. 0; opener = λ t. None; taker = λ t. None }
+  first_story = record { core = first_state p 1; wrote = λ t. 0; opener = λ t. None; taker = λ t. None; kept = λ t. false; filed = [] }
 
   no-value : {A : Type 0} (x : A) → None ≡ Some x → ⊥
   no-value x e = none-some None x refl e
@@ -114,6 +114,12 @@ module _ (p : Plan) where
           opened = λ t u e. absurd (no-value u e);
           opens = λ t below waits some_before. absurd (omega arith);
           taken = λ t id e. absurd (no-value id e);
+          numbers = record {
+            stored = λ t e. absurd (let wrong : false ≡ true = e in cc);
+            count_is = first.told.filed;
+            once = λ i k below. absurd (omega arith);
+            kept = λ t h. absurd (in_none t h);
+          };
         };
         seats = record {
           holders = λ t id e. let there = first-holder t id e in omega (arith, there.0);

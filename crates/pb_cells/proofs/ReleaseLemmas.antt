@@ -105,7 +105,7 @@ module _ (p : Plan) (is : IsPlan p) (b : Bank) (views : List View) (y : Story) (
     takes = λ t h. h;
     taken = λ t h. h;
     ended = λ t h. refl;
-    finish = omega arith;
+    more = omega arith;
   }
 
   release-task : (o : ℕ) → (o ≡ id → ⊥) → SameTask p b release_bank y release_story o
@@ -114,6 +114,8 @@ module _ (p : Plan) (is : IsPlan p) (b : Bank) (views : List View) (y : Story) (
     back = λ t h. h;
     wrote = λ t h. refl;
     number = λ t h. refl;
+    kept = λ t h. refl;
+    filed = λ t h. refl;
     released = λ t u h. ap (λ (row : ℕ → Bool). row u) (with-other y.core.released j.task (with (y.core.released j.task) next true) t (λ same. apart (some-one (y.core.runner t) o id h.0 (ap y.core.runner same ∙ fits.runs.0))));
     right = λ d was. was;
   }
@@ -126,6 +128,8 @@ module _ (p : Plan) (is : IsPlan p) (b : Bank) (views : List View) (y : Story) (
     wrote = fits.wrote;
     stored = fits.stored;
     number = fits.number;
+    kept = fits.kept;
+    filed = fits.filed;
     released = λ u. ap (λ (row : ℕ → Bool). row u) (with-same y.core.released j.task (with (y.core.released j.task) next true) j.task refl) ∙ ap (cond (eqb u next) true) (fits.released u);
   }
 
@@ -244,7 +248,9 @@ module _ (p : Plan) (is : IsPlan p) (b : Bank) (views : List View) (y : Story) (
           λ u there. with-each y.core.released j.task (with (y.core.released j.task) next true) t (λ row. row u ≡ true)
               (λ same. with-each (y.core.released j.task) next true u (λ x. x ≡ true) (λ here. refl) (λ other. subst (λ k. y.core.released k u ≡ true) same (was.1 u there)))
               (λ other. was.1 u there),
+          was.2,
         );
+        numbers = ok.tells.numbers;
       }
       record {
         holders = λ t i. with-each y.core.holder next (holder_at left id (y.core.holder next)) t (λ a. a ≡ Some i → i < length views)

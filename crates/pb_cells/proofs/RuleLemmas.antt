@@ -15,19 +15,20 @@ use Rattle.pb_core.proofs.FinishLemmas.{finished-few}
 use Rattle.pb_core.proofs.WithLemmas.{with-same}
 use Rattle.pb_cells.specs.declared.view.TaskView.{TaskView}
 use Rattle.pb_cells.specs.declared.view.View.{View}
-use Rattle.pb_cells.specs.Banks.{Bank, bank_of, count_at, finish_at, mark_at, value_at}
+use Rattle.pb_cells.specs.Banks.{Bank, bank_of, count_at, filed_at, finish_at, mark_at, number_at, value_at}
 use Rattle.pb_cells.specs.Stories.{Holds, IsStory, Story, is_listed, next_cell}
-use Rattle.pb_cells.specs.Steps.{Finishes, Looks, Marks, Reads, Releases, Stores, WaitsFor}
-use Rattle.pb_cells.specs.Views.{after_finish, after_mark, after_store, first_turn, hand_view, job_view, joined_view, no_view, released_view, turn_view, untouched, without_turn}
+use Rattle.pb_cells.specs.Steps.{Draws, Files, Looks, Marks, Reads, Releases, Stores, StoresNumber, WaitsFor}
+use Rattle.pb_cells.specs.Views.{after_draw, after_file, after_keep, after_mark, after_store, first_turn, gathered_view, hand_view, job_view, joined_view, no_view, released_view, turn_view, untouched, without_turn}
 use Rattle.pb_cells.specs.Words.{mark_of, word_of}
-use Rattle.pb_cells.proofs.BankLemmas.{get-count, get-finish, get-mark, get-value, set-count, set-finish, set-mark, set-value}
-use Rattle.pb_cells.proofs.FinishLemmas.{finish-keeps, finish_story}
+use Rattle.pb_cells.proofs.BankLemmas.{get-count, get-filed, get-finish, get-mark, get-value, set-count, set-filed, set-finish, set-mark, set-number, set-value}
+use Rattle.pb_cells.proofs.FinishLemmas.{file-keeps, file_story, filed-few, finish-keeps, finish_story, number-keeps, number_story}
+use Rattle.pb_cells.proofs.GatherLemmas.{gather-keeps, gather_story}
 use Rattle.pb_cells.proofs.JoinLemmas.{join-keeps, join_story, look-keeps}
 use Rattle.pb_cells.proofs.ReleaseLemmas.{count-is, count-waits, owed, release-keeps, release_story}
 use Rattle.pb_cells.proofs.SeatLemmas.{seat-inside}
 use Rattle.pb_cells.proofs.SplitLemmas.{hand-keeps, split_story, turn-keeps}
 use Rattle.pb_cells.proofs.StoreLemmas.{mark-keeps, mark_story, value-keeps}
-use Rattle.pb_cells.proofs.TaskLemmas.{next-below, next-cell-below, next-unfinished, read-below, read-word}
+use Rattle.pb_cells.proofs.TaskLemmas.{next-below, next-cell-below, next-unfinished, read-below, read-word, task-below}
 
 abbrev Table : Type 0
 Table = table.State (Unit {0}) View
@@ -120,22 +121,54 @@ module _ (p : Plan) (slots id : ℕ) (j : TaskView) (opened : List ℕ) where
       )
 
   -- ---- the end of a task
-  pub finish-allows : j.number ≡ None → length (p.order j.task) ≤ j.written
-      → Allows (Holds p) slots id me (finish_at p.graph) (λ n. (n + 1) % 2 ^ 64) (Finishes (step slots (finish_at p.graph) 1 0 none) me)
-  finish-allows unfinished all s holds homes at small =
+  pub draw-allows : j.number ≡ None → length (p.order j.task) ≤ j.written
+      → Allows (Holds p) slots id me (finish_at p.graph) (λ n. (n + 1) % 2 ^ 64) (Draws (step slots (finish_at p.graph) 1 0 none) me)
+  draw-allows unfinished all s holds homes at small =
       let b = bank_of p.graph s.words in
       let few : b.finish < 262145 = let most = finished-few p holds.story.core holds.is.tells.sound in let limit = holds.plan.graph.few_tasks in omega (arith, holds.is.tells.finish) in
       let found : get_or s.words (finish_at p.graph) 0 ≡ b.finish = get-finish p.graph s.words holds.width in
       let next : (get_or s.words (finish_at p.graph) 0 + 1) % 2 ^ 64 ≡ b.finish + 1 = omega arith in (
-        job_view (after_finish (get_or s.words (finish_at p.graph) 0) j) opened,
+        job_view (after_draw (get_or s.words (finish_at p.graph) 0) j) opened,
         keeps,
         tt,
-        set-holds p s holds (finish_at p.graph) ((get_or s.words (finish_at p.graph) 0 + 1) % 2 ^ 64) s.homes (set s.views id (job_view (after_finish (get_or s.words (finish_at p.graph) 0) j) opened))
+        set-holds p s holds (finish_at p.graph) ((get_or s.words (finish_at p.graph) 0 + 1) % 2 ^ 64) s.homes (set s.views id (job_view (after_draw (get_or s.words (finish_at p.graph) 0) j) opened))
             (record b { finish = b.finish + 1 })
             (finish_story p holds.plan b s.views holds.story holds.is id j opened at)
             (set-finish p.graph s.words holds.width ((get_or s.words (finish_at p.graph) 0 + 1) % 2 ^ 64) ∙ (λ i. record b { finish = next i }))
-            (subst (λ n. IsStory p (record b { finish = b.finish + 1 }) (set s.views id (job_view (after_finish n j) opened)) (finish_story p holds.plan b s.views holds.story holds.is id j opened at)) (sym found)
+            (subst (λ n. IsStory p (record b { finish = b.finish + 1 }) (set s.views id (job_view (after_draw n j) opened)) (finish_story p holds.plan b s.views holds.story holds.is id j opened at)) (sym found)
             (finish-keeps p holds.plan b s.views holds.story holds.is id j opened at unfinished all)),
+        refl,
+      )
+
+  pub number-allows : (n : ℕ) → j.number ≡ Some n → Allows (Holds p) slots id me (number_at p.graph j.task) (λ m. n) (λ m. StoresNumber (step slots (number_at p.graph j.task) n 0 none) me n)
+  number-allows n drawn s holds homes at small =
+      let b = bank_of p.graph s.words in
+      let below = task-below p holds.plan b holds.story holds.is.tells id j (holds.is.fits id (job_view j opened) at).job in (
+        job_view (after_keep j) opened,
+        keeps,
+        tt,
+        set-holds p s holds (number_at p.graph j.task) n s.homes (set s.views id (job_view (after_keep j) opened))
+            (record b { number = with b.number j.task n })
+            (number_story p holds.plan b s.views holds.story holds.is id j opened at n drawn)
+            (set-number p.graph s.words holds.width j.task n below)
+            (number-keeps p holds.plan b s.views holds.story holds.is id j opened at n drawn),
+        refl,
+      )
+
+  pub file-allows : j.kept ≡ true → j.filed ≡ false → Allows (Holds p) slots id me (filed_at p.graph) (λ n. (n + 1) % 2 ^ 64) (Files (step slots (filed_at p.graph) 1 0 none) me)
+  file-allows kept unfiled s holds homes at small =
+      let b = bank_of p.graph s.words in
+      let most : b.filed < 262145 = let limit = holds.plan.graph.few_tasks in omega (arith, filed-few p b holds.story holds.is.tells) in
+      let found : get_or s.words (filed_at p.graph) 0 ≡ b.filed = get-filed p.graph s.words holds.width in
+      let next : (get_or s.words (filed_at p.graph) 0 + 1) % 2 ^ 64 ≡ b.filed + 1 = omega arith in (
+        job_view (after_file j) opened,
+        keeps,
+        tt,
+        set-holds p s holds (filed_at p.graph) ((get_or s.words (filed_at p.graph) 0 + 1) % 2 ^ 64) s.homes (set s.views id (job_view (after_file j) opened))
+            (record b { filed = b.filed + 1 })
+            (file_story p holds.plan b s.views holds.story holds.is id j opened at kept unfiled)
+            (set-filed p.graph s.words holds.width ((get_or s.words (filed_at p.graph) 0 + 1) % 2 ^ 64) ∙ (λ i. record b { filed = next i }))
+            (file-keeps p holds.plan b s.views holds.story holds.is id j opened at kept unfiled),
         refl,
       )
 
@@ -220,37 +253,49 @@ module _ (p : Plan) (id : ℕ) where
     is = hand-keeps p holds.plan (bank_of p.graph s.words) s.views holds.story holds.is id v at;
   }
 
-  module _ (slots : ℕ) (opened : List ℕ) (ran : List (ℕ × ℕ)) (seen : ℕ) where
+  module _ (slots : ℕ) (opened : List ℕ) (ran : List (ℕ × ℕ)) (seen looks : ℕ) where
     abbrev hand : View
-    hand = hand_view opened ran seen
+    hand = hand_view opened ran seen looks
 
-    -- ---- a look at the finish count
-    pub look-allows : Allows (Holds p) slots id (hand, []) (finish_at p.graph) (λ n. n) (Looks p (step slots (finish_at p.graph) 0 0 none) (hand, []))
+    -- ---- a look at the filed count
+    pub look-allows : Allows (Holds p) slots id (hand, []) (filed_at p.graph) (λ n. n) (Looks p (step slots (filed_at p.graph) 0 0 none) (hand, []))
     look-allows s holds homes at small =
         let b = bank_of p.graph s.words in
-        let found : get_or s.words (finish_at p.graph) 0 ≡ b.finish = get-finish p.graph s.words holds.width in (
-          hand_view opened ran (get_or s.words (finish_at p.graph) 0),
+        let found : get_or s.words (filed_at p.graph) 0 ≡ b.filed = get-filed p.graph s.words holds.width in (
+          hand_view opened ran (get_or s.words (filed_at p.graph) 0) (looks + 1),
           keeps,
           tt,
           record {
             plan = holds.plan;
-            width = length-set s.words (finish_at p.graph) (get_or s.words (finish_at p.graph) 0) ∙ holds.width;
+            width = length-set s.words (filed_at p.graph) (get_or s.words (filed_at p.graph) 0) ∙ holds.width;
             story = holds.story;
-            is = subst (λ (l : List ℕ). IsStory p (bank_of p.graph l) (set s.views id (hand_view opened ran (get_or s.words (finish_at p.graph) 0))) holds.story) (sym (set-get_or s.words (finish_at p.graph) 0))
-                (subst (λ n. IsStory p b (set s.views id (hand_view opened ran n)) holds.story) (sym found) (look-keeps p holds.plan b s.views holds.story holds.is id opened ran seen at));
+            is = subst (λ (l : List ℕ). IsStory p (bank_of p.graph l) (set s.views id (hand_view opened ran (get_or s.words (filed_at p.graph) 0) (looks + 1))) holds.story) (sym (set-get_or s.words (filed_at p.graph) 0))
+                (subst (λ n. IsStory p b (set s.views id (hand_view opened ran n (looks + 1))) holds.story) (sym found) (look-keeps p holds.plan b s.views holds.story holds.is id opened ran seen looks at));
           },
           (refl, record { state = s; holds = holds; id = id; knows = at; so = sym found }),
         )
 
     -- ---- a Job is taken in
-    pub join-joins : (other : ℕ) (j : TaskView) (more : List ℕ) (n : ℕ) → j.number ≡ Some n → ((u : ℕ) → Contains (after_of p.graph j.task) u → is_listed j.released u ≡ true)
+    pub join-joins : (other : ℕ) (j : TaskView) (more : List ℕ) (n : ℕ) → j.number ≡ Some n → j.filed ≡ true → ((u : ℕ) → Contains (after_of p.graph j.task) u → is_listed j.released u ≡ true)
         → Joins {S = Unit {0}} (Holds p) id hand other (job_view j more) (joined_view hand (job_view j more)) no_view
-    join-joins other j more n ended paid s holds at apart there =
+    join-joins other j more n ended filed paid s holds at apart there =
         let b = bank_of p.graph s.words in
         let was : get_elem? s.views other ≡ some (job_view j more) = sym (set_else s.views id other (joined_view hand (job_view j more)) apart) ∙ there in
         record {
           plan = holds.plan;
           width = holds.width;
-          story = join_story p holds.plan b s.views holds.story holds.is id opened ran seen at other j more apart was;
-          is = join-keeps p holds.plan b s.views holds.story holds.is id opened ran seen at other j more apart was n ended paid;
+          story = join_story p holds.plan b s.views holds.story holds.is id opened ran seen looks at other j more apart was;
+          is = join-keeps p holds.plan b s.views holds.story holds.is id opened ran seen looks at other j more apart was n ended filed paid;
+        }
+
+    -- ---- another hand is taken in
+    pub gather-joins : (other : ℕ) (more : List ℕ) (done : List (ℕ × ℕ)) (saw looked : ℕ) → Joins {S = Unit {0}} (Holds p) id hand other (hand_view more done saw looked) (gathered_view hand (hand_view more done saw looked)) no_view
+    gather-joins other more done saw looked s holds at apart there =
+        let b = bank_of p.graph s.words in
+        let was : get_elem? s.views other ≡ some (hand_view more done saw looked) = sym (set_else s.views id other (gathered_view hand (hand_view more done saw looked)) apart) ∙ there in
+        record {
+          plan = holds.plan;
+          width = holds.width;
+          story = gather_story p holds.plan b s.views holds.story holds.is id opened ran seen looks at other more done saw looked apart was;
+          is = gather-keeps p holds.plan b s.views holds.story holds.is id opened ran seen looks at other more done saw looked apart was;
         }

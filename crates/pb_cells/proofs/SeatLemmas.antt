@@ -1,16 +1,38 @@
 -- A step of one seat: what it knows afterwards has to fit, and what the others know.
-use Rattle.std.proofs.Common.{◌≡◌, ◌∙◌, refl, sym, ap, subst, inl, inr, ◌⊎◌, ⊎_elim, ℕ, zero, suc, ◌+◌, ◌<◌, ◌≢◌, List, [], ◌∷◌, ◌++◌, length, length-append, Option, Some, None, set, arith}
+use Rattle.std.proofs.Common.{◌≡◌, ◌∙◌, refl, sym, ap, subst, inl, inr, ◌⊎◌, ⊎_elim, ℕ, zero, suc, ◌+◌, ◌<◌, ◌≢◌, Bool, true, false, List, [], ◌∷◌, ◌++◌, length, length-append, Option, Some, None, set, arith}
 use Rattle.std.proofs.Math.ListN.{length-set}
+use Rattle.std.specs.List.{Contains}
 use Rattle.std.proofs.lemmas.Bool.{cases_eq}
+use Rattle.std.proofs.lemmas.Bool.Decides.{nat_tests}
 use mathlib.Core.Option.{some, some-injective, some-ne-none}
 use lib.ListN.{get_elem?}
 use Rattle.atomic_table.proofs.Lists.{at_set}
+use Rattle.pb_base.proofs.ListLemmas.{in_cases, in_head, in_none, in_tail}
 use Rattle.pb_taskgraph.specs.Plans.{Plan}
 use Rattle.pb_core.specs.States.{with}
 use Rattle.pb_core.proofs.WithLemmas.{with-other, with-same}
 use Rattle.pb_cells.specs.declared.view.View.{View}
 use Rattle.pb_cells.specs.Banks.{Bank}
-use Rattle.pb_cells.specs.Stories.{AreSeats, Fits, IsStory, Keeps, Story, Tells}
+use Rattle.pb_cells.specs.Stories.{AreSeats, Fits, IsStory, Keeps, Story, Tells, is_listed}
+
+-- ---- whether a number is listed
+pub in-listed : (xs : List ℕ) (n : ℕ) → Contains xs n → is_listed xs n ≡ true
+in-listed [] n h = absurd (in_none n h)
+in-listed (x ∷ xs) n h = elim (in_cases x n xs h) [
+  | inl same ↦ grind (arith, nat_tests)
+  | inr later ↦ let rest = in-listed xs n later in grind (arith, nat_tests)
+]
+
+pub listed-in : (xs : List ℕ) (n : ℕ) → is_listed xs n ≡ true → Contains xs n
+listed-in [] n e = let wrong : false ≡ true = e in absurd (cc)
+listed-in (x ∷ xs) n e = ⊎_elim
+    (λ (same : n ≡ x). subst (Contains (x ∷ xs)) (sym same) (in_head x xs))
+    (λ (other : n ≡ x → ⊥). in_tail x n xs (listed-in xs n (grind (arith, nat_tests))))
+    (cases_eq n x)
+
+pub either_way : (x : Bool) → (x ≡ true) ⊎ (x ≡ false)
+either_way true = inl refl
+either_way false = inr refl
 
 -- two functions that differ from others at the same number
 pub with-both : {X Y : Type 0} (f : ℕ → X) (h : ℕ → Y) (n : ℕ) (x : X) (z : Y) (k : ℕ) (P : X → Y → Type 0) → (k ≡ n → P x z) → ((k ≡ n → ⊥) → P (f k) (h k)) → P (with f n x k) (with h n z k)

@@ -21,12 +21,12 @@ use Rattle.pb_core.proofs.WithLemmas.{none-of, not-none, of-some, some-of}
 use Rattle.pb_cells.specs.declared.view.TaskView.{TaskView}
 use Rattle.pb_cells.specs.declared.view.View.{View}
 use Rattle.pb_cells.specs.Banks.{Bank}
-use Rattle.pb_cells.specs.Shown.{HasTurn, IsOpened, IsTurn, OnTask, OneSeat, SaysFinished, SaysOwed, SeatWith, ShowsIt, SomeSeat}
+use Rattle.pb_cells.specs.Shown.{AreFiled, HasTurn, IsOpened, IsTurn, OnTask, OneSeat, SaysFiled, SaysFinished, SaysOwed, SaysStored, SeatWith, ShowsIt, SomeSeat}
 use Rattle.pb_cells.specs.Steps.{IsNext}
 use Rattle.pb_cells.specs.Stories.{FitsJob, FitsTask, HasOpened, IsStory, Keeps, Runs, Story, Tells, TellsCell, is_listed, next_cell}
 use Rattle.pb_cells.specs.Words.{word_of}
-use Rattle.pb_cells.proofs.JoinLemmas.{in-listed, listed-in}
-use Rattle.pb_cells.proofs.SeatLemmas.{keeps-same, none-some, some-one}
+use Rattle.pb_cells.proofs.FinishLemmas.{filed-all, filed-number}
+use Rattle.pb_cells.proofs.SeatLemmas.{in-listed, keeps-same, listed-in, none-some, some-one}
 use Rattle.pb_cells.proofs.TaskLemmas.{next-cell-below, next-empty, written-word}
 
 pub seat-there : {A : Type 0} (xs : List A) (i : ℕ) → i < length xs → (x : A) × (get_elem? xs i ≡ some x)
@@ -74,6 +74,55 @@ module _ (p : Plan) (is : IsPlan p) (b : Bank) (views : List View) (y : Story) (
   number-told : (t n : ℕ) → SomeSeat views (SaysFinished t n) → y.core.number t ≡ Some n
   number-told t n (id, (v, at, inl on)) = on-task id v.job (λ j. (j.task ≡ t) × (j.number ≡ Some n)) (y.core.number t ≡ Some n) (ok.fits id v at).job (λ j f h. ap y.core.number (sym h.0) ∙ (f.number ∙ h.1)) on
   number-told t n (id, (v, at, inr ran)) = (((ok.fits id v at).ran.each t n).0 ran).1
+
+  -- ---- stored and filed numbers
+  pub number-stored : (t n : ℕ) → SomeSeat views (SaysStored t n) → b.number t ≡ n
+  number-stored t n (id, (v, at, inl on)) = on-task id v.job (λ j. (j.task ≡ t) × (j.number ≡ Some n) × (j.kept ≡ true)) (b.number t ≡ n) (ok.fits id v at).job
+      (λ j f h. ap b.number (sym h.0) ∙ some-one (y.core.number j.task) (b.number j.task) n (ok.tells.numbers.stored j.task (f.kept ∙ h.2)) (f.number ∙ h.1))
+      on
+  number-stored t n (id, (v, at, inr ran)) =
+      let told = ((ok.fits id v at).ran.each t n).0 ran in
+      some-one (y.core.number t) (b.number t) n (filed-number p b y ok.tells t (ok.tells.taken t id told.0).2) told.1
+
+  filed-told : (t : ℕ) → Contains y.filed t → SomeSeat views (SaysFiled t)
+  filed-told t h = ⊎_elim
+      (λ (none_yet : y.taker t ≡ None).
+      let seat = begun-seat t (ok.tells.sound.held.ended t (some-of (y.core.number t) (b.number t) (filed-number p b y ok.tells t h))) in (
+        seat.0,
+        (
+          seat.1,
+          seat.2,
+          inl (runs-task t seat.0 seat.1 (seat.3, none_yet) (ok.fits seat.0 seat.1 seat.2).job (λ j. (j.task ≡ t) × (j.filed ≡ true))
+              (λ j f same. (same, sym f.filed ∙ (ap (is_listed y.filed) same ∙ in-listed y.filed t h)))),
+        ),
+      ))
+      (λ (taken : (id : ℕ) × (y.taker t ≡ Some id)).
+      let seat = seat-there views taken.0 (ok.seats.takers t taken.0 taken.1) in
+      (taken.0, (seat.0, seat.1, inr (b.number t, ((ok.fits taken.0 seat.0 seat.1).ran.each t (b.number t)).1 (taken.1, filed-number p b y ok.tells t h)))))
+      (option-cases (y.taker t))
+
+  told-filed : (t : ℕ) → SomeSeat views (SaysFiled t) → Contains y.filed t
+  told-filed t (id, (v, at, inl on)) = on-task id v.job (λ j. (j.task ≡ t) × (j.filed ≡ true)) (Contains y.filed t) (ok.fits id v at).job
+      (λ j f h. subst (Contains y.filed) h.0 (listed-in y.filed j.task (f.filed ∙ h.1)))
+      on
+  told-filed t (id, (v, at, inr (n, ran))) = (ok.tells.taken t id (((ok.fits id v at).ran.each t n).0 ran).0).2
+
+  pub are-filed : AreFiled views y.filed
+  are-filed = record { each = λ t. (filed-told t, told-filed t); once = ok.tells.numbers.once }
+
+  -- a filed task is finished, and its number stored
+  pub filed-stored : (t : ℕ) → SomeSeat views (SaysFiled t) → SomeSeat views (SaysStored t (b.number t))
+  filed-stored t (id, (v, at, inl on)) = (id, (v, at, inl (go v.job (ok.fits id v at).job on)))
+    where
+      go : (o : Option TaskView) → FitsJob p b y id o → OnTask (λ j. (j.task ≡ t) × (j.filed ≡ true)) o → OnTask (λ j. (j.task ≡ t) × (j.number ≡ Some (b.number t)) × (j.kept ≡ true)) o
+      go None f h = h
+      go (Some j) f h =
+          let there = listed-in y.filed j.task (f.filed ∙ h.1) in
+          (h.0, sym f.number ∙ (filed-number p b y ok.tells j.task there ∙ ap (λ k. Some (b.number k)) h.0), sym f.kept ∙ ok.tells.numbers.kept j.task there)
+  filed-stored t (id, (v, at, inr (n, ran))) = (id, (v, at, inr (subst (λ m. Contains v.ran (t, m)) (sym (number-stored t n (id, (v, at, inr ran)))) ran)))
+
+  pub all-finished : b.filed ≡ length p.graph.tasks → (t : ℕ) → t < length p.graph.tasks → SomeSeat views (SaysFinished t (b.number t))
+  all-finished all t below = tells-number t (b.number t) (filed-number p b y ok.tells t (filed-all p b y ok.tells all t below))
 
   -- ---- owed releases
   tells-owed : (u t : ℕ) → owes p.graph y.core u t ≡ true → SomeSeat views (SaysOwed p u t)

@@ -15,10 +15,10 @@ use Rattle.pb_core.proofs.ListedLemmas.{not-true}
 use Rattle.pb_core.proofs.WithLemmas.{none-of, not-none, of-some, with-each, with-other, with-same}
 use Rattle.pb_cells.specs.declared.view.View.{View}
 use Rattle.pb_cells.specs.Banks.{Bank}
-use Rattle.pb_cells.specs.Stories.{Fits, FitsTask, FitsTurns, HasOpened, HoldsTurn, IsStory, Keeps, Story}
+use Rattle.pb_cells.specs.Stories.{Fits, FitsTask, FitsTurns, HasOpened, HoldsTurn, IsStory, Keeps, Story, is_listed}
 use Rattle.pb_cells.specs.Views.{job_view, no_view, untouched}
 use Rattle.pb_cells.proofs.CarryLemmas.{SameRest, SameTask, same-fits, same-job}
-use Rattle.pb_cells.proofs.SeatLemmas.{none-some, seat-inside, seat-splits, some-one, with-both}
+use Rattle.pb_cells.proofs.SeatLemmas.{listed-in, none-some, seat-inside, seat-splits, some-one, with-both}
 
 module _ (p : Plan) (is : IsPlan p) (b : Bank) (views : List View) (y : Story) (ok : IsStory p b views y) (id : ℕ) (v : View) (at : get_elem? views id ≡ some v) where
   abbrev own : Fits p b y id v
@@ -83,6 +83,8 @@ module _ (p : Plan) (is : IsPlan p) (b : Bank) (views : List View) (y : Story) (
       back = λ u h. (with-each y.core.runner t (Some new) u (λ a. a ≡ Some o → y.core.runner u ≡ Some o) (λ same e. absurd (not-new o there e)) (λ other e. e) h.0, h.1);
       wrote = λ u h. refl;
       number = λ u h. refl;
+      kept = λ u h. refl;
+      filed = λ u h. refl;
       released = λ u w h. refl;
       right = λ d was. was;
     }
@@ -117,7 +119,7 @@ module _ (p : Plan) (is : IsPlan p) (b : Bank) (views : List View) (y : Story) (
       takes = λ u h. h;
       taken = λ u h. h;
       ended = λ u h. refl;
-      finish = omega arith;
+      more = omega arith;
     }
 
     left-turns : FitsTurns holder runner id ts
@@ -148,6 +150,9 @@ module _ (p : Plan) (is : IsPlan p) (b : Bank) (views : List View) (y : Story) (
     unfinished : y.core.number t ≡ None
     unfinished = none-of (y.core.number t) (λ there. not-none (y.core.runner t) turn.1 (ok.tells.sound.held.ended t there))
 
+    unkept : y.kept t ≡ false
+    unkept = not-true (y.kept t) (λ e. none-some (y.core.number t) (b.number t) unfinished (ok.tells.numbers.stored t e))
+
     new-task : FitsTask p b split_story new (untouched t)
     new-task = record {
       runs = (with-same y.core.runner t (Some new) t refl, none-of (y.taker t) (λ there. let taker = of-some (y.taker t) there in not-none (y.core.number t) unfinished (ok.tells.taken t taker.0 taker.1).0));
@@ -155,6 +160,8 @@ module _ (p : Plan) (is : IsPlan p) (b : Bank) (views : List View) (y : Story) (
       wrote = (ok.tells.unbegun t turn.1).0;
       stored = λ e. let wrong : false ≡ true = e in absurd (cc);
       number = unfinished;
+      kept = unkept;
+      filed = not-true (is_listed y.filed t) (λ e. let wrong : false ≡ true = sym unkept ∙ ok.tells.numbers.kept t (listed-in y.filed t e) in cc);
       released = λ u. not-true (y.core.released t u) (λ e. not-none (y.core.number t) unfinished (ok.tells.sound.counts.releases t u e));
     }
 
@@ -197,6 +204,7 @@ module _ (p : Plan) (is : IsPlan p) (b : Bank) (views : List View) (y : Story) (
           opened = ok.tells.opened;
           opens = ok.tells.opens;
           taken = ok.tells.taken;
+          numbers = ok.tells.numbers;
         }
         record {
           holders = λ u i. with-each y.core.holder t (Some new) u (λ a. a ≡ Some i → i < length views + 1) (λ same e. let here : new ≡ i = cc in omega arith) (λ other e. let below = ok.seats.holders u i e in omega arith);

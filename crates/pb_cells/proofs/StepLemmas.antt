@@ -18,9 +18,8 @@ use Rattle.pb_cells.specs.Banks.{Bank, bank_of, count_at, value_at}
 use Rattle.pb_cells.specs.Shown.{GoesOn, KnowsBefore, OneSeat, OnTask, OthersKeep, SeatWith}
 use Rattle.pb_cells.specs.Stories.{Fits, FitsJob, Holds, IsStory, Keeps, Story}
 use Rattle.pb_cells.proofs.BankLemmas.{set-count, set-value}
-use Rattle.pb_cells.proofs.JoinLemmas.{listed-in}
+use Rattle.pb_cells.proofs.SeatLemmas.{keeps-same, listed-in, seat-inside}
 use Rattle.pb_cells.proofs.LookLemmas.{before-task}
-use Rattle.pb_cells.proofs.SeatLemmas.{keeps-same, seat-inside}
 use Rattle.pb_cells.proofs.ShownLemmas.{marked-value, opened-one, option-cases, runs-task, seat-there}
 
 module _ (p : Plan) (is : IsPlan p) (b : Bank) (views : List View) (y : Story) (ok : IsStory p b views y) where

@@ -43,10 +43,10 @@ module _ (p : Plan) (is : IsPlan p) (b : Bank) (views : List View) (y : Story) (
   right d was = with-each b.value cell (word_of v) d (λ w. w ≡ word_of (outcome_at p.solution d)) (λ same. ap (λ e. word_of (outcome_at p.solution e)) (sym same)) (λ other. was)
 
   value-task : (o : ℕ) → SameTask p b value_bank y y o
-  value-task o = record { runs = λ t h. h; back = λ t h. h; wrote = λ t h. refl; number = λ t h. refl; released = λ t u h. refl; right = right }
+  value-task o = record { runs = λ t h. h; back = λ t h. h; wrote = λ t h. refl; number = λ t h. refl; kept = λ t h. refl; filed = λ t h. refl; released = λ t u h. refl; right = right }
 
   value-rest : (o : ℕ) → SameRest b value_bank y y o
-  value-rest o = record { holds = λ t h. h; held = λ t h. h; opened = λ t h. h; opens = λ t h. h; takes = λ t h. h; taken = λ t h. h; ended = λ t h. refl; finish = omega arith }
+  value-rest o = record { holds = λ t h. h; held = λ t h. h; opened = λ t h. h; opens = λ t h. h; takes = λ t h. h; taken = λ t h. h; ended = λ t h. refl; more = omega arith }
 
   pub value-keeps : j.written < length (p.order j.task) → IsStory p value_bank (set views id (job_view (after_store j) opened)) y
   value-keeps more = seat-steps p b views y ok id (job_view j opened) at value_bank y (job_view (after_store j) opened)
@@ -62,6 +62,7 @@ module _ (p : Plan) (is : IsPlan p) (b : Bank) (views : List View) (y : Story) (
         opened = ok.tells.opened;
         opens = ok.tells.opens;
         taken = ok.tells.taken;
+        numbers = ok.tells.numbers;
       }
       ok.seats
       (next-fits p b value_bank y y id (value-rest id) (job_view j opened) (after_store j) stored own.left own)
@@ -78,6 +79,8 @@ module _ (p : Plan) (is : IsPlan p) (b : Bank) (views : List View) (y : Story) (
         wrote = fits.wrote;
         stored = λ e. (more, with-same b.value cell (word_of v) cell refl);
         number = fits.number;
+        kept = fits.kept;
+        filed = fits.filed;
         released = fits.released;
       }
 
@@ -89,7 +92,7 @@ module _ (p : Plan) (is : IsPlan p) (b : Bank) (views : List View) (y : Story) (
   mark_story = record y { core = happens p y.core (Write id (next_cell p j)); wrote = with y.wrote j.task (j.written + 1) }
 
   mark-rest : (o : ℕ) → SameRest b mark_bank y mark_story o
-  mark-rest o = record { holds = λ t h. h; held = λ t h. h; opened = λ t h. h; opens = λ t h. h; takes = λ t h. h; taken = λ t h. h; ended = λ t h. refl; finish = omega arith }
+  mark-rest o = record { holds = λ t h. h; held = λ t h. h; opened = λ t h. h; opens = λ t h. h; takes = λ t h. h; taken = λ t h. h; ended = λ t h. refl; more = omega arith }
 
   mark-task : (o : ℕ) → (o ≡ id → ⊥) → SameTask p b mark_bank y mark_story o
   mark-task o apart = record {
@@ -97,6 +100,8 @@ module _ (p : Plan) (is : IsPlan p) (b : Bank) (views : List View) (y : Story) (
     back = λ t h. h;
     wrote = λ t h. with-other y.wrote j.task (j.written + 1) t (λ same. apart (some-one (y.core.runner t) o id h.0 (ap y.core.runner same ∙ fits.runs.0)));
     number = λ t h. refl;
+    kept = λ t h. refl;
+    filed = λ t h. refl;
     released = λ t u h. refl;
     right = λ d was. was;
   }
@@ -155,6 +160,7 @@ module _ (p : Plan) (is : IsPlan p) (b : Bank) (views : List View) (y : Story) (
           opened = ok.tells.opened;
           opens = ok.tells.opens;
           taken = ok.tells.taken;
+          numbers = ok.tells.numbers;
         }
         ok.seats
         (next-fits p b mark_bank y mark_story id (mark-rest id) (job_view j opened) (after_mark j) marked own.left own)
@@ -167,5 +173,7 @@ module _ (p : Plan) (is : IsPlan p) (b : Bank) (views : List View) (y : Story) (
           wrote = with-same y.wrote j.task (j.written + 1) j.task refl;
           stored = λ e. let wrong : false ≡ true = e in absurd (cc);
           number = fits.number;
+          kept = fits.kept;
+          filed = fits.filed;
           released = fits.released;
         }

@@ -1,7 +1,8 @@
 -- What contracts see of Jobs and Hands.
-use Rattle.std.specs.Prelude.{◌≡◌, ℕ, ◌<◌, ◌++◌, List, [], ◌∷◌, length, Option, Some, None}
+use Rattle.std.specs.Prelude.{◌≡◌, max, ℕ, ◌<◌, ◌++◌, List, [], ◌∷◌, length, Option, Some, None, is_some}
 use Rattle.atomic_table.specs.Seated.{TableId}
 use Rattle.pb_values.specs.Cells.{Turn}
+use Rattle.pb_values.specs.declared.outcome.Outcome.{Outcome}
 use Rattle.pb_taskgraph.specs.Known.{known_turn}
 use Rattle.pb_taskgraph.specs.Plans.{IsPlan, Plan}
 use Rattle.pb_cells.specs.declared.view.TaskView.{TaskView}
@@ -15,13 +16,14 @@ pub record JobValue : Type 0 where
   pub at : TaskView
   pub opened : List ℕ
 
--- a Hand: its table, the tasks that it has opened, the finished tasks that it has taken in with their numbers, and the count
--- that it has seen
+-- a Hand: its table, the tasks that it has opened, the finished tasks that it has taken in with their numbers, the filed count
+-- that it has seen, and how often it has looked
 pub record HandValue : Type 0 where
   pub table : TableId
   pub opened : List ℕ
   pub ran : List (ℕ × ℕ)
   pub seen : ℕ
+  pub looks : ℕ
 
 -- no table
 abbrev pub no_table : TableId
@@ -32,21 +34,23 @@ abbrev pub new_job : TableId → ℕ → JobValue
 new_job table t = record { table = table; at = untouched t; opened = [] }
 
 abbrev pub new_hand : TableId → HandValue
-new_hand table = record { table = table; opened = []; ran = []; seen = 0 }
+new_hand table = record { table = table; opened = []; ran = []; seen = 0; looks = 0 }
 
 -- the task that a seat runs
 abbrev pub task_of : Option TaskView → TaskView
 task_of None = untouched 0
 task_of (Some j) = j
 
--- a seat of a Job: it runs a task, and has no other turn
-pub record IsJob (p : Plan) (me : Me) : Type 0 where
+-- a seat of a Job of this task: it runs the task, and has no other turn; where the task is finished, its number is filed
+pub record IsJob (p : Plan) (me : Me) (t : ℕ) : Type 0 where
   pub me_is : me ≡ (job_view (task_of me.0.job) me.0.opened, [])
+  pub task_is : t ≡ (task_of me.0.job).task
   pub task : (task_of me.0.job).task < length p.graph.tasks
+  pub filed : (task_of me.0.job).filed ≡ is_some (task_of me.0.job).number
 
 -- a seat of a Hand: it runs no task, and has no turn
 abbrev pub IsHand : Me → Type 0
-IsHand me = me ≡ (hand_view me.0.opened me.0.ran me.0.seen, [])
+IsHand me = me ≡ (hand_view me.0.opened me.0.ran me.0.seen me.0.looks, [])
 
 -- what a port tells of the task of a Job
 abbrev pub turn_at : Plan → TaskView → Turn
@@ -62,9 +66,20 @@ HasReleased old next None new = (0 < new.at.left) × (new ≡ record old { at = 
 abbrev pub hand_with : HandValue → JobValue → HandValue
 hand_with hand job = record hand { opened = hand.opened ++ job.opened; ran = hand.ran ++ ended_by (Some job.at) }
 
+-- a Hand takes in another Hand
+abbrev pub gathered : HandValue → HandValue → HandValue
+gathered hand other = record hand { opened = hand.opened ++ other.opened; ran = hand.ran ++ other.ran; seen = max hand.seen other.seen }
+
 -- a table has the words of a plan of so many cells and tasks
 pub record IsTable (p : Plan) (table : TableId) (cell_count task_count : ℕ) : Type 0 where
   pub plan : IsPlan p
   pub words : table.words ≡ width p.graph
+  pub slots : table.slots ≡ 0
   pub cells : cell_count ≡ p.graph.cells
   pub tasks : task_count ≡ length p.graph.tasks
+
+-- and there is room for what the run will have told, as many outcomes and numbers
+pub record IsCells (p : Plan) (id : TableId) (cell_count task_count : ℕ) (outcomes : List Outcome) (order : List ℕ) : Type 0 where
+  pub table : IsTable p id cell_count task_count
+  pub outcome_room : length outcomes ≡ cell_count
+  pub order_room : length order ≡ task_count

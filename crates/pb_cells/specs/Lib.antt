@@ -6,4 +6,5 @@ pub mod Steps
 pub mod Openings
 pub mod Ports
 pub mod Handles
+pub mod Ends
 pub mod Shown

@@ -14,11 +14,12 @@ pub record AreCells (p : Plan) (first : ℕ) (b : Bank) : Type 0 where
 abbrev pub AreCounts : Plan → ℕ → (ℕ → ℕ) → Type 0
 AreCounts p first count = (t : ℕ) → t < first → count t ≡ length (before_of p.graph t)
 
--- the words of a table whose first cells tell their outcomes, and in which no task is finished
+-- the words of a table whose first cells tell their outcomes, and in which no task is finished or filed
 pub record AreTold (p : Plan) (first : ℕ) (words : List ℕ) : Type 0 where
   pub width : length words ≡ width p.graph
   pub cells : AreCells p first (bank_of p.graph words)
   pub finish : (bank_of p.graph words).finish ≡ 0
+  pub filed : (bank_of p.graph words).filed ≡ 0
 
 -- the words of a table before any step: just the input cells are written, and each task waits for all its predecessors
 pub record IsFirst (p : Plan) (words : List ℕ) : Type 0 where

@@ -3,7 +3,7 @@ use Rattle.std.specs.Prelude.{◌≡◌, ℕ, ◌<◌, ◌↔◌, ◌⊎◌, tru
 use Rattle.std.specs.List.{Contains}
 use mathlib.Core.Option.{some}
 use lib.ListN.{get_elem?}
-use Rattle.pb_taskgraph.specs.Graphs.{after_of, before_of}
+use Rattle.pb_taskgraph.specs.Graphs.{EachOnce, after_of, before_of}
 use Rattle.pb_taskgraph.specs.Plans.{Plan}
 use Rattle.pb_core.specs.Snapshots.{Snapshot}
 use Rattle.pb_cells.specs.declared.view.TaskView.{TaskView}
@@ -23,6 +23,13 @@ HasTurn t v = Contains v.turns t ⊎ OnTask (λ j. (j.task ≡ t) × (j.number �
 -- a seat says that a task is finished with a number
 abbrev pub SaysFinished : ℕ → ℕ → View → Type 0
 SaysFinished t n v = OnTask (λ j. (j.task ≡ t) × (j.number ≡ Some n)) v.job ⊎ Contains v.ran (t, n)
+
+-- a seat says that the finish number of a task is stored; it says that the task is filed
+abbrev pub SaysStored : ℕ → ℕ → View → Type 0
+SaysStored t n v = OnTask (λ j. (j.task ≡ t) × (j.number ≡ Some n) × (j.kept ≡ true)) v.job ⊎ Contains v.ran (t, n)
+
+abbrev pub SaysFiled : ℕ → View → Type 0
+SaysFiled t v = OnTask (λ j. (j.task ≡ t) × (j.filed ≡ true)) v.job ⊎ ((n : ℕ) × Contains v.ran (t, n))
 
 -- a seat says that its finished task owes a release to a successor
 abbrev pub SaysOwed : Plan → ℕ → ℕ → View → Type 0
@@ -59,6 +66,11 @@ pub record ShowsIt (p : Plan) (b : Bank) (views : List View) (q : Snapshot) : Ty
   pub numbers : (t n : ℕ) → (q.number t ≡ Some n) ↔ SomeSeat views (SaysFinished t n)
   pub owed : (u t : ℕ) → (q.owed u t ≡ true) ↔ SomeSeat views (SaysOwed p u t)
   pub owed_once : (u t id other : ℕ) → SeatWith views (SaysOwed p u t) id → SeatWith views (SaysOwed p u t) other → other ≡ id
+
+-- just the tasks of which seats say that they are filed, each once
+pub record AreFiled (views : List View) (tasks : List ℕ) : Type 0 where
+  pub each : (t : ℕ) → Contains tasks t ↔ SomeSeat views (SaysFiled t)
+  pub once : EachOnce tasks
 
 -- an opened task waits for no release, has a predecessor, and no other seat has opened it
 pub record IsOpened (p : Plan) (b : Bank) (views : List View) (id t : ℕ) : Type 0 where

@@ -1,5 +1,5 @@
 -- What a step on a word of the table tells of its seat.
-use Rattle.std.specs.Prelude.{◌≡◌, ℕ, ◌-◌, ◌<◌, ◌≤◌, List, length, map, slice_index, Option, Some, None}
+use Rattle.std.specs.Prelude.{◌≡◌, ℕ, ◌+◌, ◌-◌, ◌<◌, ◌≤◌, List, length, map, slice_index, Option, Some, None}
 use Rattle.std.specs.List.{Contains}
 use mathlib.Core.Option.{some}
 use lib.ListN.{get_elem?}
@@ -11,7 +11,7 @@ use Rattle.pb_cells.specs.declared.view.TaskView.{TaskView}
 use Rattle.pb_cells.specs.declared.view.View.{View}
 use Rattle.pb_cells.specs.Banks.{Bank, bank_of, count_at, mark_at, value_at}
 use Rattle.pb_cells.specs.Stories.{Holds}
-use Rattle.pb_cells.specs.Views.{after_finish, after_mark, after_store, released_view, with_task}
+use Rattle.pb_cells.specs.Views.{after_draw, after_file, after_keep, after_mark, after_store, released_view, with_task}
 use Rattle.pb_cells.specs.Words.{mark_of, word_of}
 
 -- a step on a word, and what a seat knows and holds
@@ -34,9 +34,15 @@ Stores p s me n after = (after ≡ (with_task after_store me.0, me.1)) × ((c : 
 abbrev pub Marks : Step → Me → ℕ → Me → Type 0
 Marks s me n after = after ≡ (with_task after_mark me.0, me.1)
 
--- the task is finished with the number that was found
-abbrev pub Finishes : Step → Me → ℕ → Me → Type 0
-Finishes s me n after = after ≡ (with_task (after_finish n) me.0, me.1)
+-- the task is finished with the number that was found; the number is stored; it is filed
+abbrev pub Draws : Step → Me → ℕ → Me → Type 0
+Draws s me n after = after ≡ (with_task (after_draw n) me.0, me.1)
+
+abbrev pub StoresNumber : Step → Me → ℕ → Me → Type 0
+StoresNumber s me n after = after ≡ (with_task after_keep me.0, me.1)
+
+abbrev pub Files : Step → Me → ℕ → Me → Type 0
+Files s me n after = after ≡ (with_task after_file me.0, me.1)
 
 -- what a seat has opened: tasks with predecessors, each once; and what it has taken in: tasks, each once
 pub record AreTasks (p : Plan) (tasks : List ℕ) (ended : List (ℕ × ℕ)) : Type 0 where
@@ -45,11 +51,9 @@ pub record AreTasks (p : Plan) (tasks : List ℕ) (ended : List (ℕ × ℕ)) : 
   pub ran : (t n : ℕ) → Contains ended (t, n) → (t < length p.graph.tasks) × (n < length p.graph.tasks)
   pub ran_once : EachOnce (map (λ e. e.0) ended)
 
--- a number of finished tasks isn't below the one that was seen before; the numbers of the tasks that were taken in are below it,
--- and these tasks are no more
+-- a number of filed tasks isn't below the one that was seen before, nor below that of the tasks that were taken in
 pub record IsPast (before : ℕ) (ended : List (ℕ × ℕ)) (n : ℕ) : Type 0 where
   pub risen : before ≤ n
-  pub numbers : (t m : ℕ) → Contains ended (t, m) → m < n
   pub many : length ended ≤ n
 
 -- a state of the table that meets its rule, in which a seat knows just this, and of whose words this is so
@@ -60,16 +64,16 @@ pub record SomeMoment (p : Plan) (v : View) (F : Bank → Type 0) : Type 0 where
   pub knows : get_elem? state.views id ≡ some v
   pub so : F (bank_of p.graph state.words)
 
--- at a moment a seat knows this, and so many tasks are finished; or a task waits for so many releases
-abbrev pub IsFinishCount : Plan → View → ℕ → Type 0
-IsFinishCount p v n = SomeMoment p v (λ b. b.finish ≡ n)
+-- at a moment a seat knows this, and so many tasks are filed; or a task waits for so many releases
+abbrev pub IsFiledCount : Plan → View → ℕ → Type 0
+IsFiledCount p v n = SomeMoment p v (λ b. b.filed ≡ n)
 
 abbrev pub WaitsFor : Plan → View → ℕ → ℕ → Type 0
 WaitsFor p v t n = SomeMoment p v (λ b. b.count t ≡ n)
 
--- the finish count is seen
+-- the filed count is seen, in one look more
 abbrev pub Looks : Plan → Step → Me → ℕ → Me → Type 0
-Looks p s me n after = (after ≡ (record me.0 { seen = n }, me.1)) × IsFinishCount p me.0 n
+Looks p s me n after = (after ≡ (record me.0 { seen = n; looks = me.0.looks + 1 }, me.1)) × IsFiledCount p me.0 n
 
 -- a successor is released, whose count was the number that was found and is one less then
 abbrev pub Releases : Plan → Step → Me → ℕ → Me → Type 0

@@ -22,6 +22,9 @@ pub record Story : Type 0 where
   -- the task whose release has opened a task, and the seat that has taken in a finished one
   pub opener : ℕ → Option ℕ
   pub taker : ℕ → Option ℕ
+  -- whether the finish number of a task is stored, and the tasks that are filed
+  pub kept : ℕ → Bool
+  pub filed : List ℕ
 
 -- the two words of a cell tell its outcome; the mark of a cell that isn't written is 0
 abbrev pub TellsCell : Option Outcome → ℕ → ℕ → Type 0
@@ -31,6 +34,13 @@ TellsCell (Some v) mark word = (mark ≡ mark_of v) × (word ≡ word_of v)
 -- the written cells of a task are the first ones of its own order
 abbrev pub AreFirst : (ℕ → Option Outcome) → ℕ → List ℕ → Type 0
 AreFirst value written order = (c : ℕ) → Contains order c → IsSome (value c) ↔ Contains (take written order) c
+
+-- a stored finish number is the one that was drawn; the filed tasks are counted, each once, and their numbers are stored
+pub record TellsNumbers (drawn : ℕ → Option ℕ) (words : ℕ → ℕ) (count : ℕ) (is_kept : ℕ → Bool) (tasks : List ℕ) : Type 0 where
+  pub stored : (t : ℕ) → is_kept t ≡ true → drawn t ≡ Some (words t)
+  pub count_is : count ≡ length tasks
+  pub once : EachOnce tasks
+  pub kept : (t : ℕ) → Contains tasks t → is_kept t ≡ true
 
 -- the words tell the story
 pub record Tells (p : Plan) (b : Bank) (y : Story) : Type 0 where
@@ -49,8 +59,9 @@ pub record Tells (p : Plan) (b : Bank) (y : Story) : Type 0 where
   pub opened : (t u : ℕ) → y.opener t ≡ Some u → (y.core.count t ≡ 0) × Contains (before_of p.graph t) u
   -- each task that has predecessors and waits for no release is opened
   pub opens : (t : ℕ) → t < length p.graph.tasks → y.core.count t ≡ 0 → 0 < length (before_of p.graph t) → IsSome (y.opener t)
-  -- a task that was taken in is finished and owes no release
-  pub taken : (t id : ℕ) → y.taker t ≡ Some id → IsSome (y.core.number t) × ((u : ℕ) → Contains (after_of p.graph t) u → y.core.released t u ≡ true)
+  -- a task that was taken in is finished, owes no release, and is filed
+  pub taken : (t id : ℕ) → y.taker t ≡ Some id → IsSome (y.core.number t) × ((u : ℕ) → Contains (after_of p.graph t) u → y.core.released t u ≡ true) × Contains y.filed t
+  pub numbers : TellsNumbers y.core.number b.number b.filed y.kept y.filed
 
 -- a seat holds the turn of a task that nobody has begun
 abbrev pub HoldsTurn : (ℕ → Option ℕ) → (ℕ → Option ℕ) → ℕ → ℕ → Type 0
@@ -88,6 +99,8 @@ pub record FitsTask (p : Plan) (b : Bank) (y : Story) (id : ℕ) (j : TaskView) 
   pub wrote : y.wrote j.task ≡ j.written
   pub stored : j.stored ≡ true → IsStored p b.value j
   pub number : y.core.number j.task ≡ j.number
+  pub kept : y.kept j.task ≡ j.kept
+  pub filed : is_listed y.filed j.task ≡ j.filed
   pub released : (u : ℕ) → y.core.released j.task u ≡ is_listed j.released u
 
 abbrev pub FitsJob : Plan → Bank → Story → ℕ → Option TaskView → Type 0
@@ -125,7 +138,7 @@ pub record Fits (p : Plan) (b : Bank) (y : Story) (id : ℕ) (v : View) : Type 0
   pub opened : FitsOpened y id v.opened
   pub left : FitsLeft v.job v.opened
   pub ran : FitsRan y.taker y.core.number id v.ran
-  pub seen : v.seen ≤ b.finish
+  pub seen : v.seen ≤ b.filed
 
 -- the seats of which the story speaks are there
 pub record AreSeats (holder runner taker : ℕ → Option ℕ) (seats : ℕ) : Type 0 where

@@ -1,5 +1,5 @@
 -- What seats know, and what a step adds to it.
-use Rattle.std.specs.Prelude.{ℕ, ◌+◌, ◌-◌, ◌==◌, true, false, List, [], ◌∷◌, ◌++◌, length, filter, drop, Option, Some, None, if◌then◌else◌}
+use Rattle.std.specs.Prelude.{max, ℕ, ◌+◌, ◌-◌, ◌==◌, true, false, List, [], ◌∷◌, ◌++◌, length, filter, drop, Option, Some, None, if◌then◌else◌}
 use Rattle.std.specs.List.{range_with_len}
 use Rattle.pb_taskgraph.specs.Graphs.{before_of}
 use Rattle.pb_taskgraph.specs.Plans.{Plan}
@@ -8,19 +8,19 @@ use Rattle.pb_cells.specs.declared.view.View.{View}
 
 -- of a task nothing is done
 abbrev pub untouched : ℕ → TaskView
-untouched t = record { task = t; written = 0; stored = false; number = None; released = []; left = 0 }
+untouched t = record { task = t; written = 0; stored = false; number = None; kept = false; filed = false; released = []; left = 0 }
 
 -- a Job's seat: its task, and the tasks that it has opened
 abbrev pub job_view : TaskView → List ℕ → View
-job_view j opened = record { job = Some j; turns = []; opened = opened; ran = []; seen = 0 }
+job_view j opened = record { job = Some j; turns = []; opened = opened; ran = []; seen = 0; looks = 0 }
 
--- a hand's seat: what it has opened and run, and the count that it has seen
-abbrev pub hand_view : List ℕ → List (ℕ × ℕ) → ℕ → View
-hand_view opened ran seen = record { job = None; turns = []; opened = opened; ran = ran; seen = seen }
+-- a hand's seat: what it has opened and run, the count that it has seen, and how often it has looked
+abbrev pub hand_view : List ℕ → List (ℕ × ℕ) → ℕ → ℕ → View
+hand_view opened ran seen looks = record { job = None; turns = []; opened = opened; ran = ran; seen = seen; looks = looks }
 
 -- a seat that knows nothing, as one is left that another has taken in
 abbrev pub no_view : View
-no_view = hand_view [] [] 0
+no_view = hand_view [] [] 0 0
 
 -- the tasks without predecessors, in order
 unfoldable pub ready_tasks : Plan → List ℕ
@@ -28,21 +28,31 @@ ready_tasks p = filter (λ t. length (before_of p.graph t) == 0) (range_with_len
 
 -- a seat that holds these turns and has done nothing
 abbrev pub turns_view : List ℕ → View
-turns_view turns = record { job = None; turns = turns; opened = []; ran = []; seen = 0 }
+turns_view turns = record { job = None; turns = turns; opened = []; ran = []; seen = 0; looks = 0 }
 
 -- the first seat holds the turns of the tasks without predecessors
 unfoldable pub first_view : Plan → View
 first_view p = turns_view (ready_tasks p)
 
--- a task's next value is stored; its next cell is written; it is finished with this number
+-- a task's next value is stored; its next cell is written; its finish number is drawn, stored, and filed
 abbrev pub after_store : TaskView → TaskView
 after_store j = record j { stored = true }
 
 abbrev pub after_mark : TaskView → TaskView
 after_mark j = record j { written = j.written + 1; stored = false }
 
+abbrev pub after_draw : ℕ → TaskView → TaskView
+after_draw n j = record j { number = Some n }
+
+abbrev pub after_keep : TaskView → TaskView
+after_keep j = record j { kept = true }
+
+abbrev pub after_file : TaskView → TaskView
+after_file j = record j { filed = true }
+
+-- it is finished with this number, which is filed
 abbrev pub after_finish : ℕ → TaskView → TaskView
-after_finish n j = record j { number = Some n }
+after_finish n j = record j { number = Some n; kept = true; filed = true }
 
 -- it has released a successor, which waits for so many releases more
 abbrev pub after_release : ℕ → ℕ → TaskView → TaskView
@@ -86,3 +96,7 @@ ended_by (Some j) = numbered j.task j.number
 -- a hand takes in what another seat knows of its finished task, and the tasks that it has opened
 abbrev pub joined_view : View → View → View
 joined_view v w = record v { opened = v.opened ++ w.opened; ran = v.ran ++ ended_by w.job }
+
+-- a hand takes in what another hand knows
+abbrev pub gathered_view : View → View → View
+gathered_view v w = record v { opened = v.opened ++ w.opened; ran = v.ran ++ w.ran; seen = max v.seen w.seen }

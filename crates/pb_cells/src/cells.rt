@@ -3,47 +3,49 @@ ghost use Rattle.std.specs.List.{Contains};
 ghost use Rattle.pb_taskgraph.specs.Graphs.{after_of};
 ghost use Rattle.pb_taskgraph.specs.Plans.{outcome_at};
 ghost use Rattle.pb_cells.specs.Handles.{HasReleased, hand_with, new_hand, new_job, turn_at};
-ghost use Rattle.pb_cells.specs.Steps.{AreTasks, IsFinishCount, IsPast, WaitsFor};
+ghost use Rattle.pb_cells.specs.Steps.{AreTasks, IsFiledCount, IsPast, WaitsFor};
 ghost use Rattle.pb_cells.specs.Views.{after_finish, after_mark, hand_view, job_view, ready_tasks, released_view};
 
 use crate::deal::{deal_hands, deal_jobs};
 use crate::first::{first_words, ready_list};
 use crate::seats::{Hand, Job};
 use crate::steps::{
-    AddFinish, CellsRule, FirstTurn, LoadCell, LoadFinish, StoreMark, StoreValue, TakeFromCount,
-    TakeIn,
+    AddFiled, CellsRule, DrawNumber, FirstTurn, LoadCell, LoadFiled, StoreMark, StoreNumber,
+    StoreValue, TakeFromCount, TakeIn,
 };
 use crate::view::View;
 use crate::words::{pack, unpack};
 use atomic_table::Table;
-use pb_taskgraph::{NamesWork, Work};
+use pb_taskgraph::{NamesWork, Outcomes, Work};
 use pb_values::Outcome;
 use std::alloc::{AllocError, Global};
 use std::marker::Model;
 
-/// The cells of a work, the counts of its tasks and the number of finished ones, as words that threads change by single steps.
-/// Contracts see it as the table that it is.
+/// The cells of a work, the counts and the finish numbers of its tasks, and how many are finished and filed, as words that threads
+/// change by single steps; and the room for what the run will have told. Contracts see it as the table that it is.
 #[derive(Drop)]
 pub struct Cells<N: NamesWork> {
     pub(crate) table: Table<(), View, (), CellsRule<N>, Global>,
     pub(crate) cells: usize,
     pub(crate) tasks: usize,
+    pub(crate) outcomes: Outcomes,
+    pub(crate) order: Vec<u32>,
 }
 
 impl<N: NamesWork> Model for Cells<N> {
     ghost use Rattle.atomic_table.specs.Seated.{TableId};
-    ghost use Rattle.pb_cells.specs.Handles.{IsTable};
+    ghost use Rattle.pb_cells.specs.Handles.{IsCells};
 
     ghost Value = { TableId };
 
     ghost view = { λ c. c.table.shared.table_id };
 
-    ghost invariant = { λ c. IsTable N.plan c.table.shared.table_id c.cells c.tasks };
+    ghost invariant = { λ c. IsCells N.plan c.table.shared.table_id c.cells c.tasks c.outcomes c.order.items };
 }
 
 impl<N: NamesWork> Cells<N> {
     /// The cells of a work before any step, so many Hands, and a Job for each task without predecessors, in order. All are of
-    /// one table.
+    /// one table. It takes all memory that later calls need.
     pub fn new<W: Work>(
         alloc: Global,
         work: &W,
@@ -57,10 +59,13 @@ impl<N: NamesWork> Cells<N> {
         let words = first_words(alloc, work)?;
         let ready = ready_list(alloc, work)?;
         let (table, mut first) = Table::of_words(alloc, &words, &())?;
+        let tasks = graph.tasks().len();
         let cells = Cells {
             table,
             cells: graph.cells() as usize,
-            tasks: graph.tasks().len(),
+            tasks,
+            outcomes: Outcomes::zeros(alloc, graph.cells())?,
+            order: vec![in alloc; 0u32; tasks]?,
         };
         let jobs = deal_jobs(alloc, &cells, &mut first, &ready)?;
         let dealt = deal_hands(alloc, &cells, &mut first, hands)?;
@@ -103,16 +108,27 @@ impl<N: NamesWork> Cells<N> {
             .store::<StoreMark>(&mut job.seat, mark_place, mark);
     }
 
-    /// Finishes the task, all cells of which are written, and draws its finish number.
+    /// Finishes the task, all cells of which are written: draws its finish number, stores it, and then files it.
     pub fn finish(&self, job: &mut Job<N>) -> u64
         requires table { job.old.table ≡ self.now }
         requires unfinished { job.old.at.number ≡ None }
         requires written { length (N.plan.order job.old.at.task) ≤ job.old.at.written }
         ensures { job.new ≡ record job.old { at = after_finish result job.old.at } }
     {
+        let place = self.cells + self.cells + self.tasks;
+        let number_place = place + job.task as usize;
+        let finish_place = place + self.tasks;
+        let number = self
+            .table
+            .shared
+            .fetch_add::<DrawNumber>(&mut job.seat, finish_place, 1);
         self.table
             .shared
-            .fetch_add::<AddFinish>(&mut job.seat, self.cells + self.cells + self.tasks, 1)
+            .store::<StoreNumber>(&mut job.seat, number_place, number);
+        self.table
+            .shared
+            .fetch_add::<AddFiled>(&mut job.seat, finish_place + 1, 1);
+        number
     }
 
     /// Releases a successor of the finished task. A Job of the successor where its count became 0.
@@ -154,18 +170,19 @@ impl<N: NamesWork> Cells<N> {
             .join_seat::<TakeIn>(&mut hand.seat, job.into_seat());
     }
 
-    /// How many tasks are finished by now: no less than the Hand has seen before, and past the numbers of all that it has taken in.
-    /// What the Hand's Jobs have opened are tasks with predecessors, and what it has taken in are tasks, each once.
+    /// Looks how many tasks are filed by now, finished with their numbers stored: no less than the Hand has seen before, nor than it has
+    /// taken in. What the Hand's Jobs have opened are tasks with predecessors, and what it has taken in are tasks, each once.
     pub fn finished(&self, hand: &mut Hand<N>) -> u64
         requires table { hand.old.table ≡ self.now }
-        ensures count { IsFinishCount N.plan (hand_view hand.old.opened hand.old.ran hand.old.seen) result }
+        ensures count { IsFiledCount N.plan (hand_view hand.old.opened hand.old.ran hand.old.seen hand.old.looks) result }
         ensures past { IsPast hand.old.seen hand.old.ran result }
         ensures few { result ≤ length N.plan.graph.tasks }
-        ensures seen { hand.new ≡ record hand.old { seen = result } }
+        ensures seen { hand.new ≡ record hand.old { seen = result; looks = hand.old.looks + 1 } }
         ensures told { AreTasks N.plan hand.new.opened hand.new.ran }
     {
-        self.table
-            .shared
-            .load::<LoadFinish<N>>(&mut hand.seat, self.cells + self.cells + self.tasks)
+        self.table.shared.load::<LoadFiled<N>>(
+            &mut hand.seat,
+            self.cells + self.cells + self.tasks + self.tasks + 1,
+        )
     }
 }

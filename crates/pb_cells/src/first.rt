@@ -8,7 +8,7 @@ use crate::words::pack;
 use pb_taskgraph::Work;
 use std::alloc::{AllocError, Global};
 
-/// The words of a table in which the input cells are written, and no count is set.
+/// The words of a table in which the input cells are written, and nothing else is set.
 fn told_inputs<W: Work>(
     alloc: Global,
     work: &W,
@@ -22,7 +22,7 @@ fn told_inputs<W: Work>(
     requires tasks { tasks ≡ length (W.plan work.now).graph.tasks }
     ensures { IfOk result (λ words. AreTold (W.plan work.now) inputs words.items) }
 {
-    let mut words = vec![in alloc; 0u64; cells + cells + tasks + 1]?;
+    let mut words = vec![in alloc; 0u64; cells + cells + tasks + tasks + 2]?;
     for cell in 0..inputs {
         let (mark, word) = pack(work.input(cell));
         words[cell as usize] = word;

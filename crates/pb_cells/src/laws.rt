@@ -1,4 +1,4 @@
-ghost use Rattle.std.specs.Prelude.{◌≡◌, ◌<◌, ◌↔◌, true, [], ◌∷◌, ℕ, List, length};
+ghost use Rattle.std.specs.Prelude.{◌≡◌, ◌<◌, ◌≤◌, ◌↔◌, true, [], ◌∷◌, ℕ, List, length};
 ghost use Rattle.std.specs.List.{Contains};
 ghost use mathlib.Core.Option.{some};
 ghost use lib.ListN.{get_elem?};
@@ -11,7 +11,7 @@ ghost use Rattle.pb_core.specs.Snapshots.{IsSoundSnapshot, Snapshot};
 ghost use Rattle.pb_cells.specs.declared.view.View.{View};
 ghost use Rattle.pb_cells.specs.Banks.{bank_of, count_at, value_at};
 ghost use Rattle.pb_cells.specs.Openings.{IsFirst};
-ghost use Rattle.pb_cells.specs.Shown.{EverySeat, GoesOn, HasTurn, IsOpened, IsTurn, KnowsBefore, OnTask, OneSeat, OthersKeep, SaysFinished, SeatWith, ShowsIt, SomeSeat};
+ghost use Rattle.pb_cells.specs.Shown.{AreFiled, EverySeat, GoesOn, HasTurn, IsOpened, IsTurn, KnowsBefore, OnTask, OneSeat, OthersKeep, SaysFiled, SaysFinished, SaysStored, SeatWith, ShowsIt, SomeSeat};
 ghost use Rattle.pb_cells.specs.Steps.{IsNext};
 ghost use Rattle.pb_cells.specs.Stories.{FitsLeft, Holds};
 ghost use Rattle.pb_cells.specs.Views.{first_view};
@@ -77,4 +77,16 @@ pub fn a_cell_is_written_in_its_turn()
         → (bank_of p.graph s.words).value c ≡ word_of (outcome_at p.solution c) }
     ensures idle { (p : Plan) (s : State (Unit {0}) View) (t c : ℕ) → Holds p s → t < length p.graph.tasks → Contains (cells_of p.graph t) c
         → (SomeSeat s.views (HasTurn t) → ⊥) → ((n : ℕ) → SomeSeat s.views (SaysFinished t n) → ⊥) → (bank_of p.graph s.words).mark c ≡ 0 }
+{}
+
+/// A law: what the words tell of finish numbers. A number that a view says is stored is the one that was drawn; the filed count
+/// is that of the tasks that views say are filed, each of which is finished with its number stored; where all tasks are filed, each is finished with the number that is stored; and
+/// what a view has seen is at most the filed count.
+pub fn the_filed_count_tells_whose_numbers_are_stored()
+    ensures stored { (p : Plan) (s : State (Unit {0}) View) (t n : ℕ) → Holds p s → SomeSeat s.views (SaysStored t n) → (bank_of p.graph s.words).number t ≡ n }
+    ensures filed { (p : Plan) (s : State (Unit {0}) View) → Holds p s → (tasks : List ℕ) × AreFiled s.views tasks × ((bank_of p.graph s.words).filed ≡ length tasks) }
+    ensures kept { (p : Plan) (s : State (Unit {0}) View) (t : ℕ) → Holds p s → SomeSeat s.views (SaysFiled t) → SomeSeat s.views (SaysStored t ((bank_of p.graph s.words).number t)) }
+    ensures all { (p : Plan) (s : State (Unit {0}) View) (t : ℕ) → Holds p s → (bank_of p.graph s.words).filed ≡ length p.graph.tasks → t < length p.graph.tasks
+        → SomeSeat s.views (SaysFinished t ((bank_of p.graph s.words).number t)) }
+    ensures seen { (p : Plan) (s : State (Unit {0}) View) → Holds p s → EverySeat s.views (λ v. v.seen ≤ (bank_of p.graph s.words).filed) }
 {}

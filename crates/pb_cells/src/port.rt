@@ -89,14 +89,14 @@ fn run_named<W: Work, N: NamesWork, B: NamesTable>(
 
 impl<N: NamesWork> Cells<N> {
     /// A work runs the task of a Job of which nothing is done. Afterwards all its cells are written.
-    pub fn run<W: Work>(&self, work: &W, task: u32, job: Job<N>, scratch: &mut W::Scratch) -> Job<N>
+    pub fn run<W: Work>(&self, work: &W, job: Job<N>, scratch: &mut W::Scratch) -> Job<N>
         requires name { W.plan work.now ≡ N.plan }
-        requires job { job ≡ new_job self.now task }
+        requires job { job ≡ new_job self.now job.at.task }
         requires fits { W.fits work.now scratch.old }
-        ensures job { result ≡ wholly_written N.plan self.now task }
+        ensures job { result ≡ wholly_written N.plan self.now job.at.task }
         ensures fits { W.fits work.now scratch.new }
     {
-        job.tell();
+        let task = job.task();
         run_named::<W, N, Brand>(self, work, task, job, scratch)
     }
 }

@@ -1,6 +1,6 @@
 ghost use Rattle.pb_cells.specs.Stories.{Holds};
-ghost use Rattle.pb_cells.specs.Steps.{Finishes, Looks, Marks, Reads, Releases, Stores};
-ghost use Rattle.pb_cells.specs.Views.{first_view, joined_view, no_view, turn_view, without_turn};
+ghost use Rattle.pb_cells.specs.Steps.{Draws, Files, Looks, Marks, Reads, Releases, Stores, StoresNumber};
+ghost use Rattle.pb_cells.specs.Views.{first_view, gathered_view, joined_view, no_view, turn_view, without_turn};
 
 use crate::view::View;
 use atomic_table::{Join, Play, Split, TableRule};
@@ -43,11 +43,25 @@ impl<N: NamesWork> Play<(), View> for LoadCell<N> {
     ghost then = { Reads N.plan };
 }
 
-/// The addition to the finish count.
-pub(crate) struct AddFinish;
+/// The addition to the finish count, which draws a finish number.
+pub(crate) struct DrawNumber;
 
-impl Play<(), View> for AddFinish {
-    ghost then = { Finishes };
+impl Play<(), View> for DrawNumber {
+    ghost then = { Draws };
+}
+
+/// The store of a finish number.
+pub(crate) struct StoreNumber;
+
+impl Play<(), View> for StoreNumber {
+    ghost then = { StoresNumber };
+}
+
+/// The addition to the filed count.
+pub(crate) struct AddFiled;
+
+impl Play<(), View> for AddFiled {
+    ghost then = { Files };
 }
 
 /// The subtraction from the count of a successor.
@@ -59,12 +73,12 @@ impl<N: NamesWork> Play<(), View> for TakeFromCount<N> {
     ghost then = { Releases N.plan };
 }
 
-/// A load of the finish count.
-pub(crate) struct LoadFinish<N: NamesWork> {
+/// A load of the filed count.
+pub(crate) struct LoadFiled<N: NamesWork> {
     of: PhantomData<N>,
 }
 
-impl<N: NamesWork> Play<(), View> for LoadFinish<N> {
+impl<N: NamesWork> Play<(), View> for LoadFiled<N> {
     ghost then = { Looks N.plan };
 }
 
@@ -91,6 +105,15 @@ pub(crate) struct TakeIn;
 
 impl Join<View> for TakeIn {
     ghost both = { joined_view };
+
+    ghost spent = { no_view };
+}
+
+/// A hand takes in another hand.
+pub(crate) struct Gather;
+
+impl Join<View> for Gather {
+    ghost both = { gathered_view };
 
     ghost spent = { no_view };
 }

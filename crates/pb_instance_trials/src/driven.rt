@@ -81,13 +81,13 @@ fn drive<W: Work, N: NamesWork>(
     requires job { job ≡ new_job cells.now 0 }
 {
     let mut scratch = work.scratch(alloc)?;
-    let mut first = cells.run(work, 0, job, &mut scratch);
+    let mut first = cells.run(work, job, &mut scratch);
     let one = cells.finish(&mut first);
     let Some(next) = cells.release(&mut first, 1) else {
         return format!(in alloc; "not released");
     };
     cells.end(&mut hand, first);
-    let mut second = cells.run(work, 1, next, &mut scratch);
+    let mut second = cells.run(work, next, &mut scratch);
     let two = cells.finish(&mut second);
     let text = read(alloc, work, cells, &mut second)?;
     cells.end(&mut hand, second);

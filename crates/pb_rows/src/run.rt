@@ -88,11 +88,12 @@ fn words(alloc: Global, line: &str) -> Result<Vec<String>, AllocError> {
     Ok(words)
 }
 
-/// Runs a row, whose workers pass this gate, and asserts its answer.
-pub fn passed<R: Threads + Wait + Sync + Abort, G: Gate>(
+/// Runs a row with these words, whose workers pass this gate, and asserts its answer.
+pub fn answers<R: Threads + Wait + Sync + Abort, G: Gate>(
     rt: &R,
     alloc: Global,
     row: &Row,
+    line: &str,
     gate: &G,
 ) -> Result<(), Fail> {
     let mut files = shelf(alloc, row)?;
@@ -101,25 +102,46 @@ pub fn passed<R: Threads + Wait + Sync + Abort, G: Gate>(
     let status = pb_command(
         rt,
         alloc,
-        &words(alloc, row.words)?,
+        &words(alloc, line)?,
         &mut files,
         &mut out,
         &mut err,
         gate,
     );
-    assert_eq!(rt; status, row.status, "{}", row.words);
-    assert_eq!(rt; out.written(), row.out.as_bytes(), "{}", row.words);
-    assert_eq!(rt; err.written(), row.err.as_bytes(), "{}", row.words);
+    assert_eq!(rt; status, row.status, "{line}");
+    assert_eq!(rt; out.written(), row.out.as_bytes(), "{line}");
+    assert_eq!(rt; err.written(), row.err.as_bytes(), "{line}");
     Ok(())
 }
 
-/// Runs a row and asserts its answer.
+// A line with a pool left out, on four workers where it asks for no number: the pool that steals. None where it doesn't name
+// this pool, and where it asks for a trace, whose order a pool may choose.
+fn by_stealing(alloc: Global, line: &str, pool: &str) -> Result<Option<String>, AllocError> {
+    let Some((before, after)) = line.split_once(pool) else {
+        return Ok(None);
+    };
+    if line.contains("--trace") {
+        return Ok(None);
+    }
+    if line.contains("--workers") {
+        return Ok(Some(format!(in alloc; "{before}{after}")?));
+    }
+    Ok(Some(format!(in alloc; "{before}--workers 4 {after}")?))
+}
+
+/// Runs a row and asserts its answer; and where it names a pool, the same row by the pool that steals.
 pub fn holds<R: Threads + Wait + Sync + Abort>(
     rt: &R,
     alloc: Global,
     row: &Row,
 ) -> Result<(), Fail> {
-    passed(rt, alloc, row, &OpenGate)
+    answers(rt, alloc, row, row.words, &OpenGate)?;
+    for pool in ["--pool serial ", "--pool locked "] {
+        if let Some(line) = by_stealing(alloc, row.words, pool)? {
+            answers(rt, alloc, row, line.as_str(), &OpenGate)?;
+        }
+    }
+    Ok(())
 }
 
 // A shelf with the files p and a.

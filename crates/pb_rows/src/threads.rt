@@ -1,10 +1,10 @@
 //! Runs on threads.
 use crate::examples::{DIV, DOUBLE, MUL, PREFIX, ROLL};
 use crate::plans::{CHOSEN, LEFT, PRODUCT, RIGHT};
-use crate::run::{Row, done, holds, passed, stopped, trapped};
+use crate::run::{Row, answers, done, holds, stopped, trapped};
 use crossbeam_utils::Backoff;
 use pb_taskgraph::Gate;
-use std::sync::atomic::{AtomicBool, Ordering};
+use std::sync::atomic::{AtomicBool, AtomicU64, Ordering};
 use std::test::Fail;
 
 const PRODUCT_FILES: crate::run::Files = &[("p", MUL), ("c", CHOSEN), ("a", LEFT), ("b", RIGHT)];
@@ -24,7 +24,7 @@ const DIVISORS: &str = "matrix 100
 1 1 1 1 1 1 1 1 1 1 1 1 1 1 1 0 1 1 1 1 1 1 1 1 1
 ";
 
-fn answered_rows() -> [Row; 5] {
+fn answered_rows() -> [Row; 7] {
     [
         done(
             "run --pool locked p c MatrixMultiply a b",
@@ -55,8 +55,33 @@ fn answered_rows() -> [Row; 5] {
             ],
             "matrix 4\n1 3 6 10\ntrace 2\ntask 0 call 0 block B[0,1)\ntask 1 call 0 block B[1,4)\n",
         ),
+        done(
+            "run --workers 4 --trace p c RollingSum a",
+            &[
+                ("p", ROLL),
+                ("c", "choose RollingSum.B {0,1} = 0 until 2 then 1\n"),
+                ("a", "matrix 4\n1 2 3 4\n"),
+            ],
+            "matrix 4\n1 3 6 10\ntrace 2\ntask 0 call 0 block B[0,1)\ntask 1 call 0 block B[1,4)\n",
+        ),
+        // One worker takes from its own queue what came first.
+        done(
+            "run --trace p - Four a",
+            &[("p", FOUR), ("a", "matrix 1\n5\n")],
+            "matrix 1\n5\nmatrix 1\n6\nmatrix 1\n7\nmatrix 1\n8\n\
+            trace 4\ntask 0 call 0 block B[0,1)\ntask 1 call 0 block C[0,1)\ntask 2 call 0 block D[0,1)\ntask 3 call 0 block E[0,1)\n",
+        ),
     ]
 }
+
+// Four matrices that don't read each other.
+const FOUR: &str = "transform Four from A[n] to B[n], C[n], D[n], E[n] {
+  to (B.cell(i) b) from (A.cell(i) a) { b = a; }
+  to (C.cell(i) c) from (A.cell(i) a) { c = a + 1; }
+  to (D.cell(i) d) from (A.cell(i) a) { d = a + 2; }
+  to (E.cell(i) e) from (A.cell(i) a) { e = a + 3; }
+}
+";
 
 // Every task of two matrices is trapped; the first cell by place is told, whichever came first in time.
 const BOTH: &str = "transform Both from A[n] to B[n], C[n] {
@@ -112,7 +137,7 @@ fn deep_rows() -> [Row; 3] {
 }
 
 #[test]
-fn runs_under_a_lock_have_the_same_answers(rt: HostRuntime) -> Result<(), Fail> {
+fn runs_on_threads_have_the_same_answers(rt: HostRuntime) -> Result<(), Fail> {
     for row in answered_rows() {
         holds(&rt, rt.alloc(), &row)?;
     }
@@ -172,6 +197,30 @@ impl Meeting {
     }
 }
 
+// Holds task 0 until the three others have entered, for so many tries.
+#[derive(Drop)]
+struct Holding {
+    others: AtomicU64,
+    missed: AtomicBool,
+}
+
+impl Gate for Holding {
+    fn enter(&self, task: u32) {
+        if task > 0 {
+            self.others.fetch_add(1, Ordering::SeqCst);
+            return;
+        }
+        let backoff = Backoff::new();
+        for _ in 0..TRIES {
+            if self.others.load(Ordering::SeqCst) == 3 {
+                return;
+            }
+            backoff.snooze();
+        }
+        self.missed.store(true, Ordering::SeqCst);
+    }
+}
+
 impl Gate for Meeting {
     fn enter(&self, task: u32) {
         match task {
@@ -193,8 +242,29 @@ fn both_workers_are_inside_at_once(rt: HostRuntime) -> Result<(), Fail> {
         ],
         "matrix 3\n1 3 6\nmatrix 3\n1 3 6\n",
     );
-    let meeting = Meeting::new();
-    passed(&rt, rt.alloc(), &row, &meeting)?;
-    assert!(rt; meeting.has_met());
+    // Each pool has a meeting of its own.
+    for words in [row.words, "run --workers 2 p c Two a"] {
+        let meeting = Meeting::new();
+        answers(&rt, rt.alloc(), &row, words, &meeting)?;
+        assert!(rt; meeting.has_met(), "{words}");
+    }
+    Ok(())
+}
+
+#[test]
+fn a_worker_that_is_held_keeps_no_other_task(rt: HostRuntime) -> Result<(), Fail> {
+    let row = done(
+        "run --workers 2 --pool locked p - Four a",
+        &[("p", FOUR), ("a", "matrix 2\n5 6\n")],
+        "matrix 2\n5 6\nmatrix 2\n6 7\nmatrix 2\n7 8\nmatrix 2\n8 9\n",
+    );
+    for words in [row.words, "run --workers 2 p - Four a"] {
+        let gate = Holding {
+            others: AtomicU64::new(0),
+            missed: AtomicBool::new(false),
+        };
+        answers(&rt, rt.alloc(), &row, words, &gate)?;
+        assert!(rt; !gate.missed.load(Ordering::SeqCst), "{words}");
+    }
     Ok(())
 }

@@ -16,19 +16,7 @@ fn without_files(words: &'static str) -> Row {
     }
 }
 
-fn command_rows() -> [Row; 4] {
-    [
-        without_files("demo 1 96 4"),
-        without_files("run p - Double a"),
-        without_files("run --workers 4 --grain 1 --trace p c Double a"),
-        without_files("run --pool steal p - Double a"),
-    ]
-}
-
 #[test]
-fn other_commands_and_pools_take_no_file(rt: HostRuntime) -> Result<(), Fail> {
-    for row in command_rows() {
-        holds(&rt, rt.alloc(), &row)?;
-    }
-    Ok(())
+fn the_demo_takes_no_file(rt: HostRuntime) -> Result<(), Fail> {
+    holds(&rt, rt.alloc(), &without_files("demo 1 96 4"))
 }

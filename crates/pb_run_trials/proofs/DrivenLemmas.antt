@@ -27,6 +27,10 @@ module _ (w : GivenValue) (p : Plan) (name : given_plan w ≡ p) (is : IsGiven w
   unfolding given_plan
   driven-whole = ap (λ (q : Plan). length (q.order t)) (sym name)
 
+pub task-count : (w : GivenValue) (p : Plan) → given_plan w ≡ p → length p.graph.tasks ≡ length w.graph.tasks
+unfolding given_plan
+task-count w p name = ap (λ (q : Plan). length q.graph.tasks) (sym name)
+
 -- ---- the Job that is dealt, and the links
 popped : {A : Type 0} (xs rest : List A) (x : A) → xs ≡ rest ++ x ∷ [] → Contains xs x
 popped xs rest x e = subst (λ l. Contains l x) (sym e) (Contains-push rest x)

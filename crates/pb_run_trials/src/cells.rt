@@ -7,7 +7,7 @@ ghost use Rattle.pb_run_trials.specs.Given.{IsGiven, given_plan};
 
 use crate::given::Given;
 use pb_cells::{Cells, Hand, Job};
-use pb_taskgraph::{NamesWork, Work};
+use pb_taskgraph::{Finished, NamesWork, Work};
 use pb_values::{Kind, Outcome, Trap};
 use std::alloc::{AllocError, Global};
 use std::marker::Brand;
@@ -60,11 +60,25 @@ fn read<N: NamesWork>(
     Ok(text)
 }
 
+// What a run has come to: the outcomes of all cells, and the tasks by their finish numbers.
+fn told(alloc: Global, finished: &Finished) -> Result<String, AllocError> {
+    let mut text = String::new(alloc);
+    for cell in 0..finished.outcomes.count() {
+        text.push_str(said(alloc, finished.outcomes.get(cell))?.as_str())?;
+        text.push_str(", ")?;
+    }
+    text.push_str("by")?;
+    for task in &finished.order {
+        text.push_str(format!(in alloc; " {task}")?.as_str())?;
+    }
+    Ok(text)
+}
+
 // Two hands by turns: the second runs the task that the first has released, before the first takes in its own Job.
 fn by_two_hands<N: NamesWork>(
     alloc: Global,
     work: &Given,
-    cells: &Cells<N>,
+    cells: Cells<N>,
     mut first: Hand<N>,
     mut second: Hand<N>,
     job: Job<N>,
@@ -73,25 +87,35 @@ fn by_two_hands<N: NamesWork>(
     requires tasks { length work.now.graph.tasks ≡ 2 }
     requires after_one { after_of N.plan.graph 0 ≡ 1 ∷ [] }
     requires after_two { after_of N.plan.graph 1 ≡ [] }
-    requires first { first.table ≡ cells.now }
-    requires second { second.table ≡ cells.now }
-    requires job { job ≡ new_job cells.now 0 }
+    requires first { first.table ≡ cells }
+    requires second { second.table ≡ cells }
+    requires job { job ≡ new_job cells 0 }
 {
     let none = cells.finished(&mut second);
-    let mut own = cells.run(work, 0, job, &mut ());
+    let mut own = cells.run(work, job, &mut ());
     let one = cells.finish(&mut own);
     let before = cells.finished(&mut first);
     let Some(released) = cells.release(&mut own, 1) else {
         return format!(in alloc; "not released");
     };
-    let mut next = cells.run(work, 1, released, &mut ());
+    let mut next = cells.run(work, released, &mut ());
     let two = cells.finish(&mut next);
-    let text = read(alloc, work, cells, &mut next, 1)?;
+    let text = read(alloc, work, &cells, &mut next, 1)?;
     cells.end(&mut second, next);
     let after = cells.finished(&mut second);
     cells.end(&mut first, own);
     let again = cells.finished(&mut first);
-    format!(in alloc; "{text}numbers {one} {two}, finished {none} {before} {after} {again}")
+    let text = format!(in alloc;
+        "{text}numbers {one} {two}, filed {none} {before} {after} {again}"
+    )?;
+    if again != 2 {
+        return Ok(text);
+    }
+    let mut hands = Vec::new(alloc);
+    hands.push(first)?;
+    hands.push(second)?;
+    let end = told(alloc, &cells.close(hands))?;
+    format!(in alloc; "{text}; at the end {end}")
 }
 
 fn two_hands<N: NamesWork>(alloc: Global, work: &Given) -> Result<String, AllocError>
@@ -101,7 +125,7 @@ fn two_hands<N: NamesWork>(alloc: Global, work: &Given) -> Result<String, AllocE
     let (cells, mut hands, mut jobs) = Cells::<N>::new(alloc, work, 2)?;
     match (hands.pop(), hands.pop(), jobs.pop()) {
         (Some(second), Some(first), Some(job)) => {
-            by_two_hands(alloc, work, &cells, first, second, job)
+            by_two_hands(alloc, work, cells, first, second, job)
         }
         _ => format!(in alloc; "no hands or no job"),
     }
@@ -181,7 +205,7 @@ fn hands_take_in_jobs_by_turns(rt: HostRuntime) -> Result<(), Fail> {
     let alloc = rt.alloc();
     assert_eq!(rt;
         by_hands(alloc, &sums(alloc)?, 2)?.as_str(),
-        "1, 2, 3, 4, 1, 3, 6, 10, numbers 0 1, finished 0 1 2 2"
+        "1, 2, 3, 4, 1, 3, 6, 10, numbers 0 1, filed 0 1 2 2; at the end 1, 2, 3, 4, 1, 3, 6, 10, by 0 1"
     );
     Ok(())
 }
@@ -193,7 +217,9 @@ fn outcomes_come_back_from_words(rt: HostRuntime) -> Result<(), Fail> {
         by_hands(alloc, &traps(alloc)?, 2)?.as_str(),
         "overflow 63 31 8388607 8388607, divide by zero 63 31 8388607 8388607, out of view 63 31 8388607 8388607, \
         9223372036854775807, loop limit 63 31 8388607 8388607, bad shape 63 31 8388607 8388607, \
-        depth ended 63 31 8388607 8388607, -9223372036854775808, -1, numbers 0 1, finished 0 1 2 2"
+        depth ended 63 31 8388607 8388607, -9223372036854775808, -1, numbers 0 1, filed 0 1 2 2; at the end overflow 63 31 8388607 8388607, \
+        divide by zero 63 31 8388607 8388607, out of view 63 31 8388607 8388607, 9223372036854775807, loop limit 63 31 8388607 8388607, \
+        bad shape 63 31 8388607 8388607, depth ended 63 31 8388607 8388607, -9223372036854775808, -1, by 0 1"
     );
     Ok(())
 }

@@ -1,10 +1,15 @@
 //! Runs on many threads.
+ghost use Rattle.std.specs.Prelude.{◌≤◌};
+
 use crate::sums::Sums;
 use pb_locked::run_locked;
+use pb_steal::run_steal;
 use pb_taskgraph::{Finished, OpenGate};
 use pb_values::{Kind, Outcome};
 use std::alloc::{AllocError, Global};
+use std::sync::Wait;
 use std::test::Fail;
+use std::thread::Threads;
 
 // The last outcome and how many tasks were run; a trap as its kind.
 fn said(alloc: Global, finished: &Finished) -> Result<String, AllocError> {
@@ -23,12 +28,28 @@ fn said(alloc: Global, finished: &Finished) -> Result<String, AllocError> {
     }
 }
 
+// What so many workers make of a work over one lock, and what they make of it by stealing.
+fn both<R: Threads + Wait + Sync>(
+    rt: &R,
+    alloc: Global,
+    work: &Sums,
+    workers: u32,
+) -> Result<String, AllocError>
+    requires some { 1 ≤ workers }
+    requires few { workers ≤ 64 }
+{
+    let locked = run_locked(rt, alloc, work, workers, &OpenGate)?;
+    let stolen = run_steal(rt, alloc, work, workers, &OpenGate)?;
+    let first = said(alloc, &locked)?;
+    let second = said(alloc, &stolen)?;
+    format!(in alloc; "{first}, {second}")
+}
+
 #[test]
 fn one_worker_runs_all_tasks(rt: HostRuntime) -> Result<(), Fail> {
     let alloc = rt.alloc();
     let work = Sums::new(alloc, 4, 1, 2)?;
-    let finished = run_locked(&rt, alloc, &work, 1, &OpenGate)?;
-    assert_eq!(rt; said(alloc, &finished)?.as_str(), "89 by 4");
+    assert_eq!(rt; both(&rt, alloc, &work, 1)?.as_str(), "89 by 4, 89 by 4");
     Ok(())
 }
 
@@ -36,11 +57,9 @@ fn one_worker_runs_all_tasks(rt: HostRuntime) -> Result<(), Fail> {
 fn many_workers_run_a_few_tasks(rt: HostRuntime) -> Result<(), Fail> {
     let alloc = rt.alloc();
     let one = Sums::new(alloc, 1, 1, 2)?;
-    let finished = run_locked(&rt, alloc, &one, 64, &OpenGate)?;
-    assert_eq!(rt; said(alloc, &finished)?.as_str(), "5 by 1");
+    assert_eq!(rt; both(&rt, alloc, &one, 64)?.as_str(), "5 by 1, 5 by 1");
     let none = Sums::new(alloc, 0, 7, -7)?;
-    let finished = run_locked(&rt, alloc, &none, 64, &OpenGate)?;
-    assert_eq!(rt; said(alloc, &finished)?.as_str(), "-7 by 0");
+    assert_eq!(rt; both(&rt, alloc, &none, 64)?.as_str(), "-7 by 0, -7 by 0");
     Ok(())
 }
 
@@ -48,10 +67,13 @@ fn many_workers_run_a_few_tasks(rt: HostRuntime) -> Result<(), Fail> {
 fn tasks_wait_for_those_before_them(rt: HostRuntime) -> Result<(), Fail> {
     let alloc = rt.alloc();
     let work = Sums::new(alloc, 40, 1, 1)?;
-    let finished = run_locked(&rt, alloc, &work, 8, &OpenGate)?;
-    assert_eq!(rt; said(alloc, &finished)?.as_str(), "61305790721611591 by 40");
-    for place in 0..finished.order.len() {
-        assert_eq!(rt; finished.order[place] as usize, place);
+    let locked = run_locked(&rt, alloc, &work, 8, &OpenGate)?;
+    let stolen = run_steal(&rt, alloc, &work, 8, &OpenGate)?;
+    for finished in [locked, stolen] {
+        assert_eq!(rt; said(alloc, &finished)?.as_str(), "61305790721611591 by 40");
+        for place in 0..finished.order.len() {
+            assert_eq!(rt; finished.order[place] as usize, place);
+        }
     }
     Ok(())
 }
@@ -60,7 +82,9 @@ fn tasks_wait_for_those_before_them(rt: HostRuntime) -> Result<(), Fail> {
 fn a_trap_on_all_workers_stays(rt: HostRuntime) -> Result<(), Fail> {
     let alloc = rt.alloc();
     let work = Sums::new(alloc, 100, 1, 1)?;
-    let finished = run_locked(&rt, alloc, &work, 64, &OpenGate)?;
-    assert_eq!(rt; said(alloc, &finished)?.as_str(), "overflow true by 100");
+    assert_eq!(rt;
+        both(&rt, alloc, &work, 64)?.as_str(),
+        "overflow true by 100, overflow true by 100"
+    );
     Ok(())
 }

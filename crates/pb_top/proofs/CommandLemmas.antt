@@ -4,10 +4,7 @@ use Rattle.std.specs.List.{zip}
 use Rattle.std.specs.declared.alloc.Global.{Global}
 use Rattle.std.proofs.lemmas.List.{drop-map, length-drop, length-map, take_all}
 use Rattle.pb_outside.specs.Shelf.{Files}
-use Rattle.pb_words.specs.declared.ask.Pool.TheVariants.{Locked, Serial, Steal}
-use Rattle.pb_words.specs.declared.ask.Ask.{Ask}
-use Rattle.pb_words.specs.declared.ask.Ask.TheVariants.{Check, Choices, Demo, Run, Tune}
-use Rattle.pb_top.specs.Answer.{RunLine, Runs, content_at, is_dash, is_under_lock, limited, needs_threads}
+use Rattle.pb_top.specs.Answer.{RunLine, Runs, content_at, is_dash, limited}
 use Rattle.pb_top.specs.Runs.{RunWrites, RunsProgram}
 use Rattle.pb_top.specs.Steps.{Takes, TakesFile}
 use Rattle.pb_top.specs.Working.{Prepares, contents_of, line_files}
@@ -75,13 +72,3 @@ module _ (depth grain : ℕ) (traced : Bool) (line : RunLine) (contents : List (
         let second = config_is ∙ content_is contents 1 b two_there at_b in
         let moved : Goal (Some (content_at (contents_of contents) 1)) (drop 2 (contents_of contents)) = subst (λ c. Goal (Some c) (drop 2 (contents_of contents))) second (subst (λ r. Goal (Some config) r) (rest_is contents texts 2 rest) (subst (λ p. Is p (Some config) (contents_of texts)) first writes)) in
         subst (λ d. Goal (cond d None (Some (content_at (contents_of contents) 1))) (drop (cond d 1 2) (contents_of contents))) (sym plain) moved
-
--- what is asked on no lock is what it is
-pub not_locked : (ask : Ask) → needs_threads ask ≡ false → is_under_lock ask ≡ false
-not_locked Check plain = refl
-not_locked Choices plain = refl
-not_locked (Run workers depth grain Serial trace) plain = refl
-not_locked (Run workers depth grain Locked trace) plain = absurd (cc)
-not_locked (Run workers depth grain Steal trace) plain = refl
-not_locked (Tune up_to) plain = refl
-not_locked (Demo seed size workers) plain = refl

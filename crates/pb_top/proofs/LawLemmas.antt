@@ -8,7 +8,7 @@ use Rattle.pb_words.proofs.LineLemmas.{one_reading}
 use Rattle.pb_top.specs.Reply.{Reply}
 use Rattle.pb_top.specs.Steps.{Takes}
 use Rattle.pb_top.specs.Check.{its_canonical, its_report}
-use Rattle.pb_top.specs.Answer.{RunLine, Runs, built_run, config_text, input_files, taken_words, tuned_name, limited, content_at, WorkAnswers, AskAnswers, Answers}
+use Rattle.pb_top.specs.Answer.{RunLine, Runs, config_text, input_files, run_line, taken_words, tuned_name, limited, content_at, WorkAnswers, AskAnswers, Answers}
 use Rattle.pb_top.specs.Runs.{RunReplies}
 use Rattle.pb_top.specs.Sinks.{ShelfChange, SinkChange}
 use Rattle.pb_top.specs.Ends.{Shows, IsAnswered, IsAnswerStatus, OutBreaks, ErrBreaks, Ends, IsFaultless, IsComplete}
@@ -26,7 +26,7 @@ one_line depth grain None contents first second left right = left ∙ sym right
 one_work : (ask : Ask) (others contents : List (List ℕ)) (first second : Reply) → WorkAnswers ask others contents first → WorkAnswers ask others contents second → first ≡ second
 one_work Check others contents first second left right = prints_one its_canonical (content_at contents 0) first second left right
 one_work Choices others contents first second left right = prints_one its_report (content_at contents 0) first second left right
-one_work (Run workers depth grain pool trace) others contents first second left right = one_line depth grain (built_run pool others) contents first second left right
+one_work (Run workers depth grain pool trace) others contents first second left right = one_line depth grain (run_line others) contents first second left right
 one_work (Tune up_to) others contents first second left right = tunes_one (tuned_name others) up_to (content_at contents 0) first second left right
 one_work (Demo seed size workers) others contents first second left right = left ∙ sym right
 

@@ -9,7 +9,7 @@ use Rattle.pb_top.specs.Reply.{Reply, not_built, usage}
 use Rattle.pb_top.specs.Steps.{Takes}
 use Rattle.pb_top.specs.Check.{its_canonical, its_report}
 use Rattle.pb_top.specs.Runs.{RunReplies}
-use Rattle.pb_top.specs.Answer.{RunLine, Runs, built_run, config_text, content_at, input_files, taken_words, tuned_name, limited, WorkAnswers, Answers}
+use Rattle.pb_top.specs.Answer.{RunLine, Runs, config_text, content_at, input_files, run_line, taken_words, tuned_name, limited, WorkAnswers, Answers}
 use Rattle.pb_top.proofs.StepLemmas.{then_some, takes_some}
 use Rattle.pb_top.proofs.AcceptLemmas.{prints_some}
 use Rattle.pb_top.proofs.RunLemmas.{run_some}
@@ -22,7 +22,7 @@ line_some depth grain None contents = (not_built, refl)
 work_some : (ask : Ask) (others contents : List (List ℕ)) → (reply : Reply) × WorkAnswers ask others contents reply
 work_some Check others contents = prints_some its_canonical (content_at contents 0)
 work_some Choices others contents = prints_some its_report (content_at contents 0)
-work_some (Run workers depth grain pool trace) others contents = line_some depth grain (built_run pool others) contents
+work_some (Run workers depth grain pool trace) others contents = line_some depth grain (run_line others) contents
 work_some (Tune up_to) others contents = tunes_some (tuned_name others) up_to (content_at contents 0)
 work_some (Demo seed size workers) others contents = (not_built, refl)
 

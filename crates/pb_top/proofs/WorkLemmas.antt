@@ -12,7 +12,7 @@ use Rattle.pb_top.specs.Sinks.{ShelfChange, IsSound}
 use Rattle.pb_top.specs.Reply.{Reply, done_reply, refusal_reply}
 use Rattle.pb_top.specs.Runs.{AfterAccept, AfterConfig, AfterFit, AfterInputs, AfterName, Configures, FindsTransform, Fits, Fitting, IsWithin, ReadsInput, RunReplies, RunWrites, RunsProgram}
 use Rattle.pb_top.specs.Steps.{Accepts, AfterAccepted, AfterResolved, Each, Reads, Resolves, Takes}
-use Rattle.pb_top.specs.Answer.{AskAnswers, IsTail, RunLine, Runs, WorkAnswers, WorkWrites, built_run, config_text, content_at, input_files, limited, taken_words}
+use Rattle.pb_top.specs.Answer.{AskAnswers, IsTail, RunLine, Runs, WorkAnswers, WorkWrites, config_text, content_at, input_files, limited, run_line, taken_words}
 use Rattle.pb_top.specs.Working.{Replies, ShelfStops, ShelfWrites, Writes}
 use Rattle.pb_top.specs.declared.reply.Stop.{Stop}
 use Rattle.pb_top.specs.declared.reply.Stop.TheVariants.{Memory, Refused, Unread}
@@ -59,7 +59,7 @@ line_map depth grain End More each None contents reply runs = runs
 answered : (ask : Ask) (others : List (List ℕ)) (tail : List ℕ) (contents : List (List ℕ)) (reply : Reply) → WorkWrites ask others tail contents reply → WorkAnswers ask others contents reply
 answered Check others tail contents reply writes = writes.0
 answered Choices others tail contents reply writes = writes.0
-answered (Run workers depth grain pool trace) others tail contents reply writes = line_map depth grain (RunWrites pool trace tail) RunReplies (λ r reply w. w.0) (built_run pool others) contents reply writes
+answered (Run workers depth grain pool trace) others tail contents reply writes = line_map depth grain (RunWrites pool trace tail) RunReplies (λ r reply w. w.0) (run_line others) contents reply writes
 answered (Tune up_to) others tail contents reply writes = writes.0
 answered (Demo seed size workers) others tail contents reply writes = writes.0
 

@@ -25,16 +25,11 @@ abbrev pub run_line : List (List ℕ) → Option RunLine
 run_line (program ∷ config ∷ transform ∷ inputs) = Some (record { config = config; transform = transform; inputs = inputs })
 run_line others = None
 
--- runs on one thread and on threads under a lock are built
-abbrev pub built_run : Pool → List (List ℕ) → Option RunLine
-built_run Serial others = run_line others
-built_run Locked others = run_line others
-built_run Steal others = None
-
+-- all but `demo` is built
 abbrev pub is_built : Ask → List (List ℕ) → Bool
 is_built Check others = true
 is_built Choices others = true
-is_built (Run workers depth grain pool trace) others = is_some (built_run pool others)
+is_built (Run workers depth grain pool trace) others = is_some (run_line others)
 is_built (Tune up_to) others = true
 is_built (Demo seed size workers) others = false
 
@@ -47,16 +42,6 @@ needs_threads (Run workers depth grain Locked trace) = true
 needs_threads (Run workers depth grain Steal trace) = true
 needs_threads (Tune up_to) = false
 needs_threads (Demo seed size workers) = true
-
--- a run on threads under a lock is asked for
-abbrev pub is_under_lock : Ask → Bool
-is_under_lock Check = false
-is_under_lock Choices = false
-is_under_lock (Run workers depth grain Serial trace) = false
-is_under_lock (Run workers depth grain Locked trace) = true
-is_under_lock (Run workers depth grain Steal trace) = false
-is_under_lock (Tune up_to) = false
-is_under_lock (Demo seed size workers) = false
 
 -- the words are a line that asks for that
 abbrev pub NeedThreads : List (List ℕ) → Type 0
@@ -98,7 +83,7 @@ tuned_name others = slice_index_or others 1 []
 abbrev pub WorkAnswers : Ask → List (List ℕ) → List (List ℕ) → Reply → Type 0
 WorkAnswers Check others contents reply = CheckAnswers (content_at contents 0) reply
 WorkAnswers Choices others contents reply = ChoicesAnswers (content_at contents 0) reply
-WorkAnswers (Run workers depth grain pool trace) others contents reply = Runs depth grain RunReplies (built_run pool others) contents reply
+WorkAnswers (Run workers depth grain pool trace) others contents reply = Runs depth grain RunReplies (run_line others) contents reply
 WorkAnswers (Tune up_to) others contents reply = TunesProgram (tuned_name others) up_to (content_at contents 0) reply
 WorkAnswers (Demo seed size workers) others contents reply = reply ≡ not_built
 
@@ -115,7 +100,7 @@ Answers words told reply =
 -- what stands after a reply's text on `out`, of a command that has answered with status 0: after the matrices of a run its
 -- trace, if that is asked for
 abbrev pub WorkWrites : Ask → List (List ℕ) → List ℕ → List (List ℕ) → Reply → Type 0
-WorkWrites (Run workers depth grain pool trace) others tail contents reply = Runs depth grain (RunWrites pool trace tail) (built_run pool others) contents reply
+WorkWrites (Run workers depth grain pool trace) others tail contents reply = Runs depth grain (RunWrites pool trace tail) (run_line others) contents reply
 WorkWrites ask others tail contents reply = WorkAnswers ask others contents reply × (tail ≡ [])
 
 -- and nothing after another status

@@ -1,6 +1,8 @@
 //! Who runs the tasks of a run.
 ghost use Rattle.std.specs.Prelude.{◌≡◌, ◌≤◌, IfOk};
-ghost use Rattle.pb_words.specs.declared.ask.Pool.TheVariants.{Locked, Serial};
+ghost use Rattle.pb_words.specs.declared.ask.Pool.TheVariants.{Serial};
+ghost use Rattle.pb_run_work.specs.Running.{run_plan};
+ghost use Rattle.pb_top.specs.Runs.{orders_of};
 ghost use Rattle.pb_top.specs.Working.{Continues, IsReady, Writes};
 
 use crate::finish::finish;
@@ -8,8 +10,11 @@ use crate::prepare::Prepared;
 use crate::reply::Stop;
 use crate::steps::begin_run;
 use pb_locked::run_locked;
-use pb_taskgraph::{Gate, run_serial};
-use std::alloc::Global;
+use pb_steal::run_steal;
+use pb_taskgraph::{Finished, Gate, run_serial};
+use pb_unroll::Run;
+use pb_words::Pool;
+use std::alloc::{AllocError, Global};
 use std::sync::Wait;
 use std::thread::Threads;
 
@@ -38,8 +43,29 @@ pub fn run_alone(
     finish(alloc, &run, &finished, traced)
 }
 
-/// The run on so many threads over a board under one lock. Each calls the gate's `enter` before it runs a task.
-pub fn run_under_lock<R: Threads + Wait + Sync, G: Gate>(
+/// What a pool has run, on one thread or on so many. Each worker of a pool of threads calls the gate's `enter` before it runs a task.
+fn run_pool<R: Threads + Wait + Sync, G: Gate>(
+    rt: &R,
+    alloc: Global,
+    run: &Run<'_>,
+    pool: Pool,
+    workers: u32,
+    gate: &G,
+) -> Result<Finished, AllocError>
+    requires some { 1 ≤ workers }
+    requires few { workers ≤ 64 }
+    ensures outcomes { IfOk result (λ finished. finished.outcomes ≡ (run_plan run.now).solution) }
+    ensures order { IfOk result (λ finished. orders_of pool (run_plan run.now).graph finished.order) }
+{
+    match pool {
+        Pool::Serial => run_serial(alloc, run),
+        Pool::Locked => run_locked(rt, alloc, run, workers, gate),
+        Pool::Steal => run_steal(rt, alloc, run, workers, gate),
+    }
+}
+
+/// The run by a pool, which has so many threads where it has any.
+pub fn run_beside<R: Threads + Wait + Sync, G: Gate>(
     rt: &R,
     alloc: Global,
     prepared: Prepared,
@@ -47,13 +73,14 @@ pub fn run_under_lock<R: Threads + Wait + Sync, G: Gate>(
     depth: u32,
     grain: u64,
     traced: bool,
+    pool: Pool,
     workers: u32,
     gate: &G,
 ) -> Result<Vec<u8>, Stop>
     requires ready { IsReady prepared }
     requires some { 1 ≤ workers }
     requires few { workers ≤ 64 }
-    ensures { Writes (Continues name.now depth grain traced prepared Locked) result }
+    ensures { Writes (Continues name.now depth grain traced prepared pool) result }
 {
     let Prepared {
         accepted,
@@ -64,6 +91,6 @@ pub fn run_under_lock<R: Threads + Wait + Sync, G: Gate>(
     let run = begin_run(
         alloc, &accepted, &config, transform, name, inputs, depth, grain,
     )?;
-    let finished = run_locked(rt, alloc, &run, workers, gate)?;
+    let finished = run_pool(rt, alloc, &run, pool, workers, gate)?;
     finish(alloc, &run, &finished, traced)
 }

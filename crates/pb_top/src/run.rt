@@ -1,10 +1,9 @@
 ghost use Rattle.std.specs.Prelude.{◌≡◌, map, string_bytes};
-ghost use Rattle.pb_top.specs.Answer.{built_run};
+ghost use Rattle.pb_top.specs.Answer.{run_line};
 
-use pb_words::Pool;
 use std::marker::Model;
 
-/// The words of a run that is built, but for the program.
+/// The words of a run, but for the program.
 #[derive(Drop)]
 pub struct RunLine<'a> {
     pub config: &'a str,
@@ -21,13 +20,10 @@ impl<'a> Model for RunLine<'a> {
     ghost view = { λ line. record { config = line.config.now; transform = line.transform.now; inputs = map string_bytes line.inputs.now } };
 }
 
-/// The words of a run that is built, of the words after the options.
-pub fn read_run(pool: Pool, others: &[String]) -> Option<RunLine<'_>>
-    ensures { result ≡ built_run pool (map string_bytes others.now) }
+/// The words of a run, of those after the options.
+pub fn read_run(others: &[String]) -> Option<RunLine<'_>>
+    ensures { result ≡ run_line (map string_bytes others.now) }
 {
-    if matches!(pool, Pool::Steal) {
-        return None;
-    }
     match others {
         [_, config, transform, inputs @ ..] => Some(RunLine {
             config: config.as_str(),

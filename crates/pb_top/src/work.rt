@@ -1,18 +1,18 @@
 ghost use Rattle.std.specs.Prelude.{◌≡◌, ◌≤◌, ◌++◌, [], Some, false, length, take, map, string_bytes, IfOk};
 ghost use Rattle.pb_words.specs.Ranges.{IsInRange, IsWithin};
-ghost use Rattle.pb_words.specs.declared.ask.Pool.TheVariants.{Locked, Serial};
+ghost use Rattle.pb_words.specs.declared.ask.Pool.TheVariants.{Serial};
 ghost use Rattle.std.specs.List.{zip};
 ghost use Rattle.pb_words.specs.Files.{run_files};
 ghost use Rattle.pb_words.specs.Line.{least_others};
 ghost use Rattle.pb_top.specs.Sinks.{shelf_change, AsksFront};
-ghost use Rattle.pb_top.specs.Answer.{AskAnswers, IsTail, Runs, WorkWrites, content_at, is_dash, is_under_lock, taken_words, tuned_name};
+ghost use Rattle.pb_top.specs.Answer.{AskAnswers, IsTail, Runs, WorkWrites, content_at, is_dash, needs_threads, taken_words, tuned_name};
 ghost use Rattle.pb_top.specs.Runs.{RunWrites, RunsProgram};
 ghost use Rattle.pb_top.specs.Tunes.{TunesProgram};
 ghost use Rattle.pb_top.specs.Working.{HasFewInputs, IsReady, Prepares, Replies, ShelfWrites, Writes, contents_of, line_files, text_in, texts_of};
 
 use crate::check::{check, choices};
 use crate::files::fetch_all;
-use crate::pools::{run_alone, run_under_lock};
+use crate::pools::{run_alone, run_beside};
 use crate::prepare::{Prepared, Request, prepare};
 use crate::reply::{Stop, not_built};
 use crate::run::{RunLine, read_run};
@@ -72,11 +72,8 @@ fn file_names<'a>(alloc: Global, ask: Ask, others: &'a [String]) -> Result<Vec<&
 {
     match ask {
         Ask::Check | Ask::Choices | Ask::Tune { .. } => first_name(alloc, others),
-        Ask::Run {
-            pool: Pool::Serial | Pool::Locked,
-            ..
-        } => run_names(alloc, others),
-        Ask::Run { .. } | Ask::Demo { .. } => Ok(Vec::new(alloc)),
+        Ask::Run { .. } => run_names(alloc, others),
+        Ask::Demo { .. } => Ok(Vec::new(alloc)),
     }
 }
 
@@ -167,7 +164,7 @@ fn run_line(
     run_alone(alloc, prepared, line.transform, depth, grain, traced)
 }
 
-// A run on so many threads, over the bytes of its files.
+// A run by a pool, over the bytes of its files.
 fn run_line_beside<R: Threads + Wait + Sync, G: Gate>(
     rt: &R,
     alloc: Global,
@@ -176,6 +173,7 @@ fn run_line_beside<R: Threads + Wait + Sync, G: Gate>(
     grain: u64,
     traced: bool,
     contents: &[Vec<u8>],
+    pool: Pool,
     workers: u32,
     gate: &G,
 ) -> Result<Vec<u8>, Stop>
@@ -183,15 +181,15 @@ fn run_line_beside<R: Threads + Wait + Sync, G: Gate>(
     requires few { HasFewInputs line.now }
     requires some_workers { 1 ≤ workers }
     requires few_workers { workers ≤ 64 }
-    ensures { Writes (λ tail. Runs depth grain (RunWrites Locked traced tail) line.now (contents_of contents.now)) result }
+    ensures { Writes (λ tail. Runs depth grain (RunWrites pool traced tail) line.now (contents_of contents.now)) result }
 {
     let Some(line) = line else {
         return Err(not_built(alloc)?);
     };
     let prepared = prepare_line(alloc, line, depth, grain, traced, contents)?;
     let name = line.transform;
-    run_under_lock(
-        rt, alloc, prepared, name, depth, grain, traced, workers, gate,
+    run_beside(
+        rt, alloc, prepared, name, depth, grain, traced, pool, workers, gate,
     )
 }
 
@@ -212,7 +210,7 @@ fn tune_line(
 
 // What is written of what is asked, on one thread, over the bytes of its files.
 fn answer(alloc: Global, ask: Ask, others: &[String], contents: &[Vec<u8>]) -> Result<Vec<u8>, Stop>
-    requires alone { (is_under_lock ask) ≡ false }
+    requires alone { needs_threads ask ≡ false }
     requires range { IsInRange ask }
     requires enough { least_others ask ≤ length others.now }
     requires few { length others.now ≤ 19 }
@@ -228,16 +226,9 @@ fn answer(alloc: Global, ask: Ask, others: &[String], contents: &[Vec<u8>]) -> R
             depth,
             grain,
             ..
-        } => run_line(
-            alloc,
-            &read_run(Pool::Serial, others),
-            depth,
-            grain,
-            trace,
-            contents,
-        ),
+        } => run_line(alloc, &read_run(others), depth, grain, trace, contents),
         Ask::Tune { up_to } => tune_line(alloc, others, up_to, contents),
-        Ask::Run { .. } | Ask::Demo { .. } => Err(not_built(alloc)?),
+        Ask::Run { .. } | Ask::Demo { .. } => unreachable!(),
     }
 }
 
@@ -259,29 +250,24 @@ fn answer_beside<R: Threads + Wait + Sync, G: Gate>(
     match ask {
         Ask::Run {
             workers,
-            pool: Pool::Locked,
+            pool,
             trace,
             depth,
             grain,
         } => run_line_beside(
             rt,
             alloc,
-            &read_run(Pool::Locked, others),
+            &read_run(others),
             depth,
             grain,
             trace,
             contents,
+            pool,
             workers,
             gate,
         ),
-        Ask::Run {
-            pool: Pool::Serial | Pool::Steal,
-            ..
-        }
-        | Ask::Check
-        | Ask::Choices
-        | Ask::Tune { .. }
-        | Ask::Demo { .. } => answer(alloc, ask, others, contents),
+        Ask::Demo { .. } => Err(not_built(alloc)?),
+        Ask::Check | Ask::Choices | Ask::Tune { .. } => answer(alloc, ask, others, contents),
     }
 }
 
@@ -293,7 +279,7 @@ pub fn work<S: Shelf>(
     others: &[String],
     shelf: &mut S,
 ) -> Result<Vec<u8>, Stop>
-    requires alone { (is_under_lock ask) ≡ false }
+    requires alone { needs_threads ask ≡ false }
     requires range { IsInRange ask }
     requires enough { least_others ask ≤ length others.now }
     requires few { length others.now ≤ 19 }

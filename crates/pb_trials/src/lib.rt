@@ -24,6 +24,8 @@ mod programs;
 #[cfg(test)]
 mod ranks;
 #[cfg(test)]
+mod seeds;
+#[cfg(test)]
 mod tokens;
 #[cfg(test)]
 mod tuner;

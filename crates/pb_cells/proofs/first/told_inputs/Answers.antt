@@ -6,7 +6,7 @@ use Rattle.pb_cells.proofs.FirstLemmas.{told-more, told-none}
 use Rattle.pb_cells.proofs.first.told_inputs.Goals as goal
 
 pub loop-cell-init : goal.loop-cell-init
-loop-cell-init g c = told-none (g.W.Work.plan c.args.work.now) c.in_ok-words.words.items (c.args.cells + c.args.cells + c.args.tasks + 1) (c.in_ok-words.ensures.items_if_clones_equal (λ y e. e)) (omega (arith, c.requires.cells, c.requires.tasks))
+loop-cell-init g c = told-none (g.W.Work.plan c.args.work.now) c.in_ok-words.words.items (c.args.cells + c.args.cells + c.args.tasks + c.args.tasks + 2) (c.in_ok-words.ensures.items_if_clones_equal (λ y e. e)) (omega (arith, c.requires.cells, c.requires.tasks))
 
 pub pack-mark-requires : goal.pack-mark-requires
 pack-mark-requires g c = subst IsSmall (sym c.input.ensures) (any-small (g.W.Work.plan c.args.work.now) c.requires.plan c.loop-cell.cell)

@@ -1,7 +1,6 @@
 use Rattle.std.proofs.Common.{◌-◌, ◌∙◌, sym, ap, arith, drop, length, map, string_bytes, take, refl}
 use Rattle.std.proofs.lemmas.List.{length-map}
 use Rattle.pb_top.specs.Sinks.{shelf_change, sink_change}
-use Rattle.pb_top.proofs.CommandLemmas.{not_locked}
 use Rattle.pb_top.proofs.EndLemmas.{few_others, no_threads, usage_ends, work_ends, texts_after}
 use Rattle.pb_top.proofs.command.pb_alone.Goals as goal
 
@@ -28,9 +27,6 @@ work-found-requires-clause-few g c =
     let place = c.in-Some.place in
     let after = take (length words - place) (drop place words) in
     omega (arith, length-map after string_bytes, ap length (texts_after words place), few_others (map string_bytes words) c.in-Some.ask place c.in-Some.ensures.found)
-
-pub work-found-requires-clause-alone : goal.work-found-requires-clause-alone
-work-found-requires-clause-alone g c = not_locked c.in-Some.ask (sym c.needs_threads.ensures ∙ c.if-needs_threads.false)
 
 pub returns-clause-some : goal.returns-clause-some
 returns-clause-some g c = no_threads (map string_bytes c.args.words.now) c.in-Some.ask c.in-Some.place c.in-Some.ensures.found (sym c.needs_threads.ensures ∙ c.if-needs_threads.false)

@@ -1,0 +1,2 @@
+mod MatrixLemmas
+mod StreamLemmas

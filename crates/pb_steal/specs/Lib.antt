@@ -1,0 +1,4 @@
+pub mod Deques
+pub mod Hands
+pub mod Turns
+pub mod Crews
