@@ -5,3 +5,4 @@ pub mod LayerLemmas
 pub mod ListLemmas
 pub mod PartLemmas
 pub mod SizeLemmas
+pub mod SpanLemmas

@@ -1,10 +1,12 @@
 -- What one instance of a transform makes: its segments with their chosen rules, and what is made at once, layer by layer.
-use Rattle.std.specs.Prelude.{◌≡◌, ℕ, max, min, nat_lt, ◌&&◌, ◌==◌, not, Bool, false, List, [], ◌∷◌, ◌++◌, filter, map, length, Option, Some, None, slice_get, slice_index}
+use Rattle.std.specs.Prelude.{◌≡◌, ℕ, ◌+◌, ◌-◌, ◌*◌, max, min, nat_lt, ◌&&◌, ◌==◌, not, Bool, false, List, [], ◌∷◌, ◌++◌, filter, map, length, Option, Some, None, slice_get, slice_index}
+use Rattle.std.specs.Int.{div_ceil}
 use Rattle.std.specs.List.{enumerate_from, flat_map, list_any, range_with_len}
 use Rattle.std.specs.Option.{option_map_or}
 use Rattle.pb_linear.specs.Form.{value}
 use Rattle.pb_linear.specs.Sizes.{sizes_of}
 use Rattle.pb_linear.specs.declared.boxes.Sign.{Sign}
+use Rattle.pb_linear.specs.declared.boxes.Sign.TheVariants.{Plus, Minus}
 use Rattle.pb_linear.specs.declared.sizes.Sizes.{Sizes}
 use Rattle.pb_values.specs.Views.{HasPlace}
 use Rattle.pb_values.specs.declared.rect.Rect.{Rect}
@@ -95,9 +97,28 @@ abbrev pub greatest : List ℕ → ℕ
 greatest [] = 0
 greatest (n ∷ ns) = max n (greatest ns)
 
--- the blocks of an axis on which a layer's parts end before `top`, each from its first place to before its end: one, for now
-abbrev pub spans : Option Sign → ℕ → ℕ → List (ℕ × ℕ)
-spans cut grain top = (0, top) ∷ []
+-- the side of the blocks of an axis on which a layer's parts end before `top`: the grain, or the least side by which at most
+-- 16 blocks reach `top`, where that is greater; and 1 at least
+abbrev pub block_side : ℕ → ℕ → ℕ
+block_side grain top = max 1 (max grain (div_ceil top 16))
+
+-- the block with a number on such an axis, from its first place to before its end
+abbrev pub block_at : ℕ → ℕ → ℕ → ℕ × ℕ
+block_at side top k = (k * side, min (k * side + side) top)
+
+-- the number of the block that comes at a place among so many, by the axis's sign
+abbrev pub number_by : Sign → ℕ → ℕ → ℕ
+number_by Plus count place = place
+number_by Minus count place = count - 1 - place
+
+abbrev pub cut_spans : Sign → ℕ → ℕ → List (ℕ × ℕ)
+cut_spans sign side top = map (λ place. block_at side top (number_by sign (div_ceil top side) place)) (range_with_len 0 (div_ceil top side))
+
+-- the blocks of an axis on which a layer's parts end before `top`, in their order: as many as reach `top`, by the axis's sign,
+-- where it can be cut; else one
+unfoldable pub spans : Option Sign → ℕ → ℕ → List (ℕ × ℕ)
+spans (Some sign) grain top = cut_spans sign (block_side grain top) top
+spans None grain top = (0, top) ∷ []
 
 abbrev pub square : ℕ × ℕ → ℕ × ℕ → Rect
 square x y = record { x0 = x.0; y0 = y.0; x1 = x.1; y1 = y.1 }

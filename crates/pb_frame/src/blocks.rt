@@ -1,7 +1,8 @@
-ghost use Rattle.std.specs.Prelude.{◌≡◌, ◌++◌, IfOk, OnOk, length, map};
+ghost use Rattle.std.specs.Prelude.{◌≡◌, ◌<◌, ◌++◌, IfOk, OnOk, length, map};
+ghost use Rattle.std.specs.Int.{div_ceil};
 ghost use Rattle.std.specs.List.{list_any};
 ghost use Rattle.pb_program.specs.Trees.{bare_transform};
-ghost use Rattle.pb_frame.specs.Frames.{block_job, block_parts, blocks, cut_by, greatest, has_block, is_block_part, is_cell_rule, spans, square, squares};
+ghost use Rattle.pb_frame.specs.Frames.{block_at, block_job, block_parts, block_side, blocks, cut_by, cut_spans, greatest, has_block, is_block_part, is_cell_rule, number_by, spans, square, squares};
 ghost use Rattle.pb_frame.specs.declared.part.FramePart.{FramePart};
 
 use crate::job::Job;
@@ -61,18 +62,66 @@ fn top_y(parts: &[FramePart]) -> u64
     top
 }
 
-/// The blocks of an axis on which a layer's parts end before `top`: one, for now.
+/// The side of the blocks of an axis on which a layer's parts end before `top`: the grain, or the least side by which at most
+/// 16 blocks reach `top`, where that is greater; and 1 at least.
+fn block_side(grain: u64, top: u64) -> u64
+    ensures { result ≡ block_side grain top }
+{
+    grain.max(top.div_ceil(16)).max(1)
+}
+
+/// The block with number `k`, of as many as reach `top`: its first place, and its end.
+fn block_at(side: u64, top: u64, k: u64) -> (u64, u64)
+    requires side { 0 < side }
+    requires k { k < div_ceil top side }
+    ensures { result ≡ block_at side top k }
+{
+    let start = k * side;
+    (start, start + side.min(top - start))
+}
+
+/// The number of the block that comes at a place among `count`, by the axis's sign.
+fn number_by(sign: Sign, count: u64, place: u64) -> u64
+    requires { place < count }
+    ensures value { result ≡ number_by sign count place }
+    ensures below { result < count }
+{
+    match sign {
+        Sign::Plus => place,
+        Sign::Minus => count - 1 - place,
+    }
+}
+
+/// As many blocks as reach `top`, by the axis's sign.
+#[tactic(auto, using(crate::proofs::ListLemmas::map_next))]
+fn cut_spans(alloc: Global, sign: Sign, side: u64, top: u64) -> Result<Vec<(u64, u64)>, AllocError>
+    requires { 0 < side }
+    ensures { IfOk result (λ found. found.items ≡ cut_spans sign side top) }
+{
+    let count = top.div_ceil(side);
+    let mut found = Vec::new(alloc);
+    for place in 0..count {
+        found.push(block_at(side, top, number_by(sign, count, place)))?;
+    }
+    Ok(found)
+}
+
+/// The blocks of an axis on which a layer's parts end before `top`, in their order: one, where it can't be cut.
+#[tactic(auto, unfolding(crate::specs::Frames::spans))]
 fn spans(
     alloc: Global,
-    _cut: Option<Sign>,
-    _grain: u64,
+    cut: Option<Sign>,
+    grain: u64,
     top: u64,
 ) -> Result<Vec<(u64, u64)>, AllocError>
-    ensures { IfOk result (λ found. found.items ≡ spans _cut _grain top) }
+    ensures { IfOk result (λ found. found.items ≡ spans cut grain top) }
 {
-    let mut found = Vec::new(alloc);
-    found.push((0, top))?;
-    Ok(found)
+    let Some(sign) = cut else {
+        let mut found = Vec::new(alloc);
+        found.push((0, top))?;
+        return Ok(found);
+    };
+    cut_spans(alloc, sign, block_side(grain, top), top)
 }
 
 fn add_column(squares: &mut Vec<Rect>, x: &(u64, u64), ys: &[(u64, u64)]) -> Result<(), AllocError>

@@ -30,6 +30,7 @@ use Rattle.pb_frame.proofs.PartLemmas.{held_chosen, held_made, of_part}
 use Rattle.pb_plan.proofs.BeforeLemmas.{some_places}
 use Rattle.pb_plan.proofs.BoxLemmas.{steady}
 use Rattle.pb_plan.proofs.MadeLemmas.{chosen}
+use Rattle.pb_plan.proofs.PieceLemmas.{whole_piece}
 use Rattle.pb_plan.proofs.WideLemmas.{applies_same}
 use Rattle.pb_instance_cost.specs.Parts.{CanShowPart, CanShowWides, at_start}
 use Rattle.pb_instance_cost.specs.Shown.{CanShow, CanShowRule}
@@ -76,7 +77,7 @@ module _ (config : ConfigValue) (number : ℕ) (t : ProgTransform) (a : Analysis
           (law.rule, ap (slice_get t.rules) (sym (held_chosen config number t a sizes i part c own h)) ∙ law.there, law.can.applies)
 
       places : (part.rect.x0 < part.rect.x1) × (part.rect.y0 < part.rect.y1)
-      places = some_places config number t a sizes 0 i valid part own
+      places = some_places config number t a sizes 0 i valid part (whole_piece parts part own)
 
       corner : HasPlace part.rect part.rect.x0 part.rect.y0
       corner = record { left = omega arith; right = places.0; low = omega arith; high = places.1 }

@@ -1,17 +1,17 @@
 -- What a job reads is made by jobs before it.
 use Rattle.std.proofs.Common.{◌≡◌, ◌∙◌, refl, sym, ap, subst, inl, inr, ◌⊎◌, ⊎_elim, ℕ, zero, suc, ◌<◌, ◌≤◌, pos, Bool, true, false, ◌&&◌, ◌||◌, List, [], ◌∷◌, length, map, slice_get, slice_index, Option, Some, None, arith}
-use Rattle.std.specs.Prelude.{◌==◌, nat_lt, slice_index_or}
+use Rattle.std.specs.Prelude.{◌==◌, slice_index_or}
 use Rattle.std.specs.List.{Contains, enumerate_from, flat_map, list_any, range_with_len}
 use Rattle.std.specs.Option.{option_map_or}
-use Rattle.std.proofs.lemmas.Bool.{and_parts, eq-eqb, eqb-true}
-use Rattle.std.proofs.lemmas.Bool.Decides.{nat_tests}
+use Rattle.std.proofs.lemmas.Bool.{and_parts, cases_lt, eq-eqb, eqb-true}
 use Rattle.std.proofs.lemmas.Option.{slice_get_within}
 use Rattle.pb_linear.specs.VForm.{InArea}
 use Rattle.pb_values.specs.Views.{HasPlace}
 use Rattle.pb_values.specs.declared.rect.Rect.{Rect}
 use Rattle.pb_linear.specs.declared.boxes.ReadBox.{ReadBox}
 use Rattle.pb_graph.specs.Nodes.{NodeValue}
-use Rattle.pb_graph.specs.Ranks.{ApartOn, IsHandled, Rank}
+use Rattle.pb_graph.specs.Layerings.{LayerValue}
+use Rattle.pb_graph.specs.Ranks.{ApartOn, IsHandled, IsServed, Rank}
 use Rattle.pb_program.specs.Areas.{Area, IsIn, area_of}
 use Rattle.pb_program.specs.Configs.{ConfigValue, IsValid}
 use Rattle.pb_program.specs.Forms.{DeclValue}
@@ -28,8 +28,9 @@ use Rattle.pb_check.proofs.FirstLemmas.{some_same}
 use Rattle.pb_check.proofs.RankedLemmas.{lawful_among}
 use Rattle.pb_check.proofs.WaitLemmas.{chosen_falls}
 use Rattle.pb_frame.specs.Choices.{IsInstance}
-use Rattle.pb_frame.specs.Frames.{JobValue, chosen_wides, corner_of, has_place, in_layer, is_wide_rule, parts_of as parts_for, rect_of}
+use Rattle.pb_frame.specs.Frames.{JobValue, blocks, chosen_wides, corner_of, has_place, in_layer, is_wide_rule, parts_of as parts_for, rect_of}
 use Rattle.pb_frame.specs.declared.part.FramePart.{FramePart}
+use Rattle.pb_frame.proofs.SpanLemmas.{Precedes}
 use Rattle.pb_frame.proofs.PartLemmas.{corner_in, corner_made, held_area, in_node, made_in, nodes_are, of_part}
 use Rattle.pb_links.specs.Links.{predecessors}
 use Rattle.pb_links.specs.Spots.{HasSpot, PlacesValue, boxes_of, parts_of}
@@ -38,10 +39,11 @@ use Rattle.pb_links.proofs.LawLemmas.{before-shares}
 use Rattle.pb_plan.specs.Boxes.{boxes_by, part_area, part_box, part_boxes, places_of, rect_from, shown_at, spot_of, whole_box, whole_boxes}
 use Rattle.pb_plan.specs.Made.{IsMadeBefore, IsMadeBy, jobs_for}
 use Rattle.pb_plan.proofs.FlatLemmas.{start}
-use Rattle.pb_plan.proofs.JobLemmas.{IsBlockAt, IsPlaced, IsWideAt, of_layer, at_map, earlier_layer, kind_of, map_at, part_of, placed, same_place}
-use Rattle.pb_plan.proofs.MadeLemmas.{chosen, made_by, made_cell, made_rule}
+use Rattle.pb_plan.proofs.JobLemmas.{IsBlockAt, IsPlaced, IsWideAt, at_map, block_order, earlier_layer, in_square, kind_of, map_at, of_layer, part_of, placed, same_place}
+use Rattle.pb_plan.proofs.MadeLemmas.{chosen, held_whole, made_by, made_cell, made_rule}
+use Rattle.pb_plan.proofs.PieceLemmas.{IsPiece, LiesIn, tall_wide}
 use Rattle.pb_plan.proofs.ReadingLemmas.{is_handled, reading, wide_handled}
-use Rattle.pb_plan.proofs.SpreadLemmas.{IsSpread, covers, in_rect, not_apart, part_spread, rect_in, shown_is, whole_spread}
+use Rattle.pb_plan.proofs.SpreadLemmas.{EndsWith, IsSpread, NotPast, covers, in_rect, not_apart, not_past_x, not_past_y, part_ends, part_spread, past_none, rect_in, shown_is, whole_spread}
 use Rattle.pb_plan.proofs.WideLemmas.{shown_same}
 
 -- ---- what is in lists of lists and under options
@@ -109,19 +111,23 @@ module _ (config : ConfigValue) (number : ℕ) (t : ProgTransform) (a : Analysis
       (at_map (λ (task : PlacesValue). task.boxes) places u (places_of t a.nodes sizes job) (at_map (places_of t a.nodes sizes) jobs u job e)) h
 
   -- ---- the segment of a part, and what is so of its cells
-  pub home : (j : ℕ) (job : JobValue) → slice_get jobs j ≡ Some job → (part : FramePart) → Contains job.parts part → Contains parts part
-  home j job e part h = (part_of t a.order grain parts j job (placed t a.order grain parts j job e) part h).among
+  pub home : (j : ℕ) (job : JobValue) → slice_get jobs j ≡ Some job → (part : FramePart) → Contains job.parts part → IsPiece parts part
+  home j job e part h = (part_of t a.order grain parts j job (placed t a.order grain parts j job e) part h).piece
 
-  pub place_in : (part : FramePart) (h : Contains parts part) (n : NodeValue) → slice_get a.nodes part.node ≡ Some n → (x y : ℕ) → HasPlace part.rect x y → InArea n.area sizes (pos x) (pos y)
+  -- the segment of a piece
+  pub node_of : (part : FramePart) → IsPiece parts part → (n : NodeValue) × (slice_get a.nodes part.node ≡ Some n)
+  node_of part h = let f = of_part number t a sizes i config h.whole h.among in (f.0, ap (slice_get a.nodes) (sym h.node) ∙ f.1)
+
+  pub place_in : (part : FramePart) (h : IsPiece parts part) (n : NodeValue) → slice_get a.nodes part.node ≡ Some n → (x y : ℕ) → HasPlace part.rect x y → InArea n.area sizes (pos x) (pos y)
   place_in part h n there x y place =
-      let f = of_part number t a sizes i config part h in
-      let rect : part.rect ≡ rect_of n sizes = ap (λ (q : FramePart). q.rect) f.3 ∙ ap (λ (m : NodeValue). rect_of m sizes) (some_same f.0 n (sym f.1 ∙ there)) in
-      let inside = subst (λ r. HasPlace r x y) rect place in
+      let f = of_part number t a sizes i config h.whole h.among in
+      let rect : h.whole.rect ≡ rect_of n sizes = ap (λ (q : FramePart). q.rect) f.3 ∙ ap (λ (m : NodeValue). rect_of m sizes) (some_same f.0 n (sym f.1 ∙ ap (slice_get a.nodes) h.node ∙ there)) in
+      let inside = subst (λ r. HasPlace r x y) rect (h.inside x y place) in
       in_node number t a sizes i part.node n there x y inside.left inside.right inside.low inside.high
 
   -- the part's rule is among those of its segment
-  pub among_rules : (part : FramePart) (h : Contains parts part) (n : NodeValue) → slice_get a.nodes part.node ≡ Some n → (r : ProgRule) → slice_get t.rules part.rule ≡ Some r → Contains n.rules part.rule
-  among_rules part h n there r rule =
+  whole_rules : (part : FramePart) (h : Contains parts part) (n : NodeValue) → slice_get a.nodes part.node ≡ Some n → (r : ProgRule) → slice_get t.rules part.rule ≡ Some r → Contains n.rules part.rule
+  whole_rules part h n there r rule =
       let f = of_part number t a sizes i config part h in
       let corner = corner_of f.0 sizes in
       let made = corner_made number t a sizes i part.node f.0 f.1 f.2 in
@@ -130,6 +136,9 @@ module _ (config : ConfigValue) (number : ℕ) (t : ProgTransform) (a : Analysis
       let node : f.0 ≡ n = some_same f.0 n (sym f.1 ∙ there) in
       subst (λ (m : NodeValue). Contains m.rules part.rule) node (subst (Contains f.0.rules) (sym is)
       (lawful_among i.program number t sizes i.well_formed i.sound i.there corner made.cell a.nodes (nodes_are number t a sizes i) part.node (record { node = f.0; there = f.1; matrix = refl; inside = corner_in number t a sizes i part.node f.0 f.1 f.2 }) (chosen_rule config number t sizes corner) (in_lawful t sizes corner (chosen_rule config number t sizes corner) law)))
+
+  pub among_rules : (part : FramePart) (h : IsPiece parts part) (n : NodeValue) → slice_get a.nodes part.node ≡ Some n → (r : ProgRule) → slice_get t.rules part.rule ≡ Some r → Contains n.rules part.rule
+  among_rules part h n there r rule = subst (Contains n.rules) h.rule (whole_rules h.whole h.among n (ap (slice_get a.nodes) h.node ∙ there) r (ap (slice_get t.rules) h.rule ∙ rule))
 
   -- ---- a box of a job, by a part whose cells read it
   pub record Boxed (job : JobValue) (s : Spot) : Type 0 where
@@ -142,13 +151,10 @@ module _ (config : ConfigValue) (number : ℕ) (t : ProgTransform) (a : Analysis
     pub area : Area
     pub is : s ≡ record { base = read.matrix; rect = rect_from area }
     pub spread : (d : DeclValue) → slice_get t.matrices read.matrix ≡ Some d → (n : NodeValue) → slice_get a.nodes part.node ≡ Some n → IsSpread sizes n.area read d area
-    pub wide : (job.rule ≡ None) ⊎ (is_wide rule.kind ≡ true)
+    pub kind : ((job.rule ≡ None) × ((d : DeclValue) → slice_get t.matrices read.matrix ≡ Some d → (n : NodeValue) → slice_get a.nodes part.node ≡ Some n → EndsWith sizes n.area read d part.rect area)) ⊎ (is_wide rule.kind ≡ true)
 
-  tall_wide : (r : Rect) → has_place r ≡ true → (r.x0 < r.x1) × (r.y0 < r.y1)
-  tall_wide r h = let p = and_parts (nat_lt r.x0 r.x1) (nat_lt r.y0 r.y1) h in (grind (arith, nat_tests, p.0), grind (arith, nat_tests, p.1))
-
-  pub some_places : (part : FramePart) → Contains parts part → (part.rect.x0 < part.rect.x1) × (part.rect.y0 < part.rect.y1)
-  some_places part h = let f = of_part number t a sizes i config part h in tall_wide part.rect (ap (λ (q : FramePart). has_place q.rect) f.3 ∙ f.2)
+  pub some_places : (part : FramePart) → IsPiece parts part → (part.rect.x0 < part.rect.x1) × (part.rect.y0 < part.rect.y1)
+  some_places part h = let f = of_part number t a sizes i config h.whole h.among in tall_wide part.rect (h.some (ap (λ (q : FramePart). has_place q.rect) f.3 ∙ f.2))
 
   part_boxed : (j : ℕ) (job : JobValue) (e : slice_get jobs j ≡ Some job) → job.rule ≡ None → (s : Spot) → Contains (flat_map (part_boxes t sizes) job.parts) s → Boxed job s
   part_boxed j job e none s h =
@@ -168,7 +174,7 @@ module _ (config : ConfigValue) (number : ℕ) (t : ProgTransform) (a : Analysis
         area = part_area t.matrices sizes part.rect q.0;
         is = sym q.2;
         spread = λ d decl n there. part_spread t.matrices sizes q.0 d decl n.area part.rect some.0 some.1 (place_in part own n there);
-        wide = inl none;
+        kind = inl (none, λ d decl n there. part_ends t.matrices sizes q.0 d decl n.area part.rect some.0 some.1 (place_in part own n there));
       }
 
   -- a job of a rule has a part
@@ -182,7 +188,7 @@ module _ (config : ConfigValue) (number : ℕ) (t : ProgTransform) (a : Analysis
           let test = filter_in (λ n. is_wide_rule t n && list_any (λ (q : FramePart). q.rule == n) here) (range_with_len 0 (length t.rules)) m (in_at (chosen_wides t here) p.place m w.1.0) in
           let found = some_any (λ (q : FramePart). q.rule == m) here (and_parts (is_wide_rule t m) (list_any (λ (q : FramePart). q.rule == m) here) test.1).1 in
           (found.0, subst (λ (b : JobValue). Contains b.parts found.0) (sym w.1.1) (in_filter (λ (q : FramePart). q.rule == m) here found.0 found.1 found.2))
-      first p (inr b) = absurd (let no : Some k ≡ None = sym some ∙ ap (λ (c : JobValue). c.rule) b.1 in cc)
+      first p (inr b) = absurd (let no : Some k ≡ None = sym some ∙ ap (λ (c : JobValue). c.rule) b.same in cc)
 
   whole_boxed : (j : ℕ) (job : JobValue) (e : slice_get jobs j ≡ Some job) (k : ℕ) → job.rule ≡ Some k → (s : Spot) → Contains (whole_boxes t sizes k) s → Boxed job s
   whole_boxed j job e k some s h =
@@ -202,12 +208,12 @@ module _ (config : ConfigValue) (number : ℕ) (t : ProgTransform) (a : Analysis
         area = shown_at t.matrices sizes q.0 0 0;
         is = sym q.2;
         spread = λ d decl n there.
-            let places = some_places part.0 of.among in
+            let places = some_places part.0 of.piece in
             let x = part.0.rect.x0 in
             let y = part.0.rect.y0 in
-            whole_spread t.matrices sizes q.0 d decl n.area (pos x) (pos y) (place_in part.0 of.among n there x y (record { left = omega arith; right = omega (arith, places.0); low = omega arith; high = omega (arith, places.1) }))
+            whole_spread t.matrices sizes q.0 d decl n.area (pos x) (pos y) (place_in part.0 of.piece n there x y (record { left = omega arith; right = omega (arith, places.0); low = omega arith; high = omega (arith, places.1) }))
             (shown_same i.program number t i.well_formed i.sound i.there k r.0 r.1 wide q.0 d q.1 sizes (pos 0) (pos 0) (pos x) (pos y));
-        wide = inr wide;
+        kind = inr wide;
       }
 
   pub boxed : (j : ℕ) (job : JobValue) → slice_get jobs j ≡ Some job → (s : Spot) → Contains (boxes_by t sizes job.rule job.parts) s → Boxed job s
@@ -218,20 +224,32 @@ module _ (config : ConfigValue) (number : ℕ) (t : ProgTransform) (a : Analysis
       by (Some k) some h = whole_boxed j job e k some s h
 
   -- ---- a predecessor stands before
-  conclude : (job : JobValue) (rule : ProgRule) (v u : ℕ) (n m : NodeValue) (box : ReadBox) → (is_wide rule.kind ≡ true → box.wide ≡ true) → (job.rule ≡ None) ⊎ (is_wide rule.kind ≡ true) → IsHandled a.order sizes u v n m box
-      → (box.wide ≡ true → (ApartOn n.area box sizes m.area 0 ⊎ ApartOn n.area box sizes m.area 1) ⊎ (slice_index a.order.layer v < slice_index a.order.layer u)) → ((ApartOn n.area box sizes m.area 0 ⊎ ApartOn n.area box sizes m.area 1) → ⊥)
-      → (slice_index a.order.layer v < slice_index a.order.layer u) ⊎ ((job.rule ≡ None) × (slice_index a.order.layer v ≡ slice_index a.order.layer u))
-  conclude job rule v u n m box same kind (inl apart) wide none = absurd (none apart)
-  conclude job rule v u n m box same kind (inr (inl lower)) wide none = inl lower
-  conclude job rule v u n m box same (inl block) (inr (inr served)) wide none = inr (block, served.1)
-  conclude job rule v u n m box same (inr w) (inr (inr served)) wide none = ⊎_elim (λ apart. absurd (none apart)) (λ lower. inl lower) (wide (same w))
+  -- a place of a segment isn't past a part of a block of the segment's layer, on the axes that can be cut
+  pub record StandsNear (l : ℕ) (part : FramePart) (x y : ℕ) : Type 0 where
+    pub layer : LayerValue
+    pub there : slice_get a.order.layers l ≡ Some layer
+    pub near_x : NotPast layer.cut_x part.rect.x0 part.rect.x1 x
+    pub near_y : NotPast layer.cut_y part.rect.y0 part.rect.y1 y
 
-  -- a job that makes a cell, at a place of a box of another, is of a lower layer; or the other is a block of the same layer
-  pub lower_or_same : (j : ℕ) (job : JobValue) (e : slice_get jobs j ≡ Some job) (s : Spot) (b : Boxed job s) (v : ℕ) (m : NodeValue) → slice_get a.nodes v ≡ Some m → s.base ≡ m.matrix → (x y : ℕ) → HasPlace s.rect x y → InArea m.area sizes (pos x) (pos y)
-      → (slice_index a.order.layer v < slice_index a.order.layer b.part.node) ⊎ ((job.rule ≡ None) × (slice_index a.order.layer v ≡ slice_index a.order.layer b.part.node))
-  lower_or_same j job e s b v m at_m base x y place inside =
+  abbrev pub IsLowerOrNear : JobValue → ℕ → FramePart → ℕ → ℕ → Type 0
+  IsLowerOrNear job v part x y =
+      (slice_index a.order.layer v < slice_index a.order.layer part.node) ⊎ ((job.rule ≡ None) × (slice_index a.order.layer v ≡ slice_index a.order.layer part.node) × StandsNear (slice_index a.order.layer part.node) part x y)
+
+  conclude : {E : Type 0} (job : JobValue) (rule : ProgRule) (v : ℕ) (part : FramePart) (n m : NodeValue) (box : ReadBox) (x y : ℕ) → (is_wide rule.kind ≡ true → box.wide ≡ true) → ((job.rule ≡ None) × E) ⊎ (is_wide rule.kind ≡ true) → IsHandled a.order sizes part.node v n m box
+      → (box.wide ≡ true → (ApartOn n.area box sizes m.area 0 ⊎ ApartOn n.area box sizes m.area 1) ⊎ (slice_index a.order.layer v < slice_index a.order.layer part.node)) → ((ApartOn n.area box sizes m.area 0 ⊎ ApartOn n.area box sizes m.area 1) → ⊥)
+      → (E → (layer : LayerValue) → slice_get a.order.layers (slice_index a.order.layer part.node) ≡ Some layer → IsServed n.area box sizes layer → StandsNear (slice_index a.order.layer part.node) part x y) → IsLowerOrNear job v part x y
+  conclude job rule v part n m box x y same kind (inl apart) wide none near = absurd (none apart)
+  conclude job rule v part n m box x y same kind (inr (inl lower)) wide none near = inl lower
+  conclude job rule v part n m box x y same (inl block) (inr (inr served)) wide none near = inr (block.0, served.1, near block.1 served.0 served.2 served.3)
+  conclude job rule v part n m box x y same (inr w) (inr (inr served)) wide none near = ⊎_elim (λ apart. absurd (none apart)) (λ lower. inl lower) (wide (same w))
+
+  -- a job that makes a cell, at a place of a box of another, is of a lower layer; or the other is a block of the same layer, and
+  -- the cell isn't past it
+  pub lower_or_near : (j : ℕ) (job : JobValue) (e : slice_get jobs j ≡ Some job) (s : Spot) (b : Boxed job s) (v : ℕ) (m : NodeValue) → slice_get a.nodes v ≡ Some m → s.base ≡ m.matrix → (x y : ℕ) → HasPlace s.rect x y → InArea m.area sizes (pos x) (pos y)
+      → IsLowerOrNear job v b.part x y
+  lower_or_near j job e s b v m at_m base x y place inside =
       let own = home j job e b.part b.of in
-      let f = of_part number t a sizes i config b.part own in
+      let f = node_of b.part own in
       let n = f.0 in
       let may = among_rules b.part own n f.1 b.rule b.there in
       let cell = made_in number t a sizes i v m at_m x y inside in
@@ -241,21 +259,54 @@ module _ (config : ConfigValue) (number : ℕ) (t : ProgTransform) (a : Analysis
       let spread = b.spread cell.cell.decl decl n f.1 in
       let here = rect_in b.area x y (subst (λ (z : Spot). HasPlace z.rect x y) b.is place) in
       let apart = not_apart sizes n.area b.read cell.cell.decl b.area spread r.box r.ends m.area in
-      conclude job b.rule v b.part.node n m r.box (λ w. r.wide ∙ w) b.wide (is_handled number t a sizes i b.part.node v n m r.box r.of) (λ w. wide_handled number t a sizes i b.part.node v n m r.box r.of w) (λ h. apart h (pos x) (pos y) here inside)
+      conclude job b.rule v b.part n m r.box x y (λ w. r.wide ∙ w) b.kind (is_handled number t a sizes i b.part.node v n m r.box r.of) (λ w. wide_handled number t a sizes i b.part.node v n m r.box r.of w) (λ h. apart h (pos x) (pos y) here inside)
+      (λ ends layer there served.
+      let with_r = ends cell.cell.decl decl n f.1 in
+      record {
+        layer = layer;
+        there = there;
+        near_x = not_past_x sizes n.area b.read cell.cell.decl b.part.rect b.area with_r r.box r.ends x y here layer.cut_x served.not_after_x;
+        near_y = not_past_y sizes n.area b.read cell.cell.decl b.part.rect b.area with_r r.box r.ends x y here layer.cut_y served.not_after_y;
+      })
 
-  -- of two jobs of a layer the block stands last
-  block_last : (u j : ℕ) (c d : JobValue) (p : IsPlaced t a.order grain parts u c) (q : IsPlaced t a.order grain parts j d) → p.layer ≡ q.layer → d.rule ≡ None → (u ≡ j) ⊎ (u < j)
-  block_last u j c d p q layer none = by (kind_of t a.order grain parts u c p) (kind_of t a.order grain parts j d q)
-    where
-      starts : start (of_layer t a.order grain parts) (enumerate_from 0 a.order.layers) p.layer ≡ start (of_layer t a.order grain parts) (enumerate_from 0 a.order.layers) q.layer
-      starts = ap (start (of_layer t a.order grain parts) (enumerate_from 0 a.order.layers)) layer
+  -- of two jobs of a layer a block stands last, if the other has a place that isn't past it
+  module _ (u j : ℕ) (c d : JobValue) (p : IsPlaced t a.order grain parts u c) (q : IsPlaced t a.order grain parts j d) (layer : p.layer ≡ q.layer) (none : d.rule ≡ None) (mine other : FramePart) (of_c : Contains c.parts other) (of_d : Contains d.parts mine) (x y : ℕ) (place : HasPlace other.rect x y) (near : StandsNear q.layer mine x y) where
+    starts : start (of_layer t a.order grain parts) (enumerate_from 0 a.order.layers) p.layer ≡ start (of_layer t a.order grain parts) (enumerate_from 0 a.order.layers) q.layer
+    starts = ap (start (of_layer t a.order grain parts) (enumerate_from 0 a.order.layers)) layer
 
-      by : ((k : ℕ) × IsWideAt t a.order grain parts p.layer p.place c k) ⊎ IsBlockAt t a.order grain parts p.layer p.value p.place c → ((k : ℕ) × IsWideAt t a.order grain parts q.layer q.place d k) ⊎ IsBlockAt t a.order grain parts q.layer q.value q.place d → (u ≡ j) ⊎ (u < j)
-      by w (inl z) = absurd (let e : Some z.0 ≡ None = sym (ap (λ (b : JobValue). b.rule) z.1.1) ∙ none in cc)
-      by (inr w) (inr z) = inl (same_place t a.order grain parts u j c d p q layer (w.0 ∙ ap (λ l. length (chosen_wides t (in_layer a.order parts l))) layer ∙ sym z.0))
-      by (inl w) (inr z) =
-          let early : p.place < length (chosen_wides t (in_layer a.order parts p.layer)) = slice_get_within (chosen_wides t (in_layer a.order parts p.layer)) p.place w.0 w.1.0 in
-          inr (omega (arith, p.at, q.at, starts, early, z.0, ap (λ l. length (chosen_wides t (in_layer a.order parts l))) layer))
+    wides : length (chosen_wides t (in_layer a.order parts p.layer)) ≡ length (chosen_wides t (in_layer a.order parts q.layer))
+    wides = ap (λ l. length (chosen_wides t (in_layer a.order parts l))) layer
+
+    near_value : near.layer ≡ q.value
+    near_value = some_same near.layer q.value (sym near.there ∙ q.there)
+
+    same_value : p.value ≡ q.value
+    same_value = some_same p.value q.value (sym p.there ∙ ap (slice_get a.order.layers) layer ∙ q.there)
+
+    -- the block doesn't precede the other
+    not_first : (mine_at other_at : Rect) → LiesIn mine_at mine.rect → LiesIn other_at other.rect → Precedes q.value.cut_x q.value.cut_y mine_at other_at → ⊥
+    not_first r s h g (inl ahead) = past_none q.value.cut_x (r.x0, r.x1) (s.x0, s.x1) mine.rect.x0 mine.rect.x1 x (omega (arith, g.left, place.left)) (omega (arith, g.right, place.right)) h.left h.right (subst (λ (v : LayerValue). NotPast v.cut_x mine.rect.x0 mine.rect.x1 x) (near_value) near.near_x) ahead
+    not_first r s h g (inr ahead) = past_none q.value.cut_y (r.y0, r.y1) (s.y0, s.y1) mine.rect.y0 mine.rect.y1 y (omega (arith, g.low, place.low)) (omega (arith, g.high, place.high)) h.low h.high (subst (λ (v : LayerValue). NotPast v.cut_y mine.rect.y0 mine.rect.y1 y) (near_value) near.near_y) ahead
+
+    of_kinds : ((k : ℕ) × IsWideAt t a.order grain parts p.layer p.place c k) ⊎ IsBlockAt t a.order grain parts p.layer p.value p.place c → ((k : ℕ) × IsWideAt t a.order grain parts q.layer q.place d k) ⊎ IsBlockAt t a.order grain parts q.layer q.value q.place d → (u ≡ j) ⊎ (u < j)
+    of_kinds w (inl z) = absurd (let e : Some z.0 ≡ None = sym (ap (λ (b : JobValue). b.rule) z.1.1) ∙ none in cc)
+    of_kinds (inl w) (inr z) =
+        let early : p.place < length (chosen_wides t (in_layer a.order parts p.layer)) = slice_get_within (chosen_wides t (in_layer a.order parts p.layer)) p.place w.0 w.1.0 in
+        inr (omega (arith, p.at, q.at, starts, early, z.at, wides))
+    of_kinds (inr w) (inr z) =
+        let is_w : slice_get (blocks t q.value grain (in_layer a.order parts q.layer)) w.number ≡ Some w.square = ap (λ l. slice_get (blocks t q.value grain (in_layer a.order parts l)) w.number) (sym layer) ∙ ap (λ v. slice_get (blocks t v grain (in_layer a.order parts p.layer)) w.number) (sym (same_value)) ∙ w.is in
+        let lies_w = in_square t a.order grain parts p.layer p.value p.place c w other of_c in
+        let lies_z = in_square t a.order grain parts q.layer q.value q.place d z mine of_d in
+        ⊎_elim
+        (λ less. inr (omega (arith, p.at, q.at, starts, wides, w.at, z.at, less)))
+        (λ most. ⊎_elim
+        (λ more. absurd (not_first z.square w.square lies_z lies_w (block_order t a.order grain parts q.layer q.value z.number w.number z.square w.square z.is is_w more)))
+        (λ least. inl (same_place t a.order grain parts u j c d p q layer (omega (arith, w.at, z.at, wides, most, least))))
+        (cases_lt z.number w.number))
+        (cases_lt w.number z.number)
+
+    pub block_last : (u ≡ j) ⊎ (u < j)
+    block_last = of_kinds (kind_of t a.order grain parts u c p) (kind_of t a.order grain parts j d q)
 
   pub own_layer : (j : ℕ) (job : JobValue) (e : slice_get jobs j ≡ Some job) (part : FramePart) → Contains job.parts part → slice_index a.order.layer part.node ≡ (placed t a.order grain parts j job e).layer
   own_layer j job e part h = (part_of t a.order grain parts j job (placed t a.order grain parts j job e) part h).layer
@@ -269,7 +320,7 @@ module _ (config : ConfigValue) (number : ℕ) (t : ProgTransform) (a : Analysis
       let y = w.1.1.1.0 in
       let p = part_at u makes.0 makes.1 in
       let own = home u p.0 p.1 p.2 p.3 in
-      let f = of_part number t a sizes i config p.2 own in
+      let f = node_of p.2 own in
       let base : makes.0.base ≡ f.0.matrix = sym (ap (λ (z : Spot). z.base) p.4) ∙ ap (λ o. option_map_or (λ (n : NodeValue). n.matrix) o 0) f.1 in
       let place = subst (λ (z : Spot). HasPlace z.rect x y) (sym p.4) makes.3 in
       let b = box_at j reads.0 reads.1 in
@@ -280,8 +331,9 @@ module _ (config : ConfigValue) (number : ℕ) (t : ProgTransform) (a : Analysis
       let layer_j = own_layer j b.0 b.1 boxes.part boxes.of in
       ⊎_elim
       (λ lower. earlier_layer t a.order grain parts u j p.0 b.0 placed_u placed_j (omega (arith, lower, layer_u, layer_j)))
-      (λ same. ⊎_elim (λ equal. absurd (w.0 equal)) (λ less. less) (block_last u j p.0 b.0 placed_u placed_j (sym layer_u ∙ same.1 ∙ layer_j) same.0))
-      (lower_or_same j b.0 b.1 reads.0 boxes p.2.node f.0 f.1 (reads.2 ∙ sym makes.2 ∙ base) x y reads.3 (place_in p.2 own f.0 f.1 x y place))
+      (λ near. ⊎_elim (λ equal. absurd (w.0 equal)) (λ less. less)
+      (block_last u j p.0 b.0 placed_u placed_j (sym layer_u ∙ near.1 ∙ layer_j) near.0 boxes.part p.2 p.3 boxes.of x y place (subst (λ l. StandsNear l boxes.part x y) layer_j near.2)))
+      (lower_or_near j b.0 b.1 reads.0 boxes p.2.node f.0 f.1 (reads.2 ∙ sym makes.2 ∙ base) x y reads.3 (place_in p.2 own f.0 f.1 x y place))
 
   -- ---- what is read is made before
   module _ (c shown : Cell) (j k : ℕ) (m : IsMadeBy jobs a.nodes c j k) (rule : ProgRule) (there : slice_get t.rules (chosen_rule config number t sizes c) ≡ Some rule) (reads : ReadsCell t.matrices sizes c rule shown) (made : IsMadeCell t sizes shown) where
@@ -335,7 +387,7 @@ module _ (config : ConfigValue) (number : ℕ) (t : ProgTransform) (a : Analysis
         ap (λ (w : JobValue). w.rule) jobs_same ∙ ⊎_elim
         (λ lower. absurd (omega (arith, lower, own_layer j m.job m.is d.part (subst (λ (w : JobValue). Contains w.parts d.part) jobs_same (in_at d.job.parts l d.part d.has)), own_layer j m.job m.is boxes.part boxes.of)))
         (λ block. block.0)
-        (lower_or_same j m.job m.is b.0 boxes d.part.node d.holds.node d.holds.there (b.2 ∙ sym d.holds.matrix) shown.x shown.y b.3 (held_area config number t a sizes i d.part shown own d.holds))
+        (lower_or_near j m.job m.is b.0 boxes d.part.node d.holds.node d.holds.there (b.2 ∙ sym d.holds.matrix) shown.x shown.y b.3 (held_area config number t a sizes i own.whole shown own.among (held_whole config number t a sizes grain i d.part own shown d.holds)))
 
     decide : (u l : ℕ) (d : IsMadeBy jobs a.nodes shown u l) (b : Bool) → (u == j) ≡ b → Contains (predecessors places j) u ⊎ ((u ≡ j) × (d.job.rule ≡ None) × ((rank : Rank) → HasRank t a sizes c rank → StandsBelow t a sizes rank shown))
     decide u l d true e =

@@ -3,6 +3,7 @@ pub mod BoxLemmas
 pub mod FlatLemmas
 pub mod JobLemmas
 pub mod MadeLemmas
+pub mod PieceLemmas
 pub mod ReadableLemmas
 pub mod ReadingLemmas
 pub mod RiseLemmas

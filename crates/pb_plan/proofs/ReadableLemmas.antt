@@ -27,26 +27,27 @@ use Rattle.pb_frame.specs.declared.part.FramePart.{FramePart}
 use Rattle.pb_frame.proofs.PartLemmas.{held_chosen, held_made, of_part}
 use Rattle.pb_views.specs.Layouts.{HasShortSides}
 use Rattle.pb_plan.specs.Boxes.{HasNodes, HasRule, IsBoxed, IsJob, IsReadable}
-use Rattle.pb_plan.proofs.BeforeLemmas.{first_part, home, jobs, parts, some_places}
+use Rattle.pb_plan.proofs.BeforeLemmas.{first_part, home, jobs, node_of, parts, some_places}
 use Rattle.pb_plan.proofs.JobLemmas.{part_of, placed}
-use Rattle.pb_plan.proofs.MadeLemmas.{chosen}
+use Rattle.pb_plan.proofs.MadeLemmas.{chosen, held_whole}
+use Rattle.pb_plan.proofs.PieceLemmas.{IsPiece}
 use Rattle.pb_plan.proofs.WideLemmas.{applies_same}
 
 all_in : {A : Type 0} (P : A → Type 0) (xs : List A) → ((x : A) → Contains xs x → P x) → All P xs
 all_in P xs f k d below = f (get_or xs k d) (in_at xs k (get_or xs k d) (slice_get-get_or xs k d below))
 
 module _ (config : ConfigValue) (number : ℕ) (t : ProgTransform) (a : AnalysisValue) (sizes : List ℕ) (grain : ℕ) (i : IsInstance number t a sizes) (valid : IsValid i.program config) (short : All (HasShortSides sizes) t.matrices) where
-  module _ (part : FramePart) (own : Contains (parts config number t a sizes grain i valid) part) where
-    held : (x y : ℕ) → HasPlace part.rect x y → HoldsCell a.nodes part (record { matrix = (of_part number t a sizes i config part own).0.matrix; x = x; y = y })
-    held x y place = record { node = (of_part number t a sizes i config part own).0; there = (of_part number t a sizes i config part own).1; matrix = refl; place = place }
+  module _ (part : FramePart) (own : IsPiece (parts config number t a sizes grain i valid) part) where
+    held : (x y : ℕ) → HasPlace part.rect x y → HoldsCell a.nodes part (record { matrix = (node_of config number t a sizes grain i valid part own).0.matrix; x = x; y = y })
+    held x y place = record { node = (node_of config number t a sizes grain i valid part own).0; there = (node_of config number t a sizes grain i valid part own).1; matrix = refl; place = place }
 
     -- the rule of a part is there, and applies at each of its cells
     pub rule_at : (x y : ℕ) → HasPlace part.rect x y → (r : ProgRule) × (slice_get t.rules part.rule ≡ Some r) × Applies t.matrices r sizes (pos x) (pos y)
     rule_at x y place =
-        let c : Cell = record { matrix = (of_part number t a sizes i config part own).0.matrix; x = x; y = y } in
-        let h = held x y place in
-        let law = chosen config number t a sizes grain i valid c (held_made config number t a sizes i part c own h) in
-        (law.rule, ap (slice_get t.rules) (sym (held_chosen config number t a sizes i part c own h)) ∙ law.there, law.can.applies)
+        let c : Cell = record { matrix = (node_of config number t a sizes grain i valid part own).0.matrix; x = x; y = y } in
+        let h = held_whole config number t a sizes grain i part own c (held x y place) in
+        let law = chosen config number t a sizes grain i valid c (held_made config number t a sizes i own.whole c own.among h) in
+        (law.rule, ap (slice_get t.rules) (sym (held_chosen config number t a sizes i own.whole c own.among h ∙ own.rule)) ∙ law.there, law.can.applies)
 
     applies_at : (r : ProgRule) → slice_get t.rules part.rule ≡ Some r → (x y : ℕ) → HasPlace part.rect x y → Applies t.matrices r sizes (pos x) (pos y)
     applies_at r there x y place = let f = rule_at x y place in subst (λ (q : ProgRule). Applies t.matrices q sizes (pos x) (pos y)) (some_same f.0 r (sym f.1 ∙ there)) f.2
@@ -62,15 +63,17 @@ module _ (config : ConfigValue) (number : ℕ) (t : ProgTransform) (a : Analysis
 
     pub ends : (part.rect.x1 ≤ 2 ^ 23) × (part.rect.y1 ≤ 2 ^ 23)
     ends =
-        let f = of_part number t a sizes i config part own in
+        let f = of_part number t a sizes i config own.whole own.among in
         let n = f.0 in
         let some = some_places config number t a sizes grain i valid part own in
-        let made = held_made config number t a sizes i part (record { matrix = n.matrix; x = part.rect.x0; y = part.rect.y0 }) own (held part.rect.x0 part.rect.y0 (record { left = omega arith; right = omega (arith, some.0); low = omega arith; high = omega (arith, some.1) })) in
+        let last = own.inside (part.rect.x1 - 1) (part.rect.y1 - 1) (record { left = omega (arith, some.0); right = omega (arith, some.0); low = omega (arith, some.1); high = omega (arith, some.1) }) in
+        let c : Cell = record { matrix = n.matrix; x = part.rect.x1 - 1; y = part.rect.y1 - 1 } in
+        let made = held_made config number t a sizes i own.whole c own.among (record { node = n; there = f.1; matrix = refl; place = last }) in
         let d = made.cell.decl in
-        let below = segment_below i.program number t a sizes i.well_formed i.sound i.there i.found i.in_range part.node n d f.1 made.cell.there in
+        let below = segment_below i.program number t a sizes i.well_formed i.sound i.there i.found i.in_range own.whole.node n d f.1 made.cell.there in
         let limit = all_at (HasShortSides sizes) t.matrices n.matrix d short made.cell.there in
-        let rect : part.rect ≡ rect_of n sizes = ap (λ (q : FramePart). q.rect) f.3 in
-        (omega (arith, ap (λ (r : Rect). r.x1) rect, natural_le (value n.area.x1 sizes) (exact_value d.w sizes) below.across, limit.width), omega (arith, ap (λ (r : Rect). r.y1) rect, natural_le (value n.area.y1 sizes) (exact_value d.h sizes) below.down, limit.height))
+        let rect : own.whole.rect ≡ rect_of n sizes = ap (λ (q : FramePart). q.rect) f.3 in
+        (omega (arith, last.right, ap (λ (r : Rect). r.x1) rect, natural_le (value n.area.x1 sizes) (exact_value d.w sizes) below.across, limit.width), omega (arith, last.high, ap (λ (r : Rect). r.y1) rect, natural_le (value n.area.y1 sizes) (exact_value d.h sizes) below.down, limit.height))
 
     pub is_boxed : (r : ProgRule) → slice_get t.rules part.rule ≡ Some r → IsBoxed t.matrices sizes r.reads part.rect
     is_boxed r there =
@@ -117,8 +120,8 @@ module _ (config : ConfigValue) (number : ℕ) (t : ProgTransform) (a : Analysis
       let first = first_part config number t a sizes grain i valid j job e k some in
       let of = part_of t a.order grain (parts config number t a sizes grain i valid) j job (placed t a.order grain (parts config number t a sizes grain i valid) j job e) first.0 first.1 in
       let same = of.wide k some in
-      subst (λ n. HasRule t n (λ rule. IsReadable t.matrices sizes rule.reads 0 0)) same.0 (has_rule first.0 of.among (λ rule. IsReadable t.matrices sizes rule.reads 0 0) (λ r there.
-      whole_readable first.0 of.among r there (sym (ap (λ q. option_map_or (λ (p : ProgRule). is_wide p.kind) q false) there) ∙ subst (λ n. is_wide_rule t n ≡ true) (sym same.0) same.1)))
+      subst (λ n. HasRule t n (λ rule. IsReadable t.matrices sizes rule.reads 0 0)) same.0 (has_rule first.0 of.piece (λ rule. IsReadable t.matrices sizes rule.reads 0 0) (λ r there.
+      whole_readable first.0 of.piece r there (sym (ap (λ q. option_map_or (λ (p : ProgRule). is_wide p.kind) q false) there) ∙ subst (λ n. is_wide_rule t n ≡ true) (sym same.0) same.1)))
 
   pub are_jobs : All (λ (job : JobValue). IsJob t sizes job.rule job.parts) (jobs config number t a sizes grain i valid)
   are_jobs = all_in (λ (job : JobValue). IsJob t sizes job.rule job.parts) (jobs config number t a sizes grain i valid) (λ job h. let j = at_in (jobs config number t a sizes grain i valid) job h in is_job j.0 job j.1 job.rule refl)
@@ -126,4 +129,4 @@ module _ (config : ConfigValue) (number : ℕ) (t : ProgTransform) (a : Analysis
   pub have_nodes : All (λ (job : JobValue). HasNodes a.nodes job.parts) (jobs config number t a sizes grain i valid)
   have_nodes = all_in (λ (job : JobValue). HasNodes a.nodes job.parts) (jobs config number t a sizes grain i valid) (λ job h.
       let j = at_in (jobs config number t a sizes grain i valid) job h in
-      all_in (λ (part : FramePart). part.node < length a.nodes) job.parts (λ part p. let f = of_part number t a sizes i config part (home config number t a sizes grain i valid j.0 job j.1 part p) in slice_get_within a.nodes part.node f.0 f.1))
+      all_in (λ (part : FramePart). part.node < length a.nodes) job.parts (λ part p. let f = node_of config number t a sizes grain i valid part (home config number t a sizes grain i valid j.0 job j.1 part p) in slice_get_within a.nodes part.node f.0 f.1))

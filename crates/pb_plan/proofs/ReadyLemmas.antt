@@ -24,13 +24,13 @@ use Rattle.pb_frame.specs.Choices.{IsInstance}
 use Rattle.pb_frame.specs.Frames.{FrameValue, JobValue}
 use Rattle.pb_frame.specs.declared.part.FramePart.{FramePart}
 use Rattle.pb_frame.proofs.FoundLemmas.{of_these, said_of}
-use Rattle.pb_frame.proofs.PartLemmas.{of_part, top_of}
+use Rattle.pb_frame.proofs.PartLemmas.{top_of}
 use Rattle.pb_links.specs.Spots.{AllWithin, IsWithin, PlacesValue}
 use Rattle.pb_links.specs.declared.places.Spot.{Spot}
 use Rattle.pb_taskgraph.specs.Graphs.{GraphValue}
 use Rattle.pb_plan.specs.Boxes.{places_of, spot_of}
 use Rattle.pb_plan.specs.Made.{IsMadeBy, jobs_for}
-use Rattle.pb_plan.proofs.BeforeLemmas.{home, some_places}
+use Rattle.pb_plan.proofs.BeforeLemmas.{home, node_of, some_places}
 use Rattle.pb_plan.proofs.MadeLemmas.{made_cell}
 use Rattle.pb_views.specs.Layouts.{AreInARow, HasShortSides}
 use Rattle.pb_plan.specs.Laid.{HasRoom, IsLaid, LaidValue}
@@ -61,7 +61,7 @@ module _ (config : ConfigValue) (number : ℕ) (t : ProgTransform) (a : Analysis
   lies j job e part h =
       let own = home config number t a sizes grain i valid j job e part h in
       let some = some_places config number t a sizes grain i valid part own in
-      let f = of_part number t a sizes i config part own in
+      let f = node_of config number t a sizes grain i valid part own in
       let c : Cell = record { matrix = f.0.matrix; x = part.rect.x1 - 1; y = part.rect.y1 - 1 } in
       let k = at_in job.parts part h in
       let made : IsMadeBy jobs a.nodes c j k.0 = record { job = job; is = e; part = part; has = k.1; holds = record { node = f.0; there = f.1; matrix = refl; place = record { left = omega (arith, some.0); right = omega (arith, some.0); low = omega (arith, some.1); high = omega (arith, some.1) } } } in

@@ -87,16 +87,17 @@ module _ (p : List ProgTransform) (found : List AnalysisValue) (config : ConfigV
     pub part_seated : (part : FramePart) → Contains job.parts part → IsSeatedPart t.matrices a.nodes v.seats part
     part_seated part h =
         let own = home config v.transform t a sizes grain i valid j job there part h in
-        let f = of_part v.transform t a sizes i config part own in
+        let f = of_part v.transform t a sizes i config own.whole own.among in
         let some = part_places part h in
-        let c : Cell = record { matrix = f.0.matrix; x = part.rect.x0; y = part.rect.y0 } in
-        let made = held_made config v.transform t a sizes i part c own (record { node = f.0; there = f.1; matrix = refl; place = record { left = omega arith; right = omega (arith, some.0); low = omega arith; high = omega (arith, some.1) } }) in
+        let last = own.inside (part.rect.x1 - 1) (part.rect.y1 - 1) (record { left = omega (arith, some.0); right = omega (arith, some.0); low = omega (arith, some.1); high = omega (arith, some.1) }) in
+        let c : Cell = record { matrix = f.0.matrix; x = part.rect.x1 - 1; y = part.rect.y1 - 1 } in
+        let made = held_made config v.transform t a sizes i own.whole c own.among (record { node = f.0; there = f.1; matrix = refl; place = last }) in
         let d = made.cell.decl in
-        let below = segment_below p v.transform t a sizes well sound s.there analysis s.in_range part.node f.0 d f.1 made.cell.there in
+        let below = segment_below p v.transform t a sizes well sound s.there analysis s.in_range own.whole.node f.0 d f.1 made.cell.there in
         let seat = at_zip (IsSeatFor sizes) t.matrices v.seats s.seats f.0.matrix d made.cell.there in
         record {
           node = f.0;
-          is = f.1;
+          is = ap (slice_get a.nodes) (sym own.node) ∙ f.1;
           decl = d;
           declared = made.cell.there;
           seat = seat.0;
@@ -105,8 +106,8 @@ module _ (p : List ProgTransform) (found : List AnalysisValue) (config : ConfigV
           lies = record {
             order_x = omega (arith, some.0);
             order_y = omega (arith, some.1);
-            right = omega (arith, ap (λ (q : FramePart). q.rect.x1) f.3, natural_le (value f.0.area.x1 sizes) (exact_value d.w sizes) below.across, seat.2.width);
-            high = omega (arith, ap (λ (q : FramePart). q.rect.y1) f.3, natural_le (value f.0.area.y1 sizes) (exact_value d.h sizes) below.down, seat.2.height);
+            right = omega (arith, last.right, ap (λ (q : FramePart). q.rect.x1) f.3, natural_le (value f.0.area.x1 sizes) (exact_value d.w sizes) below.across, seat.2.width);
+            high = omega (arith, last.high, ap (λ (q : FramePart). q.rect.y1) f.3, natural_le (value f.0.area.y1 sizes) (exact_value d.h sizes) below.down, seat.2.height);
           };
         }
 

@@ -1,5 +1,5 @@
 -- Where nothing stands twice in a list of lists, nothing does in one of them, or in two.
-use Rattle.std.proofs.Common.{◌≡◌, ◌∙◌, sym, ap, inl, inr, ⊎_elim, ℕ, ◌+◌, ◌<◌, List, map, slice_get, Some, arith}
+use Rattle.std.proofs.Common.{◌≡◌, ◌∙◌, ap, ⊎_elim, ℕ, ◌+◌, ◌<◌, List, map, slice_get, Some, arith}
 use Rattle.std.specs.List.{Contains, flat_map}
 use Rattle.std.proofs.lemmas.Bool.{cases_order}
 use Rattle.pb_base.proofs.ListLemmas.{at_in}

@@ -4,12 +4,10 @@ use Rattle.std.specs.Prelude.{IsSomeAnd}
 use Rattle.std.specs.List.{AllZip, Contains, flat_map, range_with_len}
 use Rattle.pb_linear.specs.declared.boxes.Step.{Step as Direction}
 use Rattle.pb_values.specs.Views.{HasPlace, cell_of, view_cells}
-use Rattle.pb_values.specs.declared.view.View.{View}
-use Rattle.pb_base.proofs.ListLemmas.{at_in, flat_in, in_at, in_flat, in_map, in_none, in_range, map_in, range_in}
+use Rattle.pb_base.proofs.ListLemmas.{at_in, flat_in, in_at, in_flat, in_map, in_range, map_in, range_in}
 use Rattle.pb_check.proofs.FirstLemmas.{some_same}
 use Rattle.pb_frame.specs.declared.part.FramePart.{FramePart}
 use Rattle.pb_links.specs.declared.places.Spot.{Spot}
-use Rattle.pb_taskgraph.specs.Graphs.{TaskValue, task_cells}
 use Rattle.pb_taskgraph.specs.declared.task.Part.{Part}
 use Rattle.pb_plan.specs.Boxes.{spot_of}
 use Rattle.pb_plan.proofs.JobLemmas.{at_map, map_at}
@@ -17,12 +15,12 @@ use Rattle.pb_walk.specs.Walks.{walk_of}
 use Rattle.pb_walk.specs.declared.stop.Stop.{Stop}
 use Rattle.pb_walk.proofs.WalkLemmas.{in_walk, walk_in}
 use Rattle.pb_plan.proofs.LinkedLemmas.{at_zip, in_view, once_view, view_in, zip_at}
-use Rattle.pb_plan.proofs.OnceLemmas.{Once, once_flat, once_range}
-use Rattle.pb_solution.specs.Solutions.{stop_cell, stops_of, steps_by}
+use Rattle.pb_plan.proofs.OnceLemmas.{Once, once_flat}
+use Rattle.pb_solution.specs.Solutions.{steps_by}
 use Rattle.pb_views.specs.declared.seat.Seat.{Seat}
 use Rattle.pb_views.specs.Seats.{across, cell_at, down, seat_cells}
-use Rattle.pb_runs.specs.Steps.{Copied, Failed, Instance, Step, by_copy, by_job, by_trap, cells_of, seat_in, stop_number}
-use Rattle.pb_run_plan.specs.RunTasks.{IsPartOf, IsTaskOf, Piece, piece_of, pieces_of, trapped_piece}
+use Rattle.pb_runs.specs.Steps.{Failed, Instance, Step, by_copy, by_job, by_trap, cells_of, seat_in, stop_number}
+use Rattle.pb_run_plan.specs.RunTasks.{IsPartOf, Piece, piece_of, pieces_of, trapped_piece}
 use Rattle.pb_run_plan.proofs.OnceLemmas.{once_apart, once_mapped, once_part}
 
 -- a place of a piece has this cell

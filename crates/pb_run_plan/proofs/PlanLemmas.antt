@@ -1,5 +1,5 @@
 -- A run within the limits is a plan, and its tasks may read what they need.
-use Rattle.std.proofs.Common.{◌≡◌, ◌∙◌, refl, sym, ap, subst, inl, inr, ◌⊎◌, ⊎_elim, ℕ, zero, suc, ◌+◌, ◌<◌, ◌≤◌, List, [], ◌∷◌, length, map, take, slice_get, Some, arith}
+use Rattle.std.proofs.Common.{◌≡◌, ◌∙◌, refl, sym, subst, inl, inr, ⊎_elim, ℕ, zero, suc, ◌<◌, ◌≤◌, List, [], ◌∷◌, length, map, take, slice_get, Some, arith}
 use Rattle.std.specs.Prelude.{slice_index_or}
 use Rattle.std.specs.List.{All, Contains}
 use Rattle.std.proofs.lemmas.Bool.{cases_lt}
@@ -12,15 +12,13 @@ use Rattle.pb_links.specs.Links.{predecessors}
 use Rattle.pb_links.specs.Spots.{PlacesValue}
 use Rattle.pb_model.specs.Calls.{Outcomes}
 use Rattle.pb_check.specs.Orders.{AnalysisValue}
-use Rattle.pb_taskgraph.specs.Graphs.{EachOnce, GraphValue, IsGraph, IsPartition, TaskValue, cells_of as graph_cells, task_cells}
-use Rattle.pb_taskgraph.specs.Plans.{IsPlan, IsSmall, Plan}
+use Rattle.pb_taskgraph.specs.Graphs.{EachOnce, GraphValue, IsPartition, TaskValue, cells_of as graph_cells, task_cells}
+use Rattle.pb_taskgraph.specs.Plans.{IsPlan, IsSmall}
 use Rattle.pb_taskgraph.specs.Turns.{MayRead}
 use Rattle.pb_plan.proofs.JobLemmas.{at_map, map_at}
 use Rattle.pb_plan.proofs.LinkedLemmas.{HasLinksOf, before_in, in_index, index_is, is_linked, links_are, some_at}
 use Rattle.pb_plan.proofs.OnceLemmas.{Once, once_each}
-use Rattle.pb_recursion.specs.Depths.{sides_of_matrix}
 use Rattle.pb_runs.specs.Laws.{IsEntered, MayUse}
-use Rattle.pb_runs.specs.Placed.{total}
 use Rattle.pb_runs.specs.Steps.{Step, cells_in, cells_of, places_of}
 use Rattle.pb_runs.proofs.BaseLemmas.{total_append, total_is}
 use Rattle.pb_runs.proofs.LinkLemmas.{links_go_back, one_step}

@@ -76,7 +76,7 @@ module _ (p : List ProgTransform) (found : List AnalysisValue) (config : ConfigV
       let at = placed (of_transform w) f.order o.grain some o.place job o.there in
       elim (kind_of (of_transform w) f.order o.grain some o.place job at) [
         | inl wide ↦ subst (λ (b : JobValue). b.layer < length f.order.layers) (sym wide.1.1) (slice_get_within f.order.layers at.layer at.value at.there)
-        | inr block ↦ subst (λ (b : JobValue). b.layer < length f.order.layers) (sym block.1) (slice_get_within f.order.layers at.layer at.value at.there)
+        | inr block ↦ subst (λ (b : JobValue). b.layer < length f.order.layers) (sym block.same) (slice_get_within f.order.layers at.layer at.value at.there)
       ]
 
   -- the rule of each part makes single cells

@@ -1,21 +1,18 @@
 -- What is held of the instances and of the steps of a run can be made.
-use Rattle.std.proofs.Common.{◌≡◌, ◌∙◌, refl, sym, ap, subst, ℕ, ◌+◌, ◌<◌, ◌≤◌, List, [], ◌∷◌, ◌++◌, length, map, take, get_or, slice_get, Some, arith}
-use Rattle.std.specs.List.{All, AllZip, Contains}
+use Rattle.std.proofs.Common.{◌≡◌, ◌∙◌, sym, ap, subst, ℕ, ◌+◌, ◌<◌, List, length, take, get_or, slice_get, Some, arith}
+use Rattle.std.specs.List.{All, AllZip}
 use Rattle.std.proofs.lemmas.List.Elements.{All-more}
 use Rattle.std.proofs.lemmas.Option.{slice_get_within}
 use Rattle.pb_base.proofs.ListLemmas.{at_in}
 use Rattle.pb_linear.specs.Sizes.{leasts_of, sizes_of}
 use Rattle.pb_linear.proofs.SizesLemmas.{in_range_top}
-use Rattle.pb_program.specs.Rules.{RuleValue}
 use Rattle.pb_program.specs.Transforms.{TransformValue}
 use Rattle.pb_program.specs.Trees.{ProgTransform, bare_prog, bare_rule, bare_transform}
 use Rattle.pb_program.specs.WellFormed.{IsWellFormed}
-use Rattle.pb_program.specs.declared.view.Read.{Read}
 use Rattle.pb_region.specs.Small.{IsSmallRead}
 use Rattle.pb_region.proofs.SmallLemmas.{small_rule}
 use Rattle.pb_check.specs.Accepting.{AcceptedValue}
 use Rattle.pb_frame.specs.declared.part.FramePart.{FramePart}
-use Rattle.pb_plan.specs.Boxes.{HasNodes}
 use Rattle.pb_plan.proofs.BoxLemmas.{steady}
 use Rattle.pb_plan.proofs.JobLemmas.{at_map, map_at}
 use Rattle.pb_plan.proofs.LinkedLemmas.{at_zip}

@@ -1,5 +1,5 @@
 -- What a run holds when it is made.
-use Rattle.std.proofs.Common.{◌≡◌, ◌∙◌, refl, sym, ap, subst, ℕ, ◌≤◌, ◌^◌, List, slice_get, Some}
+use Rattle.std.proofs.Common.{◌≡◌, ◌∙◌, refl, sym, subst, ℕ, ◌≤◌, ◌^◌, List, slice_get, Some}
 use Rattle.std.specs.List.{All, AllZip}
 use Rattle.pb_linear.specs.Sizes.{sizes_of}
 use Rattle.pb_linear.specs.declared.sizes.Sizes.{Sizes}

@@ -1,5 +1,5 @@
 -- The rectangles and the room of a step, as the code finds them.
-use Rattle.std.proofs.Common.{◌≡◌, ◌∙◌, sym, ap, subst, ℕ, ◌≤◌, List, [], length, map, get_or, slice_get, Some}
+use Rattle.std.proofs.Common.{◌≡◌, ◌∙◌, ap, subst, ℕ, ◌≤◌, List, [], length, map, get_or, slice_get, Some}
 use Rattle.std.specs.List.{All}
 use Rattle.pb_linear.specs.Sizes.{sizes_of}
 use Rattle.pb_program.specs.Trees.{bare_prog}

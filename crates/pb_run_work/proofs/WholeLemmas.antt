@@ -23,12 +23,12 @@ use Rattle.pb_eval.proofs.RegionLemmas.{gives_same, reads_same}
 use Rattle.pb_frame.specs.Choices.{IsInstance}
 use Rattle.pb_frame.specs.Frames.{JobValue, is_wide_rule}
 use Rattle.pb_frame.specs.declared.part.FramePart.{FramePart}
-use Rattle.pb_frame.proofs.PartLemmas.{of_part}
 use Rattle.pb_taskgraph.specs.Graphs.{TaskValue}
 use Rattle.pb_taskgraph.specs.Plans.{Plan, outcome_at}
 use Rattle.pb_plan.specs.Made.{IsMadeBy, jobs_for}
-use Rattle.pb_plan.proofs.BeforeLemmas.{first_part, home, parts, some_places}
+use Rattle.pb_plan.proofs.BeforeLemmas.{first_part, home, node_of, parts, some_places}
 use Rattle.pb_plan.proofs.JobLemmas.{part_of, placed}
+use Rattle.pb_plan.proofs.PieceLemmas.{IsPiece}
 use Rattle.pb_plan.proofs.WideLemmas.{applies_same}
 use Rattle.pb_solution.specs.Solutions.{stop_cell}
 use Rattle.pb_solution.proofs.OrderLemmas.{made_stop}
@@ -101,11 +101,11 @@ module _ (p : List ProgTransform) (found : List AnalysisValue) (config : ConfigV
   first : (q : FramePart) × Contains job.parts q
   first = first_part config w.number t f sizes origin.grain inst origin.at.valid origin.place job origin.there m some
 
-  amid : Contains all first.0
+  amid : IsPiece all first.0
   amid = home config w.number t f sizes origin.grain inst origin.at.valid origin.place job origin.there first.0 first.1
 
   node : NodeValue
-  node = (of_part w.number t f sizes inst config first.0 amid).0
+  node = (node_of config w.number t f sizes origin.grain inst origin.at.valid first.0 amid).0
 
   corner : Cell
   corner = record { matrix = node.matrix; x = first.0.rect.x0; y = first.0.rect.y0 }
@@ -119,7 +119,7 @@ module _ (p : List ProgTransform) (found : List AnalysisValue) (config : ConfigV
         is = origin.there;
         part = first.0;
         has = (at_in job.parts first.0 first.1).1;
-        holds = record { node = node; there = (of_part w.number t f sizes inst config first.0 amid).1; matrix = refl; place = record { left = omega arith; right = omega (arith, places.0); low = omega arith; high = omega (arith, places.1) } };
+        holds = record { node = node; there = (node_of config w.number t f sizes origin.grain inst origin.at.valid first.0 amid).1; matrix = refl; place = record { left = omega arith; right = omega (arith, places.0); low = omega arith; high = omega (arith, places.1) } };
       }
 
   s0 : Stop

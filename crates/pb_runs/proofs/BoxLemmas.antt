@@ -27,17 +27,18 @@ use Rattle.pb_check.specs.Ranked.{IsMadeCell}
 use Rattle.pb_check.proofs.FirstLemmas.{some_at, some_same}
 use Rattle.pb_calls.proofs.InsideLemmas.{view_within}
 use Rattle.pb_frame.specs.Choices.{IsInstance}
-use Rattle.pb_frame.specs.Frames.{HoldsCell, JobValue}
+use Rattle.pb_frame.specs.Frames.{JobValue}
 use Rattle.pb_frame.specs.declared.part.FramePart.{FramePart}
-use Rattle.pb_frame.proofs.PartLemmas.{held_area, held_chosen, held_made, of_part}
+use Rattle.pb_frame.proofs.PartLemmas.{held_area, held_chosen, held_made}
 use Rattle.pb_graph.specs.Nodes.{NodeValue}
 use Rattle.pb_links.specs.declared.places.Spot.{Spot}
 use Rattle.pb_links.proofs.LawLemmas.{before-shares}
 use Rattle.pb_plan.specs.Boxes.{boxes_by, part_area, part_box, part_boxes, shown_at, spot_of, whole_box}
 use Rattle.pb_plan.specs.Made.{IsMadeBy, jobs_for}
-use Rattle.pb_plan.proofs.BeforeLemmas.{at_box, at_part, boxed, first_part, home, lower_or_same, own_layer, parts, places, some_places, stands_before}
+use Rattle.pb_plan.proofs.BeforeLemmas.{at_box, at_part, boxed, first_part, home, lower_or_near, node_of, own_layer, parts, places, some_places, stands_before}
 use Rattle.pb_plan.proofs.JobLemmas.{part_of, placed}
-use Rattle.pb_plan.proofs.MadeLemmas.{chosen, made_by}
+use Rattle.pb_plan.proofs.MadeLemmas.{chosen, held_whole, made_by}
+use Rattle.pb_plan.proofs.PieceLemmas.{IsPiece}
 use Rattle.pb_plan.proofs.SpreadLemmas.{shown_is}
 use Rattle.pb_plan.proofs.WideLemmas.{applies_same, shown_same}
 use Rattle.pb_runs.specs.Steps.{Instance}
@@ -83,16 +84,16 @@ module _ (config : ConfigValue) (p : List ProgTransform) (i : Instance) (grain :
   abbrev WithinFor : Read → DeclValue → ℕ → ℕ → Type 0
   WithinFor q d x y = IsWithin (area_of i.sizes (pos x) (pos y) q d) (exact_value d.w i.sizes) (exact_value d.h i.sizes)
 
-  applies_at : (part : FramePart) → Contains all_parts part → (r : ProgRule) → slice_get t.rules part.rule ≡ Some r → (x y : ℕ) → HasPlace part.rect x y → Applies t.matrices r i.sizes (pos x) (pos y)
+  applies_at : (part : FramePart) → IsPiece all_parts part → (r : ProgRule) → slice_get t.rules part.rule ≡ Some r → (x y : ℕ) → HasPlace part.rect x y → Applies t.matrices r i.sizes (pos x) (pos y)
   applies_at part own r rule x y place =
-      let f = of_part i.number t i.found i.sizes inst config part own in
+      let f = node_of config i.number t i.found i.sizes grain inst at.valid part own in
       let c : Cell = record { matrix = f.0.matrix; x = x; y = y } in
-      let h : HoldsCell i.found.nodes part c = record { node = f.0; there = f.1; matrix = refl; place = place } in
-      let law = chosen config i.number t i.found i.sizes grain inst at.valid c (held_made config i.number t i.found i.sizes inst part c own h) in
-      let same : law.rule ≡ r = some_same law.rule r (sym law.there ∙ ap (slice_get t.rules) (held_chosen config i.number t i.found i.sizes inst part c own h) ∙ rule) in
+      let h = held_whole config i.number t i.found i.sizes grain inst part own c (record { node = f.0; there = f.1; matrix = refl; place = place }) in
+      let law = chosen config i.number t i.found i.sizes grain inst at.valid c (held_made config i.number t i.found i.sizes inst own.whole c own.among h) in
+      let same : law.rule ≡ r = some_same law.rule r (sym law.there ∙ ap (slice_get t.rules) (held_chosen config i.number t i.found i.sizes inst own.whole c own.among h ∙ own.rule) ∙ rule) in
       subst (λ (z : ProgRule). Applies t.matrices z i.sizes (pos x) (pos y)) same law.can.applies
 
-  within_at : (part : FramePart) → Contains all_parts part → (r : ProgRule) → slice_get t.rules part.rule ≡ Some r → (q : Read) (d : DeclValue) → Contains r.reads q → slice_get t.matrices q.matrix ≡ Some d → (x y : ℕ) → HasPlace part.rect x y → WithinFor q d x y
+  within_at : (part : FramePart) → IsPiece all_parts part → (r : ProgRule) → slice_get t.rules part.rule ≡ Some r → (q : Read) (d : DeclValue) → Contains r.reads q → slice_get t.matrices q.matrix ≡ Some d → (x y : ℕ) → HasPlace part.rect x y → WithinFor q d x y
   within_at part own r rule q d declared decl x y place =
       let j = at_in r.reads q declared in
       view_within p i.number t i.sizes at.well at.sound at.there part.rule r rule j.0 q d j.1 decl at.range (pos x) (pos y) (applies_at part own r rule x y place)
@@ -101,7 +102,7 @@ module _ (config : ConfigValue) (p : List ProgTransform) (i : Instance) (grain :
   abbrev EndsIn : Spot → Type 0
   EndsIn s = (d : DeclValue) → slice_get t.matrices s.base ≡ Some d → (s.rect.x1 ≤ natural (exact_value d.w i.sizes)) × (s.rect.y1 ≤ natural (exact_value d.h i.sizes))
 
-  part_ends : (part : FramePart) → Contains all_parts part → (r : ProgRule) → slice_get t.rules part.rule ≡ Some r → (q : Read) → Contains r.reads q → EndsIn (part_box t.matrices i.sizes part.rect q)
+  part_ends : (part : FramePart) → IsPiece all_parts part → (r : ProgRule) → slice_get t.rules part.rule ≡ Some r → (q : Read) → Contains r.reads q → EndsIn (part_box t.matrices i.sizes part.rect q)
   unfolding part_area
   part_ends part own r rule q declared d decl =
       let some = some_places config i.number t i.found i.sizes grain inst at.valid part own in
@@ -119,10 +120,10 @@ module _ (config : ConfigValue) (p : List ProgTransform) (i : Instance) (grain :
       let of = part_of t i.found.order grain all_parts j job (placed t i.found.order grain all_parts j job e) part.0 part.1 in
       let same = of.wide k some in
       let wide : is_wide r.kind ≡ true = sym (ap (λ o. option_map_or (λ (z : ProgRule). is_wide z.kind) o false) rule) ∙ same.1 in
-      let places = some_places config i.number t i.found i.sizes grain inst at.valid part.0 of.among in
+      let places = some_places config i.number t i.found i.sizes grain inst at.valid part.0 of.piece in
       let x = part.0.rect.x0 in
       let y = part.0.rect.y0 in
-      applies_same p i.number t at.well at.sound at.there k r rule wide i.sizes (pos x) (pos y) (pos 0) (pos 0) (applies_at part.0 of.among r (ap (slice_get t.rules) same.0 ∙ rule) x y (record { left = omega arith; right = omega (arith, places.0); low = omega arith; high = omega (arith, places.1) }))
+      applies_same p i.number t at.well at.sound at.there k r rule wide i.sizes (pos x) (pos y) (pos 0) (pos 0) (applies_at part.0 of.piece r (ap (slice_get t.rules) same.0 ∙ rule) x y (record { left = omega arith; right = omega (arith, places.0); low = omega arith; high = omega (arith, places.1) }))
 
   -- a view of a rule that makes more than a cell lies within its matrix
   pub whole_within : (j : ℕ) (job : JobValue) → slice_get jobs j ≡ Some job → (k : ℕ) → job.rule ≡ Some k → (r : ProgRule) → slice_get t.rules k ≡ Some r → (q : Read) (d : DeclValue) → Contains r.reads q → slice_get t.matrices q.matrix ≡ Some d
@@ -132,10 +133,10 @@ module _ (config : ConfigValue) (p : List ProgTransform) (i : Instance) (grain :
       let of = part_of t i.found.order grain all_parts j job (placed t i.found.order grain all_parts j job e) part.0 part.1 in
       let same = of.wide k some in
       let wide : is_wide r.kind ≡ true = sym (ap (λ o. option_map_or (λ (z : ProgRule). is_wide z.kind) o false) rule) ∙ same.1 in
-      let places = some_places config i.number t i.found i.sizes grain inst at.valid part.0 of.among in
+      let places = some_places config i.number t i.found i.sizes grain inst at.valid part.0 of.piece in
       let x = part.0.rect.x0 in
       let y = part.0.rect.y0 in
-      let here = within_at part.0 of.among r (ap (slice_get t.rules) same.0 ∙ rule) q d declared decl x y (record { left = omega arith; right = omega (arith, places.0); low = omega arith; high = omega (arith, places.1) }) in
+      let here = within_at part.0 of.piece r (ap (slice_get t.rules) same.0 ∙ rule) q d declared decl x y (record { left = omega arith; right = omega (arith, places.0); low = omega arith; high = omega (arith, places.1) }) in
       let area : area_of i.sizes (pos x) (pos y) q d ≡ shown_at t.matrices i.sizes q 0 0 = shown_same p i.number t at.well at.sound at.there k r rule wide q d declared i.sizes (pos x) (pos y) (pos 0) (pos 0) ∙ sym (shown_is t.matrices i.sizes q d decl 0 0) in
       subst (λ (a : Area). IsWithin a (exact_value d.w i.sizes) (exact_value d.h i.sizes)) area here
 
@@ -186,8 +187,8 @@ module _ (config : ConfigValue) (p : List ProgTransform) (i : Instance) (grain :
             ⊎_elim
                 (λ lower. absurd (let own = own_layer config i.number t i.found i.sizes grain inst at.valid j job e d.part (subst (λ (w : JobValue). Contains w.parts d.part) jobs_same of) in let other = own_layer config i.number t i.found i.sizes grain inst at.valid j job e boxes.part boxes.of in omega (arith, lower, own, other)))
                 (λ block. block.0)
-                (lower_or_same config i.number t i.found i.sizes grain inst at.valid j job e s boxes d.part.node d.holds.node d.holds.there (base ∙ sym d.holds.matrix) c.x c.y place
-                (held_area config i.number t i.found i.sizes inst d.part c (home config i.number t i.found i.sizes grain inst at.valid u d.job d.is d.part of) d.holds)),
+                (lower_or_near config i.number t i.found i.sizes grain inst at.valid j job e s boxes d.part.node d.holds.node d.holds.there (base ∙ sym d.holds.matrix) c.x c.y place
+                (let own = home config i.number t i.found i.sizes grain inst at.valid u d.job d.is d.part of in held_area config i.number t i.found i.sizes inst own.whole c own.among (held_whole config i.number t i.found i.sizes grain inst d.part own c d.holds))),
           )
       decide u l d false other =
           inl (stands_before config i.number t i.found i.sizes grain inst at.valid j u ((before-shares (places config i.number t i.found i.sizes grain inst at.valid) j u).1 (

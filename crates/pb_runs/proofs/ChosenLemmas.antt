@@ -21,9 +21,10 @@ use Rattle.pb_check.proofs.LawfulLemmas.{at_numbered, both, numbered_at}
 use Rattle.pb_frame.specs.Frames.{JobValue, chosen_wides, corner_of, in_layer, is_cell_rule, is_wide_rule}
 use Rattle.pb_frame.specs.declared.part.FramePart.{FramePart}
 use Rattle.pb_frame.proofs.PartLemmas.{corner_made, of_part}
-use Rattle.pb_plan.proofs.BeforeLemmas.{among_rules, first_part, own_layer, parts}
+use Rattle.pb_plan.proofs.BeforeLemmas.{among_rules, first_part, node_of, own_layer, parts}
 use Rattle.pb_plan.proofs.JobLemmas.{IsBlockAt, IsPlaced, IsWideAt, kind_of, part_of, placed, same_place}
 use Rattle.pb_plan.proofs.MadeLemmas.{made_by, made_rule}
+use Rattle.pb_plan.proofs.PieceLemmas.{IsPiece}
 use Rattle.pb_plan.proofs.RiseLemmas.{rises_filter, rises_numbered, rises_one, rises_range}
 use Rattle.pb_plan.proofs.OnceLemmas.{Once, once_flat}
 use Rattle.pb_recursion.specs.Counts.{Counted, Counter, all_of, both as sum, chosen_plans, is_chosen_plan, is_plan_kind, nothing, plan_count}
@@ -142,10 +143,10 @@ module _ (config : ConfigValue) (p : List ProgTransform) (i : Instance) (grain :
       in_flat (λ (q : ℕ × ProgRule). if is_wide q.1.kind then q.0 ∷ [] else []) (enumerate_from 0 t.rules) (0 + k, r) k e
       (subst (λ w. Contains (if w then (0 + k) ∷ [] else []) k) (sym wide) (subst (λ n. Contains (n ∷ []) k) (sym number) (in_head k [])))
 
-  same_layer : (k : ℕ) (r : ProgRule) → slice_get t.rules k ≡ Some r → is_wide r.kind ≡ true → (q s : FramePart) → Contains all_parts q → Contains all_parts s → q.rule ≡ k → s.rule ≡ k → slice_index i.found.order.layer q.node ≡ slice_index i.found.order.layer s.node
+  same_layer : (k : ℕ) (r : ProgRule) → slice_get t.rules k ≡ Some r → is_wide r.kind ≡ true → (q s : FramePart) → IsPiece all_parts q → IsPiece all_parts s → q.rule ≡ k → s.rule ≡ k → slice_index i.found.order.layer q.node ≡ slice_index i.found.order.layer s.node
   same_layer k r there wide q s in_q in_s rule_q rule_s =
-      let fq = of_part i.number t i.found i.sizes (inst config p i grain at) config q in_q in
-      let fs = of_part i.number t i.found i.sizes (inst config p i grain at) config s in_s in
+      let fq = node_of config i.number t i.found i.sizes grain (inst config p i grain at) at.valid q in_q in
+      let fs = node_of config i.number t i.found i.sizes grain (inst config p i grain at) at.valid s in_s in
       let aq = among_rules config i.number t i.found i.sizes grain (inst config p i grain at) at.valid q in_q fq.0 fq.1 r (ap (slice_get t.rules) rule_q ∙ there) in
       let as_ = among_rules config i.number t i.found i.sizes grain (inst config p i grain at) at.valid s in_s fs.0 fs.1 r (ap (slice_get t.rules) rule_s ∙ there) in
       let analysis : IsAnalysis t i.found = at.found in
@@ -175,14 +176,14 @@ module _ (config : ConfigValue) (p : List ProgTransform) (i : Instance) (grain :
           let s = first_part config i.number t i.found i.sizes grain (inst config p i grain at) at.valid l y at_l k rule_y in
           let pq = part_of t i.found.order grain all_parts j x px q.0 q.1 in
           let ps = part_of t i.found.order grain all_parts l y py s.0 s.1 in
-          sym (own_layer config i.number t i.found i.sizes grain (inst config p i grain at) at.valid j x at_j q.0 q.1) ∙ same_layer k r there wide q.0 s.0 pq.among ps.among (pq.wide k rule_x).0 (ps.wide k rule_y).0 ∙ own_layer config i.number t i.found i.sizes grain (inst config p i grain at) at.valid l y at_l s.0 s.1
+          sym (own_layer config i.number t i.found i.sizes grain (inst config p i grain at) at.valid j x at_j q.0 q.1) ∙ same_layer k r there wide q.0 s.0 pq.piece ps.piece (pq.wide k rule_x).0 (ps.wide k rule_y).0 ∙ own_layer config i.number t i.found i.sizes grain (inst config p i grain at) at.valid l y at_l s.0 s.1
 
       wides : ℕ → List ℕ
       wides n = chosen_wides t (in_layer i.found.order all_parts n)
 
       by : ((m : ℕ) × IsWideAt t i.found.order grain all_parts px.layer px.place x m) ⊎ IsBlockAt t i.found.order grain all_parts px.layer px.value px.place x → ((m : ℕ) × IsWideAt t i.found.order grain all_parts py.layer py.place y m) ⊎ IsBlockAt t i.found.order grain all_parts py.layer py.value py.place y → j ≡ l
-      by (inr b) w = absurd (let wrong : Some k ≡ None = sym rule_x ∙ ap (λ (c : JobValue). c.rule) b.1 in cc)
-      by (inl u) (inr b) = absurd (let wrong : Some k ≡ None = sym rule_y ∙ ap (λ (c : JobValue). c.rule) b.1 in cc)
+      by (inr b) w = absurd (let wrong : Some k ≡ None = sym rule_x ∙ ap (λ (c : JobValue). c.rule) b.same in cc)
+      by (inl u) (inr b) = absurd (let wrong : Some k ≡ None = sym rule_y ∙ ap (λ (c : JobValue). c.rule) b.same in cc)
       by (inl u) (inl w) =
           let rule_u : u.0 ≡ k = (let e : Some u.0 ≡ Some k = sym (ap (λ (c : JobValue). c.rule) u.1.1) ∙ rule_x in cc) in
           let rule_w : w.0 ≡ k = (let e : Some w.0 ≡ Some k = sym (ap (λ (c : JobValue). c.rule) w.1.1) ∙ rule_y in cc) in
@@ -261,10 +262,10 @@ module _ (config : ConfigValue) (p : List ProgTransform) (i : Instance) (grain :
       let j = at_in all_jobs job.0 job.1 in
       let part = first_part config i.number t i.found i.sizes grain (inst config p i grain at) at.valid j.0 job.0 j.1 b.0 is.rule in
       let of = part_of t i.found.order grain all_parts j.0 job.0 (placed t i.found.order grain all_parts j.0 job.0 j.1) part.0 part.1 in
-      let f = of_part i.number t i.found i.sizes (inst config p i grain at) config part.0 of.among in
+      let f = of_part i.number t i.found i.sizes (inst config p i grain at) config of.piece.whole of.piece.among in
       let corner = corner_of f.0 i.sizes in
-      let made = corner_made i.number t i.found i.sizes (inst config p i grain at) part.0.node f.0 f.1 f.2 in
-      let rule : chosen_rule config i.number t i.sizes corner ≡ b.0 = sym (ap (λ (q : FramePart). q.rule) f.3) ∙ (of.wide b.0 is.rule).0 in
+      let made = corner_made i.number t i.found i.sizes (inst config p i grain at) of.piece.whole.node f.0 f.1 f.2 in
+      let rule : chosen_rule config i.number t i.sizes corner ≡ b.0 = sym (ap (λ (q : FramePart). q.rule) f.3) ∙ of.piece.rule ∙ (of.wide b.0 is.rule).0 in
       let number : 0 + b.0 ≡ b.0 = omega arith in
       in_filter (is_chosen_plan config i.number t i.sizes) (enumerate_from 0 t.rules) b (subst (λ n. Contains (enumerate_from 0 t.rules) (n, b.1)) number (at_numbered 0 t.rules b.0 b.1 is.there))
       (both (is_plan_kind b.1.kind) _ is.plan (any_some (λ c. chosen_rule config i.number t i.sizes c == b.0) (made_cells t i.sizes) corner (is_made corner made) (eq-eqb (chosen_rule config i.number t i.sizes corner) b.0 rule)))

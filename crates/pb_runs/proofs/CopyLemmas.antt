@@ -41,13 +41,14 @@ use Rattle.pb_check.proofs.FirstLemmas.{all_at}
 use Rattle.pb_calls.proofs.InsideLemmas.{output_within}
 use Rattle.pb_frame.specs.Frames.{HoldsCell, JobValue, cut_by, has_cell, has_place, part_of as frame_part, within}
 use Rattle.pb_frame.specs.declared.part.FramePart.{FramePart}
-use Rattle.pb_frame.proofs.PartLemmas.{of_part, one_part}
+use Rattle.pb_frame.proofs.PartLemmas.{one_part}
 use Rattle.pb_links.specs.declared.places.Spot.{Spot}
 use Rattle.pb_plan.specs.Boxes.{boxes_by, spot_of}
 use Rattle.pb_plan.specs.Made.{IsMadeBy}
-use Rattle.pb_plan.proofs.BeforeLemmas.{home, parts}
+use Rattle.pb_plan.proofs.BeforeLemmas.{home, node_of, parts}
 use Rattle.pb_plan.proofs.JobLemmas.{at_map, map_at, part_of, placed, rising_parts}
-use Rattle.pb_plan.proofs.MadeLemmas.{chosen, made_cell, made_rule}
+use Rattle.pb_plan.proofs.MadeLemmas.{chosen, held_whole, made_cell, made_rule}
+use Rattle.pb_plan.proofs.PieceLemmas.{IsPiece}
 use Rattle.pb_plan.proofs.RiseLemmas.{Rises, rises_filter, rises_map, rises_numbered, rises_one}
 use Rattle.pb_plan.proofs.SpreadLemmas.{in_rect, rect_in}
 use Rattle.pb_plan.proofs.WideLemmas.{applies_same, shown_same}
@@ -169,7 +170,7 @@ module _ (config : ConfigValue) (ms : List Outcomes) (p : List ProgTransform) (i
     -- a place of a part holds a cell
     part_holds : (part : FramePart) → Contains job.parts part → (x y : ℕ) → HasPlace part.rect x y → IsHeld (record { matrix = (spot_of i.found.nodes part).base; x = x; y = y })
     part_holds part of x y place =
-        let n = of_part i.number t i.found i.sizes (inst config p i grain at) config part (home config i.number t i.found i.sizes grain (inst config p i grain at) at.valid j job e part of) in
+        let n = node_of config i.number t i.found i.sizes grain (inst config p i grain at) at.valid part (home config i.number t i.found i.sizes grain (inst config p i grain at) at.valid j job e part of) in
         record { part = part; of = of; holds = record { node = n.0; there = n.1; matrix = sym (base_is part n.0 n.1); place = place } }
 
     -- a held cell, by the spot of its part
@@ -240,7 +241,7 @@ module _ (config : ConfigValue) (ms : List Outcomes) (p : List ProgTransform) (i
             let whole = map_at (within (out_rect o)) (filter (is_part_of i o) job.parts) s.piece cut.0 cut.1 in
             let part = whole.0 in
             let among = filter_in (is_part_of i o) job.parts part (in_at (filter (is_part_of i o) job.parts) s.piece part whole.1) in
-            let node = of_part i.number t i.found i.sizes (inst config p i grain at) config part (home config i.number t i.found i.sizes grain (inst config p i grain at) at.valid j job e part among.0) in
+            let node = node_of config i.number t i.found i.sizes grain (inst config p i grain at) at.valid part (home config i.number t i.found i.sizes grain (inst config p i grain at) at.valid j job e part among.0) in
             let spot : spot_of i.found.nodes (within (out_rect o) part) ≡ z = ap (spot_of i.found.nodes) whole.2 ∙ cut.2 in
             let places = cut_place (out_rect o) part.rect s.x s.y (subst (λ (q : Spot). HasPlace q.rect s.x s.y) (sym spot) is.1) in
             let base : (spot_of i.found.nodes part).base ≡ s.base = ap (λ (q : Spot). q.base) spot ∙ sym is.0 in
@@ -263,10 +264,16 @@ module _ (config : ConfigValue) (ms : List Outcomes) (p : List ProgTransform) (i
         (subst (λ q. IsSomeAnd q (λ (z : Spot). (c.matrix ≡ z.base) × HasPlace z.rect c.x c.y)) (sym (at_map (spot_of i.found.nodes) (output_parts i job o) k.0 (within (out_rect o) h.part) (at_map (within (out_rect o)) (filter (is_part_of i o) job.parts) k.0 h.part k.1))) (sym base, cut)))
 
     -- each once
-    same_part : (c d : Cell) → c ≡ d → (h : IsHeld c) (k : IsHeld d) → h.part ≡ k.part
-    same_part c d same h k =
-        one_part config i.number t i.found i.sizes (inst config p i grain at) d h.part k.part (home config i.number t i.found i.sizes grain (inst config p i grain at) at.valid j job e h.part h.of) (home config i.number t i.found i.sizes grain (inst config p i grain at) at.valid j job e k.part k.of)
-        (subst (HoldsCell i.found.nodes h.part) same h.holds) k.holds
+    own_piece : (c : Cell) (h : IsHeld c) → IsPiece all_parts h.part
+    own_piece c h = home config i.number t i.found i.sizes grain (inst config p i grain at) at.valid j job e h.part h.of
+
+    whole_held : (c : Cell) (h : IsHeld c) → HoldsCell i.found.nodes (own_piece c h).whole c
+    whole_held c h = held_whole config i.number t i.found i.sizes grain (inst config p i grain at) h.part (own_piece c h) c h.holds
+
+    same_node : (c d : Cell) → c ≡ d → (h : IsHeld c) (k : IsHeld d) → h.part.node ≡ k.part.node
+    same_node c d same h k =
+        sym (own_piece c h).node ∙ ap (λ (q : FramePart). q.node) (one_part config i.number t i.found i.sizes (inst config p i grain at) d (own_piece c h).whole (own_piece d k).whole (own_piece c h).among (own_piece d k).among
+        (subst (HoldsCell i.found.nodes (own_piece c h).whole) same (whole_held c h)) (whole_held d k)) ∙ (own_piece d k).node
 
     copy_once : (o : Read) → Once (copy_cells o)
     copy_once o = once_map (stop_number i) (walk_of [] (pieces o)) (λ k l s at_k at_l. walked_once [] (pieces o) k l s at_k at_l) (λ s r hs hr same. one s r (copied_is o s hs) (copied_is o r hr) same)
@@ -277,7 +284,7 @@ module _ (config : ConfigValue) (ms : List Outcomes) (p : List ProgTransform) (i
         one : (s r : Stop) → IsCopied o s → IsCopied o r → stop_number i s ≡ stop_number i r → s ≡ r
         one s r ks kr same =
             let cells = once (stop_cell s) (stop_cell r) (held_cell (stop_cell s) ks.held) (held_cell (stop_cell r) kr.held) same in
-            let node : ks.held.part.node ≡ kr.held.part.node = ap (λ (q : FramePart). q.node) (same_part (stop_cell s) (stop_cell r) cells ks.held kr.held) in
+            let node : ks.held.part.node ≡ kr.held.part.node = same_node (stop_cell s) (stop_cell r) cells ks.held kr.held in
             let piece = rises_one (λ (q : FramePart). q.node) (filter (is_part_of i o) job.parts) rise s.piece r.piece ks.held.part kr.held.part ks.index kr.index node in
             λ k. record { piece = piece k; base = (cells k).matrix; x = (cells k).x; y = (cells k).y }
 
@@ -420,7 +427,7 @@ module _ (config : ConfigValue) (ms : List Outcomes) (p : List ProgTransform) (i
             let cut = cut_by (out_rect o) q.0.rect in
             let tests = and_parts (nat_lt cut.x0 cut.x1) (nat_lt cut.y0 cut.y1) on.1 in
             let places = cut_place (out_rect o) q.0.rect cut.x0 cut.y0 (record { left = omega arith; right = test_below cut.x0 cut.x1 tests.0; low = omega arith; high = test_below cut.y0 cut.y1 tests.1 }) in
-            let node = of_part i.number t i.found i.sizes (inst config p i grain at) config q.0 (home config i.number t i.found i.sizes grain (inst config p i grain at) at.valid j job e q.0 among.0) in
+            let node = node_of config i.number t i.found i.sizes grain (inst config p i grain at) at.valid q.0 (home config i.number t i.found i.sizes grain (inst config p i grain at) at.valid j job e q.0 among.0) in
             let right : cut.x1 ≤ (out_rect o).x1 = omega arith in
             let high : cut.y1 ≤ (out_rect o).y1 = omega arith in (
               record { matrix = node.0.matrix; x = cut.x0; y = cut.y0 },

@@ -1,7 +1,7 @@
 -- What a step may read when it makes a cell, and that what it makes is small.
 use Rattle.std.proofs.Common.{◌≡◌, ◌∙◌, refl, sym, ap, subst, inl, inr, ◌⊎◌, ⊎_elim, ℕ, zero, suc, ◌+◌, ◌-◌, ◌<◌, ◌≤◌, List, [], ◌∷◌, ◌++◌, length, get_or, map, take, slice_get, Option, Some, None, arith}
 use Rattle.std.specs.Prelude.{slice_index_or}
-use Rattle.std.specs.List.{All, AllByRecursion, Contains, flat_map}
+use Rattle.std.specs.List.{All, Contains, flat_map}
 use Rattle.std.specs.Option.{option_map_or}
 use Rattle.std.proofs.lemmas.Bool.{cases_lt}
 use Rattle.std.proofs.lemmas.Option.{slice_get-get_or}
@@ -9,7 +9,6 @@ use Rattle.pb_values.specs.declared.outcome.Outcome.{Outcome}
 use Rattle.pb_values.specs.declared.shape.TheConstants.{MOST_SIDE}
 use Rattle.pb_graph.specs.Ranks.{Rank}
 use Rattle.pb_program.specs.Configs.{ConfigValue}
-use Rattle.pb_program.specs.Forms.{DeclValue}
 use Rattle.pb_program.specs.Trees.{ProgRule, ProgTransform}
 use Rattle.pb_base.proofs.ListLemmas.{at_in, flat_in, in_at, in_none, map_in}
 use Rattle.pb_links.specs.declared.places.Spot.{Spot}
@@ -22,7 +21,7 @@ use Rattle.pb_model.proofs.ReadLemmas.{reads_are}
 use Rattle.pb_calls.proofs.InsideLemmas.{reads_inside}
 use Rattle.pb_check.specs.Orders.{AnalysisValue}
 use Rattle.pb_check.specs.Ranked.{HasRank, IsMadeCell, StandsBelow}
-use Rattle.pb_check.proofs.FirstLemmas.{all_at, some_at, some_same}
+use Rattle.pb_check.proofs.FirstLemmas.{some_same}
 use Rattle.pb_check.proofs.WaitLemmas.{chosen_falls}
 use Rattle.pb_frame.specs.Choices.{IsInstance}
 use Rattle.pb_frame.specs.Frames.{JobValue}
@@ -40,8 +39,8 @@ use Rattle.pb_solution.proofs.RankLemmas.{stands_before}
 use Rattle.pb_solution.proofs.RuleLemmas.{all_mapped, equation_small}
 use Rattle.pb_runs.specs.Laws.{IsEntered, MayUse}
 use Rattle.pb_runs.specs.Placed.{SpotCell, greatest_side, outcome_of, total}
-use Rattle.pb_runs.specs.Right.{ReadsNumber, no_plans, source_number}
-use Rattle.pb_runs.specs.Steps.{Copied, Failed, Instance, Step, boxes_of, by_copy, by_job, by_trap, cells_in, cells_of, copied_stops, number_at, places_of, stop_number}
+use Rattle.pb_runs.specs.Right.{no_plans, source_number}
+use Rattle.pb_runs.specs.Steps.{Copied, Instance, Step, boxes_of, by_copy, by_job, by_trap, cells_of, copied_stops, number_at, places_of, stop_number}
 use Rattle.pb_runs.proofs.BaseLemmas.{total_is}
 use Rattle.pb_runs.proofs.BoxLemmas.{inst}
 use Rattle.pb_runs.proofs.LinkLemmas.{in_steps, links_go_back, one_step, reads_boxed, reads_linked}

@@ -16,12 +16,11 @@ use Rattle.pb_check.proofs.FirstLemmas.{some_same}
 use Rattle.pb_frame.specs.Choices.{IsInstance}
 use Rattle.pb_frame.specs.Frames.{JobValue}
 use Rattle.pb_frame.specs.declared.part.FramePart.{FramePart}
-use Rattle.pb_frame.proofs.PartLemmas.{of_part}
 use Rattle.pb_links.specs.declared.places.Spot.{Spot}
 use Rattle.pb_taskgraph.specs.Graphs.{TaskValue, cells_of}
 use Rattle.pb_plan.specs.Boxes.{spot_of}
 use Rattle.pb_plan.specs.Made.{IsMadeBy, jobs_for}
-use Rattle.pb_plan.proofs.BeforeLemmas.{home}
+use Rattle.pb_plan.proofs.BeforeLemmas.{home, node_of}
 use Rattle.pb_plan.proofs.JobLemmas.{at_map, map_at}
 use Rattle.pb_plan.proofs.MadeLemmas.{made_cell, made_once}
 use Rattle.pb_views.specs.Layouts.{AreInARow}
@@ -65,7 +64,7 @@ module _ (config : ConfigValue) (number : ℕ) (t : ProgTransform) (a : Analysis
         by None none is = absurd is
         by (Some p) some is =
             let part = map_at (spot_of a.nodes) job.parts s.piece p some in
-            let node = of_part number t a sizes i config part.0 (home config number t a sizes grain i valid j job e part.0 (in_at job.parts s.piece part.0 part.1)) in
+            let node = node_of config number t a sizes grain i valid part.0 (home config number t a sizes grain i valid j job e part.0 (in_at job.parts s.piece part.0 part.1)) in
             record {
               job = job;
               is = e;

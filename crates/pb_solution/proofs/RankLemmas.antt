@@ -1,5 +1,5 @@
 -- In a job that makes its cells one by one, a cell of lower rank stands before.
-use Rattle.std.proofs.Common.{◌≡◌, ◌∙◌, refl, sym, ap, subst, inl, inr, ◌⊎◌, ⊎_elim, ℕ, ◌≤◌, ◌<◌, ℤ, pos, ◌<ℤ◌, List, slice_get, slice_index, Some, None, arith}
+use Rattle.std.proofs.Common.{◌≡◌, ◌∙◌, refl, sym, ap, subst, inl, inr, ◌⊎◌, ⊎_elim, ℕ, ◌≤◌, ◌<◌, pos, ◌<ℤ◌, List, slice_get, slice_index, Some, None, arith}
 use Rattle.std.specs.List.{Contains}
 use Rattle.std.proofs.lemmas.Bool.{cases_lt}
 use Rattle.std.proofs.lemmas.Int.{ints}
@@ -10,7 +10,7 @@ use Rattle.pb_program.specs.Trees.{ProgTransform}
 use Rattle.pb_base.proofs.ListLemmas.{at_in, in_at}
 use Rattle.pb_model.specs.Cells.{Cell}
 use Rattle.pb_check.specs.Orders.{AnalysisValue}
-use Rattle.pb_check.specs.Ranked.{HasRank, IsMadeCell, StandsBelow}
+use Rattle.pb_check.specs.Ranked.{HasRank, IsIn, IsMadeCell, StandsBelow}
 use Rattle.pb_check.proofs.FirstLemmas.{some_same}
 use Rattle.pb_check.proofs.RankedLemmas.{covered_is}
 use Rattle.pb_frame.specs.Choices.{IsInstance}
@@ -19,7 +19,7 @@ use Rattle.pb_frame.proofs.PartLemmas.{held_in}
 use Rattle.pb_plan.specs.Made.{IsMadeBy, jobs_for}
 use Rattle.pb_plan.proofs.BeforeLemmas.{own_layer, parts}
 use Rattle.pb_plan.proofs.JobLemmas.{IsBlockAt, IsPlaced, IsWideAt, kind_of, placed}
-use Rattle.pb_plan.proofs.MadeLemmas.{among, made_cell}
+use Rattle.pb_plan.proofs.MadeLemmas.{held_whole, made_cell, piece_of}
 use Rattle.pb_walk.specs.Orders.{IsEarlier, rank_of}
 use Rattle.pb_walk.specs.declared.stop.Stop.{Stop}
 use Rattle.pb_walk.proofs.WalkLemmas.{walk_rises}
@@ -63,7 +63,7 @@ module _ (config : ConfigValue) (number : ℕ) (t : ProgTransform) (a : Analysis
       where
         by : (p : IsPlaced t a.order grain (parts config number t a sizes grain i valid) j job) → ((m : ℕ) × IsWideAt t a.order grain (parts config number t a sizes grain i valid) p.layer p.place job m) ⊎ IsBlockAt t a.order grain (parts config number t a sizes grain i valid) p.layer p.value p.place job → p.layer ≡ job.layer
         by p (inl w) = sym (ap (λ (q : JobValue). q.layer) w.1.1)
-        by p (inr b) = sym (ap (λ (q : JobValue). q.layer) b.1)
+        by p (inr b) = sym (ap (λ (q : JobValue). q.layer) b.same)
 
     rank_is : (d : Cell) (l : ℕ) (m : IsMadeBy jobs a.nodes d j l) → job.rule ≡ None → (piece : ℕ) → rank_in a.order m.part.node (pos d.x) (pos d.y) ≡ rank_of job.layer (steps_by a.order.layers job.layer job.rule) (record { piece = piece; base = d.matrix; x = d.x; y = d.y })
     rank_is d l m none piece =
@@ -72,8 +72,12 @@ module _ (config : ConfigValue) (number : ℕ) (t : ProgTransform) (a : Analysis
         let layer : slice_index a.order.layer m.part.node ≡ job.layer = own_layer config number t a sizes grain i valid j job e m.part here ∙ layer_is none in
         ap (λ n. rank_by n (steps_at a.order.layers n) (pos d.x) (pos d.y)) layer ∙ ap (λ o. rank_by job.layer (steps_by a.order.layers job.layer o) (pos d.x) (pos d.y)) (sym none)
 
+    -- its segment holds it
+    held_here : (d : Cell) (l : ℕ) (m : IsMadeBy jobs a.nodes d j l) → IsIn a.nodes sizes d m.part.node
+    held_here d l m = let own = piece_of config number t a sizes grain i d j l m in subst (IsIn a.nodes sizes d) own.node (held_in config number t a sizes i own.whole d own.among (held_whole config number t a sizes grain i m.part own d m.holds))
+
     has_rank : (d : Cell) (l : ℕ) (m : IsMadeBy jobs a.nodes d j l) → HasRank t a sizes d (rank_in a.order m.part.node (pos d.x) (pos d.y))
-    has_rank d l m = record { segment = m.part.node; holds = held_in config number t a sizes i m.part d (among config number t a sizes grain i d j l m) m.holds; is = refl }
+    has_rank d l m = record { segment = m.part.node; holds = held_here d l m; is = refl }
 
     -- a cell that the job makes, of lower rank, is a stop before
     pub stands_before : (d : Cell) (l : ℕ) (m : IsMadeBy jobs a.nodes d j l) → job.rule ≡ None → ((rank : Rank) → HasRank t a sizes c rank → StandsBelow t a sizes rank d)
@@ -98,7 +102,7 @@ module _ (config : ConfigValue) (number : ℕ) (t : ProgTransform) (a : Analysis
         below_is : StandsBelow t a sizes (rank_in a.order of_job.part.node (pos c.x) (pos c.y)) d → IsBelow rank_d rank_c
         below_is b =
             let made = made_cell config number t a sizes grain i d j l m in
-            let one = (covered_is i.program number t sizes i.well_formed i.sound i.there a i.found d made b.has.segment b.has.holds).alone m.part.node (held_in config number t a sizes i m.part d (among config number t a sizes grain i d j l m) m.holds) in
+            let one = (covered_is i.program number t sizes i.well_formed i.sound i.there a i.found d made b.has.segment b.has.holds).alone m.part.node (held_here d l m) in
             let own : b.own ≡ rank_d = b.has.is ∙ ap (λ u. rank_in a.order u (pos d.x) (pos d.y)) (sym one) ∙ rank_is d l m none l in
             subst (λ q. IsBelow rank_d q) (rank_is c s.piece of_job none s.piece) (subst (λ q. IsBelow q (rank_in a.order of_job.part.node (pos c.x) (pos c.y))) own b.below)
 

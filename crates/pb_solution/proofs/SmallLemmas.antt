@@ -1,55 +1,31 @@
 -- The outcomes of a run are small.
-use Rattle.std.proofs.Common.{◌≡◌, ◌∙◌, refl, sym, ap, subst, inl, inr, ◌⊎◌, ⊎_elim, ℕ, zero, suc, ◌+◌, ◌-◌, ◌*◌, ◌≤◌, ◌<◌, ◌^◌, ℤ, pos, negsuc, ◌-ℤ◌, ◌≤ℤ◌, ◌<ℤ◌, Bool, true, false, ◌&&◌, List, [], ◌∷◌, length, map, drop, get_or, slice_get, Option, Some, None, arith}
-use Rattle.std.specs.Prelude.{FitsSigned, IfOk, Result, Ok, Err, nat_lt, slice_index_or, unwrap_or}
-use Rattle.std.specs.Int.{w64}
+use Rattle.std.proofs.Common.{◌≡◌, ◌∙◌, refl, sym, ap, subst, inl, inr, ◌⊎◌, ⊎_elim, ℕ, zero, suc, ◌+◌, ◌-◌, ◌*◌, ◌≤◌, ◌<◌, ℤ, pos, negsuc, ◌<ℤ◌, Bool, true, false, ◌&&◌, List, [], ◌∷◌, length, map, drop, get_or, slice_get, Option, Some, None, arith}
+use Rattle.std.specs.Prelude.{nat_lt, slice_index_or, unwrap_or}
 use Rattle.std.specs.List.{All, AllByRecursion, Contains, flat_map, range_with_len}
-use Rattle.std.specs.Option.{option_map, option_map_or, option_or}
+use Rattle.std.specs.Option.{option_map, option_or}
 use Rattle.std.proofs.Math.Bool.{cond}
 use Rattle.std.proofs.lemmas.Bool.{cases_lt}
-use Rattle.std.proofs.lemmas.Bool.Decides.{nat_tests}
 use Rattle.std.proofs.lemmas.Int.{ints}
-use Rattle.std.proofs.lemmas.Option.{slice_get-get_or, slice_get_within}
+use Rattle.std.proofs.lemmas.Option.{slice_get-get_or}
 use Rattle.pb_linear.specs.Numbers.{exact_value}
-use Rattle.pb_linear.specs.Sizes.{InRange, leasts_of}
-use Rattle.pb_values.specs.declared.outcome.Kind.{Kind}
 use Rattle.pb_values.specs.declared.outcome.Outcome.{Outcome}
-use Rattle.pb_values.specs.declared.outcome.Outcome.TheVariants.{Value, Trapped}
-use Rattle.pb_values.specs.declared.outcome.Trap.{Trap}
-use Rattle.pb_values.specs.declared.shape.TheConstants.{MOST_SIDE}
 use Rattle.pb_values.specs.declared.view.View.{View}
 use Rattle.pb_base.specs.Systems.{all_there, made, solved}
-use Rattle.pb_base.proofs.ListLemmas.{at_in, flat_in, in_at, in_head, in_tail, map_in, range_in}
-use Rattle.pb_program.specs.Areas.{Area, Span, area_of, from_start}
-use Rattle.pb_program.specs.Conditions.{Applies}
+use Rattle.pb_base.proofs.ListLemmas.{at_in, flat_in, in_at, map_in, range_in}
 use Rattle.pb_program.specs.Configs.{ConfigValue}
 use Rattle.pb_program.specs.Forms.{DeclValue}
-use Rattle.pb_program.specs.Stmts.{stmts}
 use Rattle.pb_program.specs.Trees.{ProgRule, ProgTransform}
-use Rattle.pb_program.specs.WellFormed.{IsTransform}
-use Rattle.pb_program.specs.declared.rule.RuleKind.{RuleKind}
 use Rattle.pb_program.specs.declared.rule.RuleKind.TheVariants as kind
-use Rattle.pb_program.specs.declared.view.Read.{Read}
-use Rattle.pb_program.specs.declared.view.ReadView.{ReadView}
-use Rattle.pb_program.specs.declared.view.ReadView.TheVariants as view
-use Rattle.pb_region.specs.Within.{IsWithin}
-use Rattle.pb_region.proofs.SmallLemmas.{at_place}
-use Rattle.pb_model.specs.Bodies.{Store, left_by, outputs_from}
-use Rattle.pb_model.specs.Calls.{Outcomes, Plans, call_of, cell_equation, cell_outcome, cell_reads, equations, in_matrices, made_by, made_cells, matrix_cells, no_outcome, rule_of}
+use Rattle.pb_model.specs.Calls.{Outcomes, Plans, call_of, cell_equation, cell_outcome, cell_reads, equations, in_matrices, made_cells, matrix_cells, no_outcome, rule_of}
 use Rattle.pb_model.specs.Cells.{Cell, IsCell, natural}
 use Rattle.pb_model.specs.Chosen.{chosen_rule}
-use Rattle.pb_model.specs.Equations.{after_body, bindings, corner, extent, first_trap, in_outputs, number_in, own_number, own_outcome, rule_gives, shown_area, sides_by, trap_of, trap_place, unless_trapped, view_sides}
 use Rattle.pb_model.specs.Grids.{at_place as in_grid, no_grid}
-use Rattle.pb_model.specs.Lawful.{IsLawful, output_holds}
-use Rattle.pb_model.proofs.FitLemmas.{Fits, HasNumber, IsSmallSide, gives_fit}
-use Rattle.pb_calls.proofs.InsideLemmas.{output_within, view_within}
 use Rattle.pb_check.specs.Orders.{AnalysisValue}
 use Rattle.pb_check.specs.Ranked.{IsMadeCell}
-use Rattle.pb_check.proofs.FirstLemmas.{all_at, some_at, some_same}
+use Rattle.pb_check.proofs.FirstLemmas.{all_at, some_at}
 use Rattle.pb_frame.specs.Choices.{IsInstance}
 use Rattle.pb_taskgraph.specs.Graphs.{TaskValue}
 use Rattle.pb_taskgraph.specs.Plans.{IsSmall}
-use Rattle.pb_plan.proofs.MadeLemmas.{chosen}
-use Rattle.pb_views.specs.Layouts.{HasShortSides}
 use Rattle.pb_solution.specs.Solutions.{IsRun, all_matrices, outcomes_of}
 use Rattle.pb_solution.proofs.MayLemmas.{read_inside}
 use Rattle.pb_solution.proofs.RuleLemmas.{all_mapped, equation_small, zero_small}

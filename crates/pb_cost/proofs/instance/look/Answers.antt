@@ -26,3 +26,6 @@ returns-clause-calls c =
     entered c.args.a.now c.prog-prog.ensures.accepted c.args.t c.args.s.now c.requires.sizes c.prog.inside.transforms.items (ap (λ (p : ProgValue). p.transforms) (c.prog.view_is ∙ c.prog-prog.ensures.program)) c.index-transform.result.now c.index-transform.ensures q.0 q.1
     c.args.c.now c.requires.valid 64 c.in_ok-frame.frame c.in_ok-frame.ensures.sizes c.in_ok-frame.ensures.frame c.deref.result.now (c.deref.ensures.value ∙ ap (λ (f : FrameValue). f.parts) c.frame-2.view_is) c.in_ok-calls.calls.items
     (c.in_ok-calls.ensures.calls ∙ ap (λ (pr : ProgValue). flat_map (rule_calls (bare_prog pr) t (sizes_of c.args.s.now) c.deref.result.now) (enumerate_from 0 t.rules)) c.prog-prog.ensures.program)
+
+pub instance_cost-requires-clause-frame : goal.instance_cost-requires-clause-frame
+instance_cost-requires-clause-frame c = (64, c.in_ok-frame.ensures.frame)

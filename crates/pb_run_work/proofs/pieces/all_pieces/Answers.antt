@@ -1,10 +1,8 @@
-use Rattle.std.proofs.Common.{get_or, subst}
-use Rattle.std.specs.List.{All}
-use Rattle.std.proofs.lemmas.List.{take_all}
+use Rattle.std.proofs.Common.{subst}
 use Rattle.pb_plan.proofs.TaskLemmas.{zip_next}
 use Rattle.pb_jobs.proofs.ListLemmas.{of_item}
 use Rattle.pb_run_work.specs.Holding.{CanBeCut}
-use Rattle.pb_run_work.specs.Running.{ArePieces, HasRoomForStep}
+use Rattle.pb_run_work.specs.Running.{ArePieces}
 use Rattle.pb_run_work.proofs.HoldLemmas.{next_room}
 use Rattle.pb_run_work.proofs.pieces.all_pieces.Goals as goal
 

@@ -1,4 +1,4 @@
-use Rattle.std.proofs.Common.{get_or, subst}
+use Rattle.std.proofs.Common.{subst}
 use Rattle.pb_plan.proofs.TaskLemmas.{zip_next}
 use Rattle.pb_jobs.proofs.ListLemmas.{of_item}
 use Rattle.pb_run_work.specs.Holding.{CanBeSeen}
