@@ -1,5 +1,5 @@
 //! Runs on threads.
-use crate::examples::{DIV, DOUBLE, MUL, PREFIX, ROLL};
+use crate::examples::{DIV, DOUBLE, MUL, ROLL};
 use crate::plans::{CHOSEN, LEFT, PRODUCT, RIGHT};
 use crate::run::{Row, answers, done, holds, stopped, trapped};
 use crossbeam_utils::Backoff;
@@ -9,7 +9,7 @@ use std::test::Fail;
 
 const PRODUCT_FILES: crate::run::Files = &[("p", MUL), ("c", CHOSEN), ("a", LEFT), ("b", RIGHT)];
 
-const TEN: &str = "matrix 100
+pub const TEN: &str = "matrix 100
 10 10 10 10 10 10 10 10 10 10 10 10 10 10 10 10 10 10 10 10 10 10 10 10 10
 10 10 10 10 10 10 10 10 10 10 10 10 10 10 10 10 10 10 10 10 10 10 10 10 10
 10 10 10 10 10 10 10 10 10 10 10 10 10 10 10 10 10 10 10 10 10 10 10 10 10
@@ -17,14 +17,14 @@ const TEN: &str = "matrix 100
 ";
 
 // Ones, but for zeros at the places 3 and 90.
-const DIVISORS: &str = "matrix 100
+pub const DIVISORS: &str = "matrix 100
 1 1 1 0 1 1 1 1 1 1 1 1 1 1 1 1 1 1 1 1 1 1 1 1 1
 1 1 1 1 1 1 1 1 1 1 1 1 1 1 1 1 1 1 1 1 1 1 1 1 1
 1 1 1 1 1 1 1 1 1 1 1 1 1 1 1 1 1 1 1 1 1 1 1 1 1
 1 1 1 1 1 1 1 1 1 1 1 1 1 1 1 0 1 1 1 1 1 1 1 1 1
 ";
 
-fn answered_rows() -> [Row; 7] {
+fn answered_rows() -> [Row; 6] {
     [
         done(
             "run --pool locked p c MatrixMultiply a b",
@@ -40,11 +40,6 @@ fn answered_rows() -> [Row; 7] {
             "run --workers 64 --pool locked p - Double a",
             &[("p", DOUBLE), ("a", "matrix 1\n21\n")],
             "matrix 1\n42\n",
-        ),
-        done(
-            "run --workers 4 --grain 1 --pool locked p - Prefix2 a",
-            &[("p", PREFIX), ("a", "matrix 3 2\n1 2 3\n4 5 6\n")],
-            "matrix 3 2\n1 3 6\n5 12 21\n",
         ),
         done(
             "run --workers 4 --trace --pool locked p c RollingSum a",
@@ -90,7 +85,7 @@ const BOTH: &str = "transform Both from A[n] to B[n], C[n] {
 }
 ";
 
-fn trapped_rows() -> [Row; 3] {
+fn trapped_rows() -> [Row; 2] {
     [
         trapped(
             "run --workers 8 --pool locked p c RollingSum a",
@@ -100,11 +95,6 @@ fn trapped_rows() -> [Row; 3] {
                 ("a", "matrix 3\n9223372036854775807 1 5\n"),
             ],
             "T Overflow: RollingSum.B (1,0), by RollingSum rule 1 (1,0)\n",
-        ),
-        trapped(
-            "run --grain 8 --workers 4 --pool locked p - Div a d",
-            &[("p", DIV), ("a", TEN), ("d", DIVISORS)],
-            "T DivideByZero: Div.Q (3,0), by Div rule 0 (3,0)\n",
         ),
         trapped(
             "run --workers 2 --pool locked p - Both a",
@@ -265,6 +255,102 @@ fn a_worker_that_is_held_keeps_no_other_task(rt: HostRuntime) -> Result<(), Fail
         };
         answers(&rt, rt.alloc(), &row, words, &gate)?;
         assert!(rt; !gate.missed.load(Ordering::SeqCst), "{words}");
+    }
+    Ok(())
+}
+
+const SUMS: crate::run::Files = &[
+    ("p", TWO),
+    ("c", "choose Two.B {0,1} = 1\nchoose Two.C {2,3} = 3\n"),
+    ("a", "matrix 3\n1 2 3\n"),
+];
+
+#[test]
+fn a_pool_shows_in_the_order_of_its_one_worker(rt: HostRuntime) -> Result<(), Fail> {
+    // One deque, first in, first out: task 4 is ready before task 3.
+    let row = done(
+        "run --workers 1 --grain 1 --trace p c Two a",
+        SUMS,
+        "matrix 3\n1 3 6\nmatrix 3\n1 3 6\ntrace 6\n\
+        task 0 call 0 block B[0,1)\ntask 1 call 0 block C[0,1)\ntask 2 call 0 block B[1,2)\n\
+        task 4 call 0 block C[1,2)\ntask 3 call 0 block B[2,3)\ntask 5 call 0 block C[2,3)\n",
+    );
+    holds(&rt, rt.alloc(), &row)?;
+    // The least ready task.
+    let row = done(
+        "run --workers 1 --grain 1 --trace --pool locked p c Two a",
+        SUMS,
+        "matrix 3\n1 3 6\nmatrix 3\n1 3 6\ntrace 6\n\
+        task 0 call 0 block B[0,1)\ntask 1 call 0 block C[0,1)\ntask 2 call 0 block B[1,2)\n\
+        task 3 call 0 block B[2,3)\ntask 4 call 0 block C[1,2)\ntask 5 call 0 block C[2,3)\n",
+    );
+    holds(&rt, rt.alloc(), &row)?;
+    Ok(())
+}
+
+// Holds task 0 until task 3 has entered, for so many tries; and notes whether task 2 had entered when task 3 did.
+#[derive(Drop)]
+struct Watching {
+    second: AtomicBool,
+    third: AtomicBool,
+    second_first: AtomicBool,
+    missed: AtomicBool,
+}
+
+impl Gate for Watching {
+    fn enter(&self, task: u32) {
+        match task {
+            0 => {
+                let backoff = Backoff::new();
+                for _ in 0..TRIES {
+                    if self.third.load(Ordering::SeqCst) {
+                        return;
+                    }
+                    backoff.snooze();
+                }
+                self.missed.store(true, Ordering::SeqCst);
+            }
+            2 => self.second.store(true, Ordering::SeqCst),
+            3 => {
+                self.second_first
+                    .store(self.second.load(Ordering::SeqCst), Ordering::SeqCst);
+                self.third.store(true, Ordering::SeqCst);
+            }
+            _ => {}
+        }
+    }
+}
+
+#[test]
+fn a_worker_takes_from_its_own_deque_first(rt: HostRuntime) -> Result<(), Fail> {
+    let row = done(
+        "run --workers 2 --grain 1 p - Div a d",
+        &[
+            ("p", DIV),
+            ("a", "matrix 4\n4 6 8 9\n"),
+            ("d", "matrix 4\n1 2 2 3\n"),
+        ],
+        "matrix 4\n4 3 4 3\n",
+    );
+    // Task 3 stands in the deque of the worker that isn't held, and task 2 in the other's. Under the lock the least ready task
+    // is taken.
+    for (words, second_first) in [
+        (row.words, false),
+        ("run --workers 2 --grain 1 --pool locked p - Div a d", true),
+    ] {
+        let gate = Watching {
+            second: AtomicBool::new(false),
+            third: AtomicBool::new(false),
+            second_first: AtomicBool::new(false),
+            missed: AtomicBool::new(false),
+        };
+        answers(&rt, rt.alloc(), &row, words, &gate)?;
+        assert!(rt; !gate.missed.load(Ordering::SeqCst), "{words}");
+        assert_eq!(rt;
+            gate.second_first.load(Ordering::SeqCst),
+            second_first,
+            "{words}"
+        );
     }
     Ok(())
 }
