@@ -5,6 +5,8 @@
 #[cfg(test)]
 mod alone;
 #[cfg(test)]
+mod blocks;
+#[cfg(test)]
 mod bodies;
 #[cfg(test)]
 mod calls;
@@ -16,6 +18,8 @@ mod choices;
 mod chosen;
 #[cfg(test)]
 mod counts;
+#[cfg(test)]
+mod demo;
 #[cfg(test)]
 mod devices;
 #[cfg(test)]
@@ -48,7 +52,5 @@ mod traces;
 mod traps;
 #[cfg(test)]
 mod tuned;
-#[cfg(test)]
-mod unbuilt;
 #[cfg(test)]
 mod words;

@@ -4,7 +4,8 @@ use Rattle.std.specs.List.{zip}
 use Rattle.std.specs.declared.alloc.Global.{Global}
 use Rattle.std.proofs.lemmas.List.{drop-map, length-drop, length-map, take_all}
 use Rattle.pb_outside.specs.Shelf.{Files}
-use Rattle.pb_top.specs.Answer.{RunLine, Runs, content_at, is_dash, limited}
+use Rattle.pb_words.specs.Files.{run_files}
+use Rattle.pb_top.specs.Answer.{RunLine, Runs, content_at, is_dash, limited, run_line}
 use Rattle.pb_top.specs.Runs.{RunWrites, RunsProgram}
 use Rattle.pb_top.specs.Steps.{Takes, TakesFile}
 use Rattle.pb_top.specs.Working.{Prepares, contents_of, line_files}
@@ -37,12 +38,25 @@ pub first_content : (others : List (String Global)) (taken : List (List ℕ)) (c
 first_content [] taken contents a least enough one is count at = absurd (omega (arith, enough, one))
 first_content (word ∷ others) taken contents a least enough one is count at = content_is contents 0 a (omega (arith, count, ap length is)) at
 
+-- the files of a run are those that its words name
+pub line_count : (others : List (List ℕ)) → 3 ≤ length others → length (run_files others) ≡ length (line_files (run_line others))
+line_count [] some = absurd (omega (arith, some))
+line_count (program ∷ []) some = absurd (omega (arith, some))
+line_count (program ∷ config ∷ []) some = absurd (omega (arith, some))
+line_count (program ∷ config ∷ transform ∷ inputs) some = refl
+
+pub few_inputs : (others : List (List ℕ)) → length others ≤ 19 → length (run_line others).inputs ≤ 16
+few_inputs [] few = omega arith
+few_inputs (program ∷ []) few = omega arith
+few_inputs (program ∷ config ∷ []) few = omega arith
+few_inputs (program ∷ config ∷ transform ∷ inputs) few = omega (arith, few)
+
 -- the contents from a place on
 rest_is : (contents texts : List (Vec ℕ Global)) (k : ℕ) → texts ≡ take (length contents - k) (drop k contents) → contents_of texts ≡ drop k (contents_of contents)
 rest_is contents texts k is =
     ap contents_of (is ∙ take_all (length contents - k) (drop k contents) (omega (arith, length-drop k contents))) ∙ sym (drop-map items k contents)
 
-module _ (depth grain : ℕ) (traced : Bool) (line : RunLine) (contents : List (Vec ℕ Global)) (count : length contents ≡ length (line_files (Some line))) (a : Vec ℕ Global) (at : a ≡ get_or contents 0 a) (program : List ℕ) (program_is : program ≡ a.items) (texts : List (Vec ℕ Global)) (found : Result Prepared Stop) where
+module _ (depth grain : ℕ) (traced : Bool) (line : RunLine) (contents : List (Vec ℕ Global)) (count : length contents ≡ length (line_files line)) (a : Vec ℕ Global) (at : a ≡ get_or contents 0 a) (program : List ℕ) (program_is : program ≡ a.items) (texts : List (Vec ℕ Global)) (found : Result Prepared Stop) where
   abbrev Is : List ℕ → Option (List ℕ) → List (List ℕ) → Type 0
   Is p text rest = Prepares line.transform depth grain traced (λ pool tail. RunsProgram line.transform depth grain (RunWrites pool traced tail) p text (zip line.inputs rest)) found
 
@@ -50,7 +64,7 @@ module _ (depth grain : ℕ) (traced : Bool) (line : RunLine) (contents : List (
   Goal text rest = Is (content_at (contents_of contents) 0) text rest
 
   abbrev All : Type 0
-  All = Prepares line.transform depth grain traced (λ pool tail. Runs depth grain (RunWrites pool traced tail) (Some line) (contents_of contents)) found
+  All = Prepares line.transform depth grain traced (λ pool tail. Runs depth grain (RunWrites pool traced tail) line (contents_of contents)) found
 
   some_there : (dash : Bool) → is_dash line.config ≡ dash → 0 < length contents
   some_there dash is = omega (arith, count)

@@ -11,7 +11,8 @@ use Rattle.pb_words.specs.declared.ask.Ask.{Ask}
 use Rattle.pb_words.proofs.LineLemmas.{one_reading}
 use Rattle.pb_top.specs.Sinks.{ShelfChange, SinkChange, IsSound, IsUntouched, AsksFront, Gains, Stays, IsIdle}
 use Rattle.pb_top.specs.Reply.{Reply, status_code, done_reply, refusal_reply, usage}
-use Rattle.pb_top.specs.Answer.{NeedThreads, needs_threads, taken_words, AskAnswers, Answers, IsTail, IsTailOf, IsOut, IsFileWord, AreFileWords}
+use Rattle.pb_words.specs.Files.{file_words}
+use Rattle.pb_top.specs.Answer.{NeedThreads, needs_threads, AskAnswers, Answers, IsTail, IsTailOf, IsOut, IsFileWord, AreFileWords}
 use Rattle.pb_top.specs.Ends.{IsReadFault, Shows, IsAnswerStatus, AreSteady, AsksInOrder, OutBreaks, ErrBreaks, Ends}
 use Rattle.pb_top.specs.Working.{IsRefusal, StopsWith, ShelfWrites, WritesTo, IsWritten, LineIsWritten}
 use Rattle.pb_top.specs.declared.reply.Status.{Status}
@@ -170,24 +171,24 @@ module _ (words : List (List ℕ)) (ask : Ask) (place : ℕ) (line : Line words 
   abbrev SaidOf : Option Files → List ℕ → Reply → Type 0
   SaidOf told tail reply = Answers words told reply × IsTailOf words told reply tail
 
-  none_taken : (told : Option Files) → AreFileWords words told [] → taken_words ask others ≡ []
+  none_taken : (told : Option Files) → AreFileWords words told [] → file_words ask others ≡ []
   none_taken told (inl (other, there, again, is)) =
       let same = one_reading words other ask there place again line in
-      sym (is ∙ ap (λ a. taken_words a (drop there words)) same.0 ∙ ap (λ p. taken_words ask (drop p words)) same.1)
+      sym (is ∙ ap (λ a. file_words a (drop there words)) same.0 ∙ ap (λ p. file_words ask (drop p words)) same.1)
   none_taken told (inr (outside, is)) = absurd (outside (ask, place, line))
 
-  inside_keeps : (shelf : ShelfChange) → shelf.now ≡ shelf.before → AsksFront (taken_words ask others) shelf.asked_before shelf.asked_now
-      → (taken_words ask others ≡ [] → shelf.bytes_now ≡ shelf.bytes_before) → Keeps words shelf
+  inside_keeps : (shelf : ShelfChange) → shelf.now ≡ shelf.before → AsksFront (file_words ask others) shelf.asked_before shelf.asked_now
+      → (file_words ask others ≡ [] → shelf.bytes_now ≡ shelf.bytes_before) → Keeps words shelf
   inside_keeps shelf files asked untaken = record {
     files = files;
-    asked = record { names = taken_words ask others; are = inl (ask, place, line, refl); front = asked };
+    asked = record { names = file_words ask others; are = inl (ask, place, line, refl); front = asked };
     untaken = λ none. untaken (none_taken shelf.before none);
   }
 
   said : (told : Option Files) (tail : List ℕ) (reply : Reply) → Asked others told tail reply → SaidOf told tail reply
   said told tail reply asked = (inl (ask, place, line, asked.0), inl (ask, place, line, asked.1))
 
-  inside_writes : (shelf : ShelfChange) (found : Result (Vec ℕ Global) Stop) → ShelfWrites (taken_words ask others) (Asked others) shelf found → ShelfWrites (taken_words ask others) SaidOf shelf found
+  inside_writes : (shelf : ShelfChange) (found : Result (Vec ℕ Global) Stop) → ShelfWrites (file_words ask others) (Asked others) shelf found → ShelfWrites (file_words ask others) SaidOf shelf found
   inside_writes shelf (Ok text) says = (says.0, (says.1.0, says.1.1, said shelf.before says.1.1 (done_reply says.1.0) says.1.2, says.1.3))
   inside_writes shelf (Err Memory) says = tt
   inside_writes shelf (Err (Refused code text)) says = (says.0, says.1, said shelf.before [] (refusal_reply code text.items) says.2)
@@ -195,14 +196,14 @@ module _ (words : List (List ℕ)) (ask : Ask) (place : ℕ) (line : Line words 
 
   -- the work on a line, once it was written, ends the call
   pub work_ends : (shelf : ShelfChange) (out err : SinkChange) (after : List (List ℕ)) (found : Result (Vec ℕ Global) Stop) (status : ℕ) → after ≡ others
-      → shelf.now ≡ shelf.before → AsksFront (taken_words ask after) shelf.asked_before shelf.asked_now
-      → (taken_words ask after ≡ [] → shelf.bytes_now ≡ shelf.bytes_before) → ShelfWrites (taken_words ask after) (Asked after) shelf found
+      → shelf.now ≡ shelf.before → AsksFront (file_words ask after) shelf.asked_before shelf.asked_now
+      → (file_words ask after ≡ [] → shelf.bytes_now ≡ shelf.bytes_before) → ShelfWrites (file_words ask after) (Asked after) shelf found
       → IsWritten found out err status → Ends words shelf out err status
   work_ends shelf out err after found status is files asked untaken says =
-      let keeps = inside_keeps shelf files (subst (λ o. AsksFront (taken_words ask o) shelf.asked_before shelf.asked_now) is asked)
-      (subst (λ o. taken_words ask o ≡ [] → shelf.bytes_now ≡ shelf.bytes_before) is untaken) in
-      found_ends words shelf out err keeps (taken_words ask others) found status (λ word here. (ask, place, line, here))
-      (inside_writes shelf found (subst (λ o. ShelfWrites (taken_words ask o) (Asked o) shelf found) is says))
+      let keeps = inside_keeps shelf files (subst (λ o. AsksFront (file_words ask o) shelf.asked_before shelf.asked_now) is asked)
+      (subst (λ o. file_words ask o ≡ [] → shelf.bytes_now ≡ shelf.bytes_before) is untaken) in
+      found_ends words shelf out err keeps (file_words ask others) found status (λ word here. (ask, place, line, here))
+      (inside_writes shelf found (subst (λ o. ShelfWrites (file_words ask o) (Asked o) shelf found) is says))
 
 -- what stands after some words
 past : (front rest : List (List ℕ)) → drop (length front) (front ++ rest) ≡ rest

@@ -1,5 +1,5 @@
 -- From the steps of a run to what it writes.
-use Rattle.std.proofs.Common.{◌≡◌, ◌∙◌, refl, sym, ap, subst, ℕ, zero, suc, ◌+◌, ◌<◌, Bool, true, false, List, [], ◌∷◌, length, get_or, Option, Some, None, slice_get, Result, Ok, Err, Vec, ◌⊎◌, inl, inr, arith}
+use Rattle.std.proofs.Common.{◌≡◌, ◌∙◌, refl, sym, ap, subst, ℕ, zero, suc, ◌+◌, ◌<◌, Bool, true, false, List, [], ◌∷◌, flat_map, length, get_or, Option, Some, None, slice_get, Result, Ok, Err, Vec, ◌⊎◌, inl, inr, arith}
 use Rattle.std.specs.Prelude.{IsSomeAnd}
 use Rattle.std.specs.List.{All, range_with_len, zip}
 use Rattle.std.specs.declared.alloc.Global.{Global}
@@ -19,11 +19,13 @@ use Rattle.pb_run_plan.specs.RunTasks.{plan_of_run}
 use Rattle.pb_runs.specs.Steps.{Step}
 use Rattle.pb_run_work.specs.Given.{given_as}
 use Rattle.pb_run_work.specs.Limits.{IsTooLarge, counted, run_steps}
-use Rattle.pb_run_work.specs.Running.{IsRunning, RunValue, of_sizes, of_transform, prog_of, run_plan}
+use Rattle.pb_run_work.specs.Running.{IsRunning, RunValue, of_sizes, of_transform, run_plan}
 use Rattle.pb_run_work.specs.Unrolled.{IsUnrolled}
 use Rattle.pb_unroll.specs.Answers.{matrices_text, results_in, trapped_in, unless_trapped}
 use Rattle.pb_taskgraph.specs.Trace.{trace_text}
 use Rattle.pb_run_lines.specs.RunLines.{run_line}
+use Rattle.pb_summary.specs.Summary.{summary_text}
+use Rattle.pb_top.specs.Demos.{Summarizes, summary_reply}
 use Rattle.pb_top.specs.Reply.{Reply, done_reply, refusal_reply}
 use Rattle.pb_words.specs.declared.ask.Pool.{Pool}
 use Rattle.pb_words.specs.declared.ask.Pool.TheVariants.{Locked, Serial, Steal}
@@ -104,6 +106,14 @@ is_trapped pool r traced cell reply some is =
 
 pub trapped_stops : (pool : Pool) (r : RunValue) (traced : Bool) (cell : TrappedCell) (stop : Stop) → trapped_in r ≡ Some cell → StopsWith (IsTrapped r cell) stop → StopsWith (RunWrites pool traced [] (fitting_of r)) stop
 trapped_stops pool r traced cell stop some = stops_map (IsTrapped r cell) (RunWrites pool traced [] (fitting_of r)) (λ reply. is_trapped pool r traced cell reply some) stop
+
+-- the answer of a run whose matrices are summarized
+pub is_summarized : (name : List ℕ) (r : RunValue) (text : List ℕ) → trapped_in r ≡ None → text ≡ flat_map (summary_text name) (results_in r) → Summarizes name (fitting_of r) (done_reply text)
+is_summarized name r text none written = ap done_reply written ∙ sym (ap (summary_reply name (fitting_of r)) (answer_is r None none))
+
+pub summary_stops : (name : List ℕ) (r : RunValue) (cell : TrappedCell) (stop : Stop) → trapped_in r ≡ Some cell → StopsWith (IsTrapped r cell) stop → StopsWith (Summarizes name (fitting_of r)) stop
+summary_stops name r cell stop some =
+    stops_map (IsTrapped r cell) (Summarizes name (fitting_of r)) (λ reply is. is ∙ sym (ap (summary_reply name (fitting_of r)) (answer_is r (Some cell) some))) stop
 
 -- ---- a run that can't be begun
 some_of : {A : Type 0} (o : Option A) (P : A → Type 0) → IsSomeAnd o P → (x : A) × (o ≡ Some x) × P x

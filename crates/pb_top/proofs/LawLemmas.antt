@@ -1,5 +1,5 @@
 -- Words and files have one answer.
-use Rattle.std.proofs.Common.{◌≡◌, ℕ, arith, List, drop, Option, Some, None, ◌⊎◌, inl, inr, sym, subst, ◌∙◌, refl}
+use Rattle.std.proofs.Common.{◌≡◌, ℕ, arith, List, drop, Some, ◌⊎◌, inl, inr, sym, subst, ◌∙◌, refl}
 use Rattle.std.proofs.lemmas.Bool.{cases_lt}
 use Rattle.pb_outside.specs.Shelf.{Files}
 use Rattle.pb_words.specs.declared.ask.Ask.{Ask}
@@ -8,7 +8,8 @@ use Rattle.pb_words.proofs.LineLemmas.{one_reading}
 use Rattle.pb_top.specs.Reply.{Reply}
 use Rattle.pb_top.specs.Steps.{Takes}
 use Rattle.pb_top.specs.Check.{its_canonical, its_report}
-use Rattle.pb_top.specs.Answer.{RunLine, Runs, config_text, input_files, run_line, taken_words, tuned_name, limited, content_at, WorkAnswers, AskAnswers, Answers}
+use Rattle.pb_words.specs.Files.{file_words}
+use Rattle.pb_top.specs.Answer.{RunLine, Runs, config_text, input_files, run_line, tuned_name, limited, content_at, WorkAnswers, AskAnswers, Answers}
 use Rattle.pb_top.specs.Runs.{RunReplies}
 use Rattle.pb_top.specs.Sinks.{ShelfChange, SinkChange}
 use Rattle.pb_top.specs.Ends.{Shows, IsAnswered, IsAnswerStatus, OutBreaks, ErrBreaks, Ends, IsFaultless, IsComplete}
@@ -17,23 +18,22 @@ use Rattle.pb_top.proofs.AcceptLemmas.{prints_one}
 use Rattle.pb_top.proofs.EndLemmas.{other_status}
 use Rattle.pb_top.proofs.RunLemmas.{run_one}
 use Rattle.pb_top.proofs.TuneLemmas.{tunes_one}
+use Rattle.pb_top.proofs.DemoLemmas.{demo_one}
 
-one_line : (depth grain : ℕ) (line : Option RunLine) (contents : List (List ℕ)) (first second : Reply) → Runs depth grain RunReplies line contents first → Runs depth grain RunReplies line contents second → first ≡ second
-one_line depth grain (Some line) contents first second left right =
-    run_one line.transform depth grain (config_text line contents) (input_files line contents) (content_at contents 0) first second left right
-one_line depth grain None contents first second left right = left ∙ sym right
+one_line : (depth grain : ℕ) (line : RunLine) (contents : List (List ℕ)) (first second : Reply) → Runs depth grain RunReplies line contents first → Runs depth grain RunReplies line contents second → first ≡ second
+one_line depth grain line contents = run_one line.transform depth grain (config_text line contents) (input_files line contents) (content_at contents 0)
 
 one_work : (ask : Ask) (others contents : List (List ℕ)) (first second : Reply) → WorkAnswers ask others contents first → WorkAnswers ask others contents second → first ≡ second
 one_work Check others contents first second left right = prints_one its_canonical (content_at contents 0) first second left right
 one_work Choices others contents first second left right = prints_one its_report (content_at contents 0) first second left right
 one_work (Run workers depth grain pool trace) others contents first second left right = one_line depth grain (run_line others) contents first second left right
 one_work (Tune up_to) others contents first second left right = tunes_one (tuned_name others) up_to (content_at contents 0) first second left right
-one_work (Demo seed size workers) others contents first second left right = left ∙ sym right
+one_work (Demo seed size workers) others contents first second left right = demo_one seed size first second left right
 
 one_asked : (ask : Ask) (others : List (List ℕ)) (files : Files) (first second : Reply) → AskAnswers ask others (Some files) first → AskAnswers ask others (Some files) second
     → first ≡ second
 one_asked ask others files =
-    then_one (Takes (Some files) (limited (taken_words ask others))) (WorkAnswers ask others) (takes_one files (limited (taken_words ask others)))
+    then_one (Takes (Some files) (limited (file_words ask others))) (WorkAnswers ask others) (takes_one files (limited (file_words ask others)))
     (one_work ask others)
 
 pub one_reply_lem : (words : List (List ℕ)) (files : Files) (first second : Reply) → Answers words (Some files) first → Answers words (Some files) second → first ≡ second

@@ -14,3 +14,4 @@ pub mod InputLemmas
 pub mod CommandLemmas
 pub mod SiteLemmas
 pub mod TuneLemmas
+pub mod DemoLemmas

@@ -34,7 +34,7 @@ use Rattle.pb_run_work.specs.Limits.{counted}
 use Rattle.pb_run_lines.specs.RunLines.{config_line, run_line}
 use Rattle.pb_top.specs.Reply.{Reply, IsFaultyInput, refusal_reply}
 use Rattle.pb_top.specs.Steps.{Each}
-use Rattle.pb_top.specs.Runs.{AfterAccept, AfterConfig, AfterFit, AfterInputs, AfterName, AfterTransform, Configures, FindsTransform, Fits, Fitting, IsWithin, ReadsInput, RunReplies, RunsProgram, call_steps, config_said}
+use Rattle.pb_top.specs.Runs.{AfterAccept, AfterAcceptWith, AfterConfig, AfterConfigWith, AfterFit, AfterInputs, AfterName, AfterTransform, Configures, FindsTransform, Fits, Fitting, IsWithin, ReadsInput, RunReplies, RunsProgram, RunsWith, call_steps, config_said}
 use Rattle.pb_top.specs.declared.reply.Status.TheVariants as status
 use Rattle.pb_top.proofs.AcceptLemmas.{after_one, after_some}
 use Rattle.pb_top.proofs.LimitLemmas.{none_within, passes_one, within_or_not}
@@ -215,46 +215,74 @@ enterable p number t well sound at = record {
   sides = (all_at IsBounded p number t sound.bounded at).sides;
 }
 
-module _ (name : List ℕ) (depth grain : ℕ) (p : List ProgTransform) (found : List AnalysisValue) (well : IsWellFormed p) (sound : IsSound p) where
+-- what is asked of a run at its end has one reply
+pub record EndsOnce (End : Fitting → Reply → Type 0) : Type 0 where
+  pub one : (r : Fitting) (x y : Reply) → End r x → End r y → x ≡ y
+  pub some : (r : Fitting) → (reply : Reply) × End r reply
+
+module _ (name : List ℕ) (depth grain : ℕ) (End : Fitting → Reply → Type 0) (once : EndsOnce End) (p : List ProgTransform) (found : List AnalysisValue) (well : IsWellFormed p) (sound : IsSound p) where
   module _ (config : ConfigValue) (number : ℕ) where
     abbrev fitting : ProgTransform → List MatrixValue → List ℕ → Fitting
     fitting t inputs sizes = record { program = p; found = found; config = config; number = number; transform = t; inputs = inputs; sizes = sizes; depth = depth; grain = grain }
 
-    sized_one : (t : ProgTransform) (inputs : List MatrixValue) (x y : Reply) → AfterTransform name depth grain RunReplies p found config number t inputs x → AfterTransform name depth grain RunReplies p found config number t inputs y → x ≡ y
+    sized_one : (t : ProgTransform) (inputs : List MatrixValue) (x y : Reply) → AfterTransform name depth grain End p found config number t inputs x → AfterTransform name depth grain End p found config number t inputs y → x ≡ y
     sized_one t inputs =
-        then_one_given (Fits p name number t inputs) (λ sizes. AfterFit name depth grain RunReplies (fitting t inputs sizes)) (fits_one p name number t inputs)
-        (λ sizes bound. then_one_given (IsWithin (fitting t inputs sizes) name) (λ u. RunReplies (fitting t inputs sizes)) (within_one (fitting t inputs sizes) name) (λ u within x y is also. is ∙ sym also))
+        then_one_given (Fits p name number t inputs) (λ sizes. AfterFit name depth grain End (fitting t inputs sizes)) (fits_one p name number t inputs)
+        (λ sizes bound. then_one_given (IsWithin (fitting t inputs sizes) name) (λ u. End (fitting t inputs sizes)) (within_one (fitting t inputs sizes) name) (λ u within. once.one (fitting t inputs sizes)))
 
-    fed_one : (inputs : List MatrixValue) (x y : Reply) → AfterInputs name depth grain RunReplies p found config number inputs x → AfterInputs name depth grain RunReplies p found config number inputs y → x ≡ y
+    fed_one : (inputs : List MatrixValue) (x y : Reply) → AfterInputs name depth grain End p found config number inputs x → AfterInputs name depth grain End p found config number inputs y → x ≡ y
     fed_one inputs x y (t, at, left) (u, at_too, right) =
         let same = some_same t u (sym at ∙ at_too) in
-        sized_one u inputs x y (subst (λ s. AfterTransform name depth grain RunReplies p found config number s inputs x) same left) right
+        sized_one u inputs x y (subst (λ s. AfterTransform name depth grain End p found config number s inputs x) same left) right
 
-    fed_some : (given : ℕ) (inputs : List MatrixValue) → Enters p name given number → length inputs ≡ given → (reply : Reply) × AfterInputs name depth grain RunReplies p found config number inputs reply
+    fed_some : (given : ℕ) (inputs : List MatrixValue) → Enters p name given number → length inputs ≡ given → (reply : Reply) × AfterInputs name depth grain End p found config number inputs reply
     fed_some given inputs enters count =
         let t = enters.named.transform in
-        let some = then_given (Fits p name number t inputs) (λ sizes. AfterFit name depth grain RunReplies (fitting t inputs sizes))
+        let some = then_given (Fits p name number t inputs) (λ sizes. AfterFit name depth grain End (fitting t inputs sizes))
         (fits_some p name number t inputs (enterable p number t well sound enters.named.there) (count ∙ sym enters.count))
-        (λ sizes bound. then_given (IsWithin (fitting t inputs sizes) name) (λ u. RunReplies (fitting t inputs sizes)) (within_some (fitting t inputs sizes) name) (λ u within. (_, refl))) in
+        (λ sizes bound. then_given (IsWithin (fitting t inputs sizes) name) (λ u. End (fitting t inputs sizes)) (within_some (fitting t inputs sizes) name) (λ u within. once.some (fitting t inputs sizes))) in
         (some.0, (t, enters.named.there, some.1))
 
-  accepted_one : (text : Option (List ℕ)) (files : List (List ℕ × List ℕ)) (x y : Reply) → AfterAccept name depth grain RunReplies p found text files x → AfterAccept name depth grain RunReplies p found text files y → x ≡ y
+  accepted_one : (text : Option (List ℕ)) (files : List (List ℕ × List ℕ)) (x y : Reply) → AfterAccept name depth grain End p found text files x → AfterAccept name depth grain End p found text files y → x ≡ y
   accepted_one text files =
-      then_one_given (Configures p text) (AfterConfig name depth grain RunReplies p found files) (config_one p text)
-      (λ config said. then_one_given (FindsTransform p name (length files)) (λ number. AfterName name depth grain RunReplies p found config number files) (transform_one p well name (length files))
-      (λ number enters. then_one_given (Each ReadsInput files) (AfterInputs name depth grain RunReplies p found config number) (each_one ReadsInput input_one files)
+      then_one_given (Configures p text) (AfterConfig name depth grain End p found files) (config_one p text)
+      (λ config said. then_one_given (FindsTransform p name (length files)) (λ number. AfterName name depth grain End p found config number files) (transform_one p well name (length files))
+      (λ number enters. then_one_given (Each ReadsInput files) (AfterInputs name depth grain End p found config number) (each_one ReadsInput input_one files)
       (λ inputs read. fed_one config number inputs)))
 
-  accepted_some : (text : Option (List ℕ)) (files : List (List ℕ × List ℕ)) → (reply : Reply) × AfterAccept name depth grain RunReplies p found text files reply
+  accepted_some : (text : Option (List ℕ)) (files : List (List ℕ × List ℕ)) → (reply : Reply) × AfterAccept name depth grain End p found text files reply
   accepted_some text files =
-      then_given (Configures p text) (AfterConfig name depth grain RunReplies p found files) (config_some p text)
-      (λ config said. then_given (FindsTransform p name (length files)) (λ number. AfterName name depth grain RunReplies p found config number files) (transform_some p name (length files))
-      (λ number enters. then_given (Each ReadsInput files) (AfterInputs name depth grain RunReplies p found config number) (each_some ReadsInput input_some files)
+      then_given (Configures p text) (AfterConfig name depth grain End p found files) (config_some p text)
+      (λ config said. then_given (FindsTransform p name (length files)) (λ number. AfterName name depth grain End p found config number files) (transform_some p name (length files))
+      (λ number enters. then_given (Each ReadsInput files) (AfterInputs name depth grain End p found config number) (each_some ReadsInput input_some files)
       (λ inputs read. fed_some config number (length files) inputs enters (each_length ReadsInput files inputs read))))
+
+  accepted_with_one : (text : Option (List ℕ)) (inputs : List MatrixValue) (x y : Reply) → AfterAcceptWith name depth grain End p found text inputs x → AfterAcceptWith name depth grain End p found text inputs y → x ≡ y
+  accepted_with_one text inputs =
+      then_one_given (Configures p text) (AfterConfigWith name depth grain End p found inputs) (config_one p text)
+      (λ config said. then_one_given (FindsTransform p name (length inputs)) (λ number. AfterInputs name depth grain End p found config number inputs) (transform_one p well name (length inputs))
+      (λ number enters. fed_one config number inputs))
+
+  accepted_with_some : (text : Option (List ℕ)) (inputs : List MatrixValue) → (reply : Reply) × AfterAcceptWith name depth grain End p found text inputs reply
+  accepted_with_some text inputs =
+      then_given (Configures p text) (AfterConfigWith name depth grain End p found inputs) (config_some p text)
+      (λ config said. then_given (FindsTransform p name (length inputs)) (λ number. AfterInputs name depth grain End p found config number inputs) (transform_some p name (length inputs))
+      (λ number enters. fed_some config number (length inputs) inputs enters refl))
+
+replies_once : EndsOnce RunReplies
+replies_once = record { one = λ r x y is also. is ∙ sym also; some = λ r. (_, refl) }
 
 module _ (name : List ℕ) (depth grain : ℕ) (text : Option (List ℕ)) (files : List (List ℕ × List ℕ)) where
   pub run_one : (program : List ℕ) (x y : Reply) → RunsProgram name depth grain RunReplies program text files x → RunsProgram name depth grain RunReplies program text files y → x ≡ y
-  run_one = after_one (λ tree p found. AfterAccept name depth grain RunReplies p found text files) (λ tree p found well sound are. accepted_one name depth grain p found well sound text files)
+  run_one = after_one (λ tree p found. AfterAccept name depth grain RunReplies p found text files) (λ tree p found well sound are. accepted_one name depth grain RunReplies replies_once p found well sound text files)
 
   pub run_some : (program : List ℕ) → (reply : Reply) × RunsProgram name depth grain RunReplies program text files reply
-  run_some = after_some (λ tree p found. AfterAccept name depth grain RunReplies p found text files) (λ tree p found well sound are. accepted_some name depth grain p found well sound text files)
+  run_some = after_some (λ tree p found. AfterAccept name depth grain RunReplies p found text files) (λ tree p found well sound are. accepted_some name depth grain RunReplies replies_once p found well sound text files)
+
+-- with matrices in the place of files
+module _ (name : List ℕ) (depth grain : ℕ) (End : Fitting → Reply → Type 0) (once : EndsOnce End) (text : Option (List ℕ)) (inputs : List MatrixValue) where
+  pub run_with_one : (program : List ℕ) (x y : Reply) → RunsWith name depth grain End program text inputs x → RunsWith name depth grain End program text inputs y → x ≡ y
+  run_with_one = after_one (λ tree p found. AfterAcceptWith name depth grain End p found text inputs) (λ tree p found well sound are. accepted_with_one name depth grain End once p found well sound text inputs)
+
+  pub run_with_some : (program : List ℕ) → (reply : Reply) × RunsWith name depth grain End program text inputs reply
+  run_with_some = after_some (λ tree p found. AfterAcceptWith name depth grain End p found text inputs) (λ tree p found well sound are. accepted_with_some name depth grain End once p found well sound text inputs)

@@ -1,5 +1,5 @@
 -- From the files of a command to its answer, and to what stands after it.
-use Rattle.std.proofs.Common.{◌≡◌, refl, ℕ, List, [], length, Option, Some, None, Result, Ok, Err, Vec, inl, inr, arith, append-nil, sym}
+use Rattle.std.proofs.Common.{◌≡◌, refl, ℕ, Bool, false, List, [], length, Option, Result, Ok, Err, Vec, inl, inr, arith, append-nil, sym}
 use Rattle.std.specs.declared.alloc.Global.{Global}
 use Rattle.pb_outside.specs.Shelf.{Files}
 use Rattle.pb_program.specs.Trees.{ProgTransform}
@@ -7,16 +7,25 @@ use Rattle.pb_check.specs.Orders.{AnalysisValue}
 use Rattle.pb_program.specs.Configs.{ConfigValue}
 use Rattle.pb_matrix.specs.Value.{MatrixValue}
 use Rattle.pb_words.specs.declared.ask.Ask.{Ask}
+use Rattle.pb_words.specs.declared.ask.Pool.{Pool}
+use Rattle.pb_words.specs.declared.ask.Pool.TheVariants.{Serial, Locked, Steal}
 use Rattle.pb_words.specs.declared.ask.Ask.TheVariants.{Check, Choices, Run, Tune, Demo}
 use Rattle.pb_top.specs.Sinks.{ShelfChange, IsSound}
 use Rattle.pb_top.specs.Reply.{Reply, done_reply, refusal_reply}
 use Rattle.pb_top.specs.Runs.{AfterAccept, AfterConfig, AfterFit, AfterInputs, AfterName, Configures, FindsTransform, Fits, Fitting, IsWithin, ReadsInput, RunReplies, RunWrites, RunsProgram}
 use Rattle.pb_top.specs.Steps.{Accepts, AfterAccepted, AfterResolved, Each, Reads, Resolves, Takes}
-use Rattle.pb_top.specs.Answer.{AskAnswers, IsTail, RunLine, Runs, WorkAnswers, WorkWrites, config_text, content_at, input_files, limited, run_line, taken_words}
+use Rattle.pb_words.specs.Files.{file_words}
+use Rattle.pb_top.specs.Answer.{AskAnswers, IsTail, RunLine, Runs, WorkAnswers, WorkWrites, config_text, content_at, input_files, limited, needs_threads, run_line}
 use Rattle.pb_top.specs.Working.{Replies, ShelfStops, ShelfWrites, Writes}
 use Rattle.pb_top.specs.declared.reply.Stop.{Stop}
 use Rattle.pb_top.specs.declared.reply.Stop.TheVariants.{Memory, Refused, Unread}
 use Rattle.pb_top.proofs.StepLemmas.{then_map}
+
+-- a run that needs no threads is serial
+pub serial_alone : (workers depth grain : ℕ) (pool : Pool) (trace : Bool) → needs_threads (Run workers depth grain pool trace) ≡ false → pool ≡ Serial
+serial_alone workers depth grain Serial trace alone = refl
+serial_alone workers depth grain Locked trace alone = absurd (cc)
+serial_alone workers depth grain Steal trace alone = absurd (cc)
 
 -- a text that is printed has nothing after it
 pub writes_alone : (Says : Reply → Type 0) (found : Result (Vec ℕ Global) Stop) → Replies Says found → Writes (λ tail reply. Says reply × (tail ≡ [])) found
@@ -50,10 +59,9 @@ module _ (name : List ℕ) (depth grain : ℕ) (End More : Fitting → Reply →
       (λ tree. then_map (Resolves tree) (AfterAccepted (λ tree p found. AfterAccept name depth grain End p found text files) tree) (AfterAccepted (λ tree p found. AfterAccept name depth grain More p found text files) tree)
       (λ p. then_map (Accepts p) (λ found. AfterAccept name depth grain End p found text files) (λ found. AfterAccept name depth grain More p found text files) (accept_map text files p)))
 
-line_map : (depth grain : ℕ) (End More : Fitting → Reply → Type 0) → ((r : Fitting) (reply : Reply) → End r reply → More r reply) → (line : Option RunLine) (contents : List (List ℕ)) (reply : Reply)
+line_map : (depth grain : ℕ) (End More : Fitting → Reply → Type 0) → ((r : Fitting) (reply : Reply) → End r reply → More r reply) → (line : RunLine) (contents : List (List ℕ)) (reply : Reply)
     → Runs depth grain End line contents reply → Runs depth grain More line contents reply
-line_map depth grain End More each (Some line) contents reply runs = run_map line.transform depth grain End More each (content_at contents 0) (config_text line contents) (input_files line contents) reply runs
-line_map depth grain End More each None contents reply runs = runs
+line_map depth grain End More each line contents = run_map line.transform depth grain End More each (content_at contents 0) (config_text line contents) (input_files line contents)
 
 -- what is written begins with the answer
 answered : (ask : Ask) (others : List (List ℕ)) (tail : List ℕ) (contents : List (List ℕ)) (reply : Reply) → WorkWrites ask others tail contents reply → WorkAnswers ask others contents reply
@@ -63,7 +71,7 @@ answered (Run workers depth grain pool trace) others tail contents reply writes 
 answered (Tune up_to) others tail contents reply writes = writes.0
 answered (Demo seed size workers) others tail contents reply writes = writes.0
 
-module _ (ask : Ask) (others contents : List (List ℕ)) (shelf : ShelfChange) (takes : Takes shelf.before (limited (taken_words ask others)) (Ok contents)) where
+module _ (ask : Ask) (others contents : List (List ℕ)) (shelf : ShelfChange) (takes : Takes shelf.before (limited (file_words ask others)) (Ok contents)) where
   abbrev Asked : Option Files → List ℕ → Reply → Type 0
   Asked told tail reply = AskAnswers ask others told reply × IsTail ask others told reply tail
 
@@ -71,7 +79,7 @@ module _ (ask : Ask) (others contents : List (List ℕ)) (shelf : ShelfChange) (
   asked_done text tail writes = (inl (contents, takes, answered ask others tail contents (done_reply text) writes), inr (refl, inl (contents, takes, writes)))
 
   -- with the bytes of its files a command writes its answer, and what stands after it
-  pub files_write : (found : Result (Vec ℕ Global) Stop) → IsSound shelf → Writes (λ tail. WorkWrites ask others tail contents) found → ShelfWrites (taken_words ask others) Asked shelf found
+  pub files_write : (found : Result (Vec ℕ Global) Stop) → IsSound shelf → Writes (λ tail. WorkWrites ask others tail contents) found → ShelfWrites (file_words ask others) Asked shelf found
   files_write (Ok text) sound says = (sound, (says.0, says.1, asked_done says.0 says.1 says.2, says.3))
   files_write (Err Memory) sound says = tt
   files_write (Err (Refused status line)) sound says =
@@ -80,8 +88,8 @@ module _ (ask : Ask) (others contents : List (List ℕ)) (shelf : ShelfChange) (
   files_write (Err (Unread line)) sound says = absurd says
 
 -- a file that can't be taken is the answer, and nothing stands after it
-pub stops_write : (ask : Ask) (others : List (List ℕ)) (shelf : ShelfChange) (stop : Stop) → ShelfStops (taken_words ask others) (λ told reply. Takes told (limited (taken_words ask others)) (Err reply)) shelf stop
-    → ShelfStops (taken_words ask others) (λ told reply. AskAnswers ask others told reply × IsTail ask others told reply []) shelf stop
+pub stops_write : (ask : Ask) (others : List (List ℕ)) (shelf : ShelfChange) (stop : Stop) → ShelfStops (file_words ask others) (λ told reply. Takes told (limited (file_words ask others)) (Err reply)) shelf stop
+    → ShelfStops (file_words ask others) (λ told reply. AskAnswers ask others told reply × IsTail ask others told reply []) shelf stop
 stops_write ask others shelf Memory stops = tt
 stops_write ask others shelf (Refused status line) stops = (stops.0, stops.1, (inr stops.2, inl ((λ e. omega (arith, stops.1.0, e)), refl)))
 stops_write ask others shelf (Unread line) stops = stops

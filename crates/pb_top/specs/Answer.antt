@@ -1,19 +1,19 @@
 -- What the words of a command line and the files of a shelf have for an answer.
-use Rattle.std.specs.Prelude.{◌≡◌, ◌≢◌, ℕ, Bool, true, false, List, [], ◌∷◌, ◌++◌, map, drop, slice_index_or, Option, Some, None, is_some, Contains, codes, bytes_eq, ◌⊎◌, if◌then◌else◌}
+use Rattle.std.specs.Prelude.{◌≡◌, ◌≢◌, ℕ, Bool, true, false, List, [], ◌∷◌, ◌++◌, map, drop, slice_index_or, Option, Some, None, Contains, codes, bytes_eq, ◌⊎◌, if◌then◌else◌}
 use Rattle.std.specs.List.{zip}
 use Rattle.pb_outside.specs.Shelf.{Files}
 use Rattle.pb_outside.specs.declared.shelf.TheConstants.{FILE_LIMIT}
 use Rattle.pb_words.specs.Line.{Line, IsInside}
 use Rattle.pb_words.specs.Files.{file_words}
-use Rattle.pb_words.specs.declared.ask.Pool.{Pool}
 use Rattle.pb_words.specs.declared.ask.Pool.TheVariants.{Serial, Locked, Steal}
 use Rattle.pb_words.specs.declared.ask.Ask.{Ask}
 use Rattle.pb_words.specs.declared.ask.Ask.TheVariants.{Check, Choices, Run, Tune, Demo}
-use Rattle.pb_top.specs.Reply.{Reply, not_built, usage}
+use Rattle.pb_top.specs.Reply.{Reply, usage}
 use Rattle.pb_top.specs.Steps.{Then, Takes}
 use Rattle.pb_top.specs.Check.{CheckAnswers, ChoicesAnswers}
 use Rattle.pb_top.specs.Runs.{Fitting, RunReplies, RunWrites, RunsProgram}
 use Rattle.pb_top.specs.Tunes.{TunesProgram}
+use Rattle.pb_top.specs.Demos.{DemoAnswers}
 
 -- the words of a run
 pub record RunLine : Type 0 where
@@ -21,17 +21,10 @@ pub record RunLine : Type 0 where
   pub transform : List ℕ
   pub inputs : List (List ℕ)
 
-abbrev pub run_line : List (List ℕ) → Option RunLine
-run_line (program ∷ config ∷ transform ∷ inputs) = Some (record { config = config; transform = transform; inputs = inputs })
-run_line others = None
-
--- all but `demo` is built
-abbrev pub is_built : Ask → List (List ℕ) → Bool
-is_built Check others = true
-is_built Choices others = true
-is_built (Run workers depth grain pool trace) others = is_some (run_line others)
-is_built (Tune up_to) others = true
-is_built (Demo seed size workers) others = false
+-- the grammar has at least three of them
+abbrev pub run_line : List (List ℕ) → RunLine
+run_line (program ∷ config ∷ transform ∷ inputs) = record { config = config; transform = transform; inputs = inputs }
+run_line others = record { config = []; transform = []; inputs = [] }
 
 -- what is asked takes threads
 abbrev pub needs_threads : Ask → Bool
@@ -46,10 +39,6 @@ needs_threads (Demo seed size workers) = true
 -- the words are a line that asks for that
 abbrev pub NeedThreads : List (List ℕ) → Type 0
 NeedThreads words = (ask : Ask) × (place : ℕ) × Line words ask place × (needs_threads ask ≡ true)
-
--- the files that a command takes; one that isn't built takes none
-abbrev pub taken_words : Ask → List (List ℕ) → List (List ℕ)
-taken_words ask others = if is_built ask others then file_words ask others else []
 
 -- files with the limit that each file has
 abbrev pub limited : List (List ℕ) → List (List ℕ × ℕ)
@@ -71,9 +60,8 @@ abbrev pub input_files : RunLine → List (List ℕ) → List (List ℕ × List 
 input_files line contents = zip line.inputs (drop (if is_dash line.config then 1 else 2) contents)
 
 -- a run over the bytes of its files, with what is asked of it where its counts are within their limits
-abbrev pub Runs : ℕ → ℕ → (Fitting → Reply → Type 0) → Option RunLine → List (List ℕ) → Reply → Type 0
-Runs depth grain End (Some line) contents reply = RunsProgram line.transform depth grain End (content_at contents 0) (config_text line contents) (input_files line contents) reply
-Runs depth grain End None contents reply = reply ≡ not_built
+abbrev pub Runs : ℕ → ℕ → (Fitting → Reply → Type 0) → RunLine → List (List ℕ) → Reply → Type 0
+Runs depth grain End line contents = RunsProgram line.transform depth grain End (content_at contents 0) (config_text line contents) (input_files line contents)
 
 -- the name of the transform that is tuned, after the program
 abbrev pub tuned_name : List (List ℕ) → List ℕ
@@ -85,11 +73,11 @@ WorkAnswers Check others contents reply = CheckAnswers (content_at contents 0) r
 WorkAnswers Choices others contents reply = ChoicesAnswers (content_at contents 0) reply
 WorkAnswers (Run workers depth grain pool trace) others contents reply = Runs depth grain RunReplies (run_line others) contents reply
 WorkAnswers (Tune up_to) others contents reply = TunesProgram (tuned_name others) up_to (content_at contents 0) reply
-WorkAnswers (Demo seed size workers) others contents reply = reply ≡ not_built
+WorkAnswers (Demo seed size workers) others contents reply = DemoAnswers seed size reply
 
 -- all files of a command are taken before any is looked at
 abbrev pub AskAnswers : Ask → List (List ℕ) → Option Files → Reply → Type 0
-AskAnswers ask others told = Then (Takes told (limited (taken_words ask others))) (WorkAnswers ask others)
+AskAnswers ask others told = Then (Takes told (limited (file_words ask others))) (WorkAnswers ask others)
 
 -- the answer to words, over what is told of the shelf's files
 abbrev pub Answers : List (List ℕ) → Option Files → Reply → Type 0
@@ -107,7 +95,7 @@ WorkWrites ask others tail contents reply = WorkAnswers ask others contents repl
 abbrev pub IsTail : Ask → List (List ℕ) → Option Files → Reply → List ℕ → Type 0
 IsTail ask others told reply tail =
     ((reply.status ≢ 0) × (tail ≡ []))
-    ⊎ ((reply.status ≡ 0) × Then (Takes told (limited (taken_words ask others))) (WorkWrites ask others tail) reply)
+    ⊎ ((reply.status ≡ 0) × Then (Takes told (limited (file_words ask others))) (WorkWrites ask others tail) reply)
 
 -- what stands after the text of the reply to words
 abbrev pub IsTailOf : List (List ℕ) → Option Files → Reply → List ℕ → Type 0
@@ -121,10 +109,10 @@ IsOut words told reply text = (tail : List ℕ) × IsTailOf words told reply tai
 
 -- a word that names a file which the command takes
 abbrev pub IsFileWord : List (List ℕ) → Option Files → List ℕ → Type 0
-IsFileWord words told word = (ask : Ask) × (place : ℕ) × Line words ask place × Contains (taken_words ask (drop place words)) word
+IsFileWord words told word = (ask : Ask) × (place : ℕ) × Line words ask place × Contains (file_words ask (drop place words)) word
 
 -- the words that name the files which the command takes, in order; words outside the grammar name none
 abbrev pub AreFileWords : List (List ℕ) → Option Files → List (List ℕ) → Type 0
 AreFileWords words told names =
-    ((ask : Ask) × (place : ℕ) × Line words ask place × (names ≡ taken_words ask (drop place words)))
+    ((ask : Ask) × (place : ℕ) × Line words ask place × (names ≡ file_words ask (drop place words)))
     ⊎ ((IsInside words → ⊥) × (names ≡ []))

@@ -6,6 +6,7 @@ pub mod Steps
 pub mod Check
 pub mod Runs
 pub mod Tunes
+pub mod Demos
 pub mod Answer
 pub mod Ends
 -- what only proofs use: the contracts of the private functions on the way

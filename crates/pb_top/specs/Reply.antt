@@ -3,8 +3,8 @@ use Rattle.std.specs.Prelude.{◌≡◌, ℕ, List, []}
 use Rattle.pb_matrix.specs.declared.matrix.MatrixRefusal.{MatrixRefusal}
 use Rattle.pb_matrix.specs.declared.matrix.MatrixRefusal.TheVariants.{BadHeader, BadNumber, TooFew, TooMany, Memory}
 use Rattle.pb_top.specs.declared.reply.Status.{Status}
-use Rattle.pb_top.specs.declared.reply.Status.TheVariants.{Done, Usage, Program, Config, Input, TooLarge, Trapped, DepthEnded, ReadFault, WriteFault, NoMemory, NotBuilt, File}
-use Rattle.pb_top.specs.Texts.{no_file_line, file_too_long_line, not_built_line, usage_text, bad_header_line, bad_number_line, too_few_line, too_many_line}
+use Rattle.pb_top.specs.declared.reply.Status.TheVariants.{Done, Usage, Program, Config, Input, TooLarge, Trapped, DepthEnded, ReadFault, WriteFault, NoMemory, File}
+use Rattle.pb_top.specs.Texts.{no_file_line, file_too_long_line, usage_text, bad_header_line, bad_number_line, too_few_line, too_many_line}
 
 pub record Reply : Type 0 where
   pub status : ℕ
@@ -24,7 +24,6 @@ status_code DepthEnded = 8
 status_code ReadFault = 9
 status_code WriteFault = 10
 status_code NoMemory = 11
-status_code NotBuilt = 12
 status_code File = 14
 
 -- a text for `out`
@@ -40,9 +39,6 @@ no_file word = refusal_reply File (no_file_line word)
 
 abbrev pub file_too_long : List ℕ → Reply
 file_too_long word = refusal_reply File (file_too_long_line word)
-
-abbrev pub not_built : Reply
-not_built = refusal_reply NotBuilt not_built_line
 
 -- the words are no command line
 abbrev pub usage : Reply

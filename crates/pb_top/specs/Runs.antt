@@ -164,6 +164,17 @@ module _ (name : List ℕ) (depth grain : ℕ) (End : Fitting → Reply → Type
     abbrev pub AfterAccept : Option (List ℕ) → List (List ℕ × List ℕ) → Reply → Type 0
     AfterAccept text files = Then (Configures p text) (AfterConfig files)
 
+    -- the same with matrices in the place of files
+    abbrev pub AfterConfigWith : List MatrixValue → ConfigValue → Reply → Type 0
+    AfterConfigWith inputs config = Then (FindsTransform p name (length inputs)) (λ number. AfterInputs p found config number inputs)
+
+    abbrev pub AfterAcceptWith : Option (List ℕ) → List MatrixValue → Reply → Type 0
+    AfterAcceptWith text inputs = Then (Configures p text) (AfterConfigWith inputs)
+
   -- the program's text, that of the configuration, and the inputs by their words and texts
   abbrev pub RunsProgram : List ℕ → Option (List ℕ) → List (List ℕ × List ℕ) → Reply → Type 0
   RunsProgram program text files = AfterProgram (λ tree p found. AfterAccept p found text files) program
+
+  -- the same with matrices in the place of files
+  abbrev pub RunsWith : List ℕ → Option (List ℕ) → List MatrixValue → Reply → Type 0
+  RunsWith program text inputs = AfterProgram (λ tree p found. AfterAcceptWith p found text inputs) program

@@ -14,9 +14,6 @@ no_file_line word = about_file (codes "I1 NoFile: ") word
 abbrev pub file_too_long_line : List ℕ → List ℕ
 file_too_long_line word = about_file (codes "I2 FileTooLong: ") word
 
-abbrev pub not_built_line : List ℕ
-not_built_line = codes "N1 NotBuilt\n"
-
 -- how a command line is written
 abbrev pub usage_text : List ℕ
 usage_text =

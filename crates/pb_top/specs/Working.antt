@@ -1,5 +1,5 @@
 -- For proofs alone: what the private steps of a command give, before anything is written.
-use Rattle.std.specs.Prelude.{◌≡◌, ℕ, ◌<◌, ◌≤◌, Bool, true, false, List, [], ◌∷◌, ◌++◌, length, map, Option, Some, None, IfSome, Result, Ok, Err, Vec, ◌⊎◌, string_bytes, if◌then◌else◌}
+use Rattle.std.specs.Prelude.{◌≡◌, ℕ, ◌<◌, Bool, true, false, List, [], ◌∷◌, ◌++◌, length, map, Option, Result, Ok, Err, Vec, ◌⊎◌, string_bytes, if◌then◌else◌}
 use Rattle.std.specs.declared.alloc.Global.{Global}
 use Rattle.std.specs.declared.alloc.AllocError.{AllocError}
 use Rattle.std.specs.List.{zip}
@@ -173,13 +173,9 @@ abbrev pub ShelfWrites : List (List ℕ) → (Option Files → List ℕ → Repl
 ShelfWrites names Says shelf (Ok text) = IsSound shelf × ((out : List ℕ) × (tail : List ℕ) × Says shelf.before tail (done_reply out) × (text.items ≡ out ++ tail))
 ShelfWrites names Says shelf (Err stop) = ShelfStops names (λ told. Says told []) shelf stop
 
--- the files of a run that is built, as many as they are
-abbrev pub line_files : Option RunLine → List (List ℕ)
-line_files (Some line) = [] ∷ (if is_dash line.config then line.inputs else line.config ∷ line.inputs)
-line_files None = []
-
-abbrev pub HasFewInputs : Option RunLine → Type 0
-HasFewInputs line = IfSome line (λ l. length l.inputs ≤ 16)
+-- the files of a run, as many as they are
+abbrev pub line_files : RunLine → List (List ℕ)
+line_files line = [] ∷ (if is_dash line.config then line.inputs else line.config ∷ line.inputs)
 
 -- the text went to one sink, whole or up to a put that was refused, and nothing to the other
 abbrev pub WritesTo : List ℕ → SinkChange → SinkChange → ℕ → ℕ → Type 0

@@ -1,14 +1,18 @@
-ghost use Rattle.std.specs.Prelude.{◌≡◌, ◌<◌, IfOk, length};
+ghost use Rattle.std.specs.Prelude.{◌≡◌, ◌<◌, IfOk, flat_map, length};
 ghost use Rattle.std.specs.List.{All};
 ghost use Rattle.pb_words.specs.declared.ask.Pool.{Pool};
 ghost use Rattle.pb_run_work.specs.Running.{run_plan};
+ghost use Rattle.pb_summary.specs.Summary.{summary_text};
+ghost use Rattle.pb_top.specs.Demos.{Summarizes};
 ghost use Rattle.pb_top.specs.Runs.{RunWrites, orders_of, trap_status};
-ghost use Rattle.pb_top.specs.Working.{IsTailFor, IsTrapped, StopsWith, Writes, fitting_of};
+ghost use Rattle.pb_top.specs.Working.{IsTailFor, IsTrapped, Replies, StopsWith, Writes, fitting_of};
 
 use crate::reply::{Status, Stop};
+use pb_matrix::Matrix;
 use pb_run_lines::trap_line;
-use pb_taskgraph::{Finished, trace};
-use pb_unroll::{Run, TrappedCell, first_trapped, results_text};
+use pb_summary::summary;
+use pb_taskgraph::{Finished, Outcomes, trace};
+use pb_unroll::{Run, TrappedCell, first_trapped, result_matrices, results_text};
 use pb_values::Kind;
 use std::alloc::{AllocError, Global};
 
@@ -71,4 +75,33 @@ pub fn finish(
     let tail = tail_of(alloc, run, &finished.order, traced)?;
     text.extend_from_slice(&tail)?;
     Ok(text)
+}
+
+/// The summaries of matrices, which all begin with this name.
+fn summaries(alloc: Global, name: &str, matrices: &[Matrix]) -> Result<Vec<u8>, AllocError>
+    ensures { IfOk result (λ text. text.items ≡ flat_map (summary_text name.now) matrices.now) }
+{
+    let mut text = Vec::new(alloc);
+    for matrix in matrices {
+        text.extend_from_slice(&summary(alloc, name, matrix)?)?;
+    }
+    Ok(text)
+}
+
+/// What a run comes to whose matrices are summarized: a line on each of them, which begins with this name; or the line of its first
+/// trapped cell.
+pub fn summarize(
+    alloc: Global,
+    run: &Run<'_>,
+    outcomes: &Outcomes,
+    name: &str,
+) -> Result<Vec<u8>, Stop>
+    requires { outcomes.now ≡ (run_plan run.now).solution }
+    ensures { Replies (Summarizes name.now (fitting_of run.now)) result }
+{
+    if let Some(cell) = first_trapped(run, outcomes) {
+        return Err(trapped(alloc, run, &cell)?);
+    }
+    let matrices = result_matrices(alloc, run, outcomes)?;
+    Ok(summaries(alloc, name, &matrices)?)
 }

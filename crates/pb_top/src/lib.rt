@@ -3,13 +3,13 @@
 //! In: words, a shelf, two sinks. Out: the status, and the text of the answer on one of the sinks. The one
 //! theorem is the clause `ends` of `pb_command`, and `pb_alone` has the same where it answers: `specs/Ends.antt` says how
 //! a call ends, over `specs/Answer.antt`, which says what words and files have for an answer, by the steps of
-//! `specs/Steps.antt`, `specs/Runs.antt` and `specs/Tunes.antt`. `check`, `choices`, `tune`, and `run` on one thread and on threads
-//! under a lock are built.
+//! `specs/Steps.antt`, `specs/Runs.antt`, `specs/Tunes.antt` and `specs/Demos.antt`.
 //! `reply` names the statuses and the lines on `err`, `work` dispatches, `command` writes.
 #![tactic(auto)]
 
 mod check;
 mod command;
+mod demo;
 mod files;
 mod finish;
 mod judge;

@@ -44,7 +44,7 @@ pub fn run_alone(
 }
 
 /// What a pool has run, on one thread or on so many. Each worker of a pool of threads calls the gate's `enter` before it runs a task.
-fn run_pool<R: Threads + Wait + Sync, G: Gate>(
+pub fn run_pool<R: Threads + Wait + Sync, G: Gate>(
     rt: &R,
     alloc: Global,
     run: &Run<'_>,

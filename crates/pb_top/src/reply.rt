@@ -1,6 +1,6 @@
 ghost use Rattle.std.specs.Prelude.{◌≡◌, IfOk};
 ghost use Rattle.pb_top.specs.Texts.{read_fault_line};
-ghost use Rattle.pb_top.specs.Reply.{no_file, file_too_long, not_built, usage, IsFaultyInput};
+ghost use Rattle.pb_top.specs.Reply.{no_file, file_too_long, usage, IsFaultyInput};
 ghost use Rattle.pb_top.specs.Working.{StopsWith, IsUnread};
 
 use pb_matrix::MatrixRefusal;
@@ -34,7 +34,6 @@ pub enum Status {
     ReadFault,
     WriteFault,
     NoMemory,
-    NotBuilt,
     /// A file isn't there or is too long.
     File,
 }
@@ -59,7 +58,6 @@ impl Status {
             Status::ReadFault => 9,
             Status::WriteFault => 10,
             Status::NoMemory => 11,
-            Status::NotBuilt => 12,
             Status::File => 14,
         }
     }
@@ -104,14 +102,6 @@ pub fn usage(alloc: Global) -> Result<Stop, AllocError>
 {
     let text = String::from_str(alloc, USAGE)?;
     Ok(Stop::Refused(Status::Usage, text.into_bytes()))
-}
-
-/// What is asked isn't built yet.
-pub fn not_built(alloc: Global) -> Result<Stop, AllocError>
-    ensures { IfOk result (StopsWith (λ reply. reply ≡ not_built)) }
-{
-    let line = String::from_str(alloc, "N1 NotBuilt\n")?;
-    Ok(Stop::Refused(Status::NotBuilt, line.into_bytes()))
 }
 
 /// A file that isn't there.

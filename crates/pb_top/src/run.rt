@@ -1,4 +1,4 @@
-ghost use Rattle.std.specs.Prelude.{◌≡◌, map, string_bytes};
+ghost use Rattle.std.specs.Prelude.{◌≡◌, ◌≤◌, length, map, string_bytes};
 ghost use Rattle.pb_top.specs.Answer.{run_line};
 
 use std::marker::Model;
@@ -21,15 +21,16 @@ impl<'a> Model for RunLine<'a> {
 }
 
 /// The words of a run, of those after the options.
-pub fn read_run(others: &[String]) -> Option<RunLine<'_>>
+pub fn read_run(others: &[String]) -> RunLine<'_>
+    requires { 3 ≤ length others.now }
     ensures { result ≡ run_line (map string_bytes others.now) }
 {
     match others {
-        [_, config, transform, inputs @ ..] => Some(RunLine {
+        [_, config, transform, inputs @ ..] => RunLine {
             config: config.as_str(),
             transform: transform.as_str(),
             inputs,
-        }),
-        _ => None,
+        },
+        _ => unreachable!(),
     }
 }

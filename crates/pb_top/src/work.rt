@@ -2,19 +2,20 @@ ghost use Rattle.std.specs.Prelude.{◌≡◌, ◌≤◌, ◌++◌, [], Some, fa
 ghost use Rattle.pb_words.specs.Ranges.{IsInRange, IsWithin};
 ghost use Rattle.pb_words.specs.declared.ask.Pool.TheVariants.{Serial};
 ghost use Rattle.std.specs.List.{zip};
-ghost use Rattle.pb_words.specs.Files.{run_files};
+ghost use Rattle.pb_words.specs.Files.{file_words, run_files};
 ghost use Rattle.pb_words.specs.Line.{least_others};
 ghost use Rattle.pb_top.specs.Sinks.{shelf_change, AsksFront};
-ghost use Rattle.pb_top.specs.Answer.{AskAnswers, IsTail, Runs, WorkWrites, content_at, is_dash, needs_threads, taken_words, tuned_name};
+ghost use Rattle.pb_top.specs.Answer.{AskAnswers, IsTail, Runs, WorkWrites, content_at, is_dash, needs_threads, tuned_name};
 ghost use Rattle.pb_top.specs.Runs.{RunWrites, RunsProgram};
 ghost use Rattle.pb_top.specs.Tunes.{TunesProgram};
-ghost use Rattle.pb_top.specs.Working.{HasFewInputs, IsReady, Prepares, Replies, ShelfWrites, Writes, contents_of, line_files, text_in, texts_of};
+ghost use Rattle.pb_top.specs.Working.{IsReady, Prepares, Replies, ShelfWrites, Writes, contents_of, line_files, text_in, texts_of};
 
 use crate::check::{check, choices};
+use crate::demo::demo;
 use crate::files::fetch_all;
 use crate::pools::{run_alone, run_beside};
 use crate::prepare::{Prepared, Request, prepare};
-use crate::reply::{Stop, not_built};
+use crate::reply::Stop;
 use crate::run::{RunLine, read_run};
 use crate::tune::tune;
 use pb_outside::Shelf;
@@ -66,9 +67,9 @@ fn run_names<'a>(alloc: Global, others: &'a [String]) -> Result<Vec<&'a str>, Al
     with_words(names, inputs)
 }
 
-// The words that name the files of what is asked, in order; what isn't built takes none.
+// The words that name the files of what is asked, in order.
 fn file_names<'a>(alloc: Global, ask: Ask, others: &'a [String]) -> Result<Vec<&'a str>, AllocError>
-    ensures { IfOk result (λ names. texts_of names.items ≡ taken_words ask (map string_bytes others.now)) }
+    ensures { IfOk result (λ names. texts_of names.items ≡ file_words ask (map string_bytes others.now)) }
 {
     match ask {
         Ask::Check | Ask::Choices | Ask::Tune { .. } => first_name(alloc, others),
@@ -113,9 +114,9 @@ fn prepare_line(
     traced: bool,
     contents: &[Vec<u8>],
 ) -> Result<Prepared, Stop>
-    requires all { length contents.now ≡ length (line_files (Some line.now)) }
+    requires all { length contents.now ≡ length (line_files line.now) }
     requires few { length line.now.inputs ≤ 16 }
-    ensures prepares { Prepares line.now.transform depth grain traced (λ pool tail. Runs depth grain (RunWrites pool traced tail) (Some line.now) (contents_of contents.now)) result }
+    ensures prepares { Prepares line.now.transform depth grain traced (λ pool tail. Runs depth grain (RunWrites pool traced tail) line.now (contents_of contents.now)) result }
     ensures ready { IfOk result IsReady }
 {
     let program = &contents[0];
@@ -147,19 +148,16 @@ fn prepare_line(
 // A run on one thread, over the bytes of its files.
 fn run_line(
     alloc: Global,
-    line: &Option<RunLine<'_>>,
+    line: &RunLine<'_>,
     depth: u32,
     grain: u64,
     traced: bool,
     contents: &[Vec<u8>],
 ) -> Result<Vec<u8>, Stop>
     requires all { length contents.now ≡ length (line_files line.now) }
-    requires few { HasFewInputs line.now }
+    requires few { length line.now.inputs ≤ 16 }
     ensures { Writes (λ tail. Runs depth grain (RunWrites Serial traced tail) line.now (contents_of contents.now)) result }
 {
-    let Some(line) = line else {
-        return Err(not_built(alloc)?);
-    };
     let prepared = prepare_line(alloc, line, depth, grain, traced, contents)?;
     run_alone(alloc, prepared, line.transform, depth, grain, traced)
 }
@@ -168,7 +166,7 @@ fn run_line(
 fn run_line_beside<R: Threads + Wait + Sync, G: Gate>(
     rt: &R,
     alloc: Global,
-    line: &Option<RunLine<'_>>,
+    line: &RunLine<'_>,
     depth: u32,
     grain: u64,
     traced: bool,
@@ -178,14 +176,11 @@ fn run_line_beside<R: Threads + Wait + Sync, G: Gate>(
     gate: &G,
 ) -> Result<Vec<u8>, Stop>
     requires all { length contents.now ≡ length (line_files line.now) }
-    requires few { HasFewInputs line.now }
+    requires few { length line.now.inputs ≤ 16 }
     requires some_workers { 1 ≤ workers }
     requires few_workers { workers ≤ 64 }
     ensures { Writes (λ tail. Runs depth grain (RunWrites pool traced tail) line.now (contents_of contents.now)) result }
 {
-    let Some(line) = line else {
-        return Err(not_built(alloc)?);
-    };
     let prepared = prepare_line(alloc, line, depth, grain, traced, contents)?;
     let name = line.transform;
     run_beside(
@@ -214,21 +209,21 @@ fn answer(alloc: Global, ask: Ask, others: &[String], contents: &[Vec<u8>]) -> R
     requires range { IsInRange ask }
     requires enough { least_others ask ≤ length others.now }
     requires few { length others.now ≤ 19 }
-    requires all { length contents.now ≡ length (taken_words ask (map string_bytes others.now)) }
+    requires all { length contents.now ≡ length (file_words ask (map string_bytes others.now)) }
     ensures { Writes (λ tail. WorkWrites ask (map string_bytes others.now) tail (contents_of contents.now)) result }
 {
     match ask {
         Ask::Check => check(alloc, &contents[0]),
         Ask::Choices => choices(alloc, &contents[0]),
+        // A run that needs no threads is serial.
         Ask::Run {
-            pool: Pool::Serial,
             trace,
             depth,
             grain,
             ..
         } => run_line(alloc, &read_run(others), depth, grain, trace, contents),
         Ask::Tune { up_to } => tune_line(alloc, others, up_to, contents),
-        Ask::Run { .. } | Ask::Demo { .. } => unreachable!(),
+        Ask::Demo { .. } => unreachable!(),
     }
 }
 
@@ -244,7 +239,7 @@ fn answer_beside<R: Threads + Wait + Sync, G: Gate>(
     requires range { IsInRange ask }
     requires enough { least_others ask ≤ length others.now }
     requires few { length others.now ≤ 19 }
-    requires all { length contents.now ≡ length (taken_words ask (map string_bytes others.now)) }
+    requires all { length contents.now ≡ length (file_words ask (map string_bytes others.now)) }
     ensures { Writes (λ tail. WorkWrites ask (map string_bytes others.now) tail (contents_of contents.now)) result }
 {
     match ask {
@@ -266,7 +261,11 @@ fn answer_beside<R: Threads + Wait + Sync, G: Gate>(
             workers,
             gate,
         ),
-        Ask::Demo { .. } => Err(not_built(alloc)?),
+        Ask::Demo {
+            seed,
+            size,
+            workers,
+        } => demo(rt, alloc, seed, size, workers, gate),
         Ask::Check | Ask::Choices | Ask::Tune { .. } => answer(alloc, ask, others, contents),
     }
 }
@@ -283,11 +282,11 @@ pub fn work<S: Shelf>(
     requires range { IsInRange ask }
     requires enough { least_others ask ≤ length others.now }
     requires few { length others.now ≤ 19 }
-    ensures answer { ShelfWrites (taken_words ask (map string_bytes others.now)) (λ told tail reply. AskAnswers ask (map string_bytes others.now) told reply × IsTail ask (map string_bytes others.now) told reply tail)
+    ensures answer { ShelfWrites (file_words ask (map string_bytes others.now)) (λ told tail reply. AskAnswers ask (map string_bytes others.now) told reply × IsTail ask (map string_bytes others.now) told reply tail)
         (shelf_change S.files S.faults S.taken S.asked shelf.old shelf.new) result }
     ensures stays { S.files shelf.new ≡ S.files shelf.old }
-    ensures asked { AsksFront (taken_words ask (map string_bytes others.now)) (S.asked shelf.old) (S.asked shelf.new) }
-    ensures untaken { taken_words ask (map string_bytes others.now) ≡ [] → S.taken shelf.new ≡ S.taken shelf.old }
+    ensures asked { AsksFront (file_words ask (map string_bytes others.now)) (S.asked shelf.old) (S.asked shelf.new) }
+    ensures untaken { file_words ask (map string_bytes others.now) ≡ [] → S.taken shelf.new ≡ S.taken shelf.old }
 {
     let names = file_names(alloc, ask, others)?;
     let contents = fetch_all(alloc, shelf, &names)?;
@@ -306,11 +305,11 @@ pub fn work_beside<R: Threads + Wait + Sync, S: Shelf, G: Gate>(
     requires range { IsInRange ask }
     requires enough { least_others ask ≤ length others.now }
     requires few { length others.now ≤ 19 }
-    ensures answer { ShelfWrites (taken_words ask (map string_bytes others.now)) (λ told tail reply. AskAnswers ask (map string_bytes others.now) told reply × IsTail ask (map string_bytes others.now) told reply tail)
+    ensures answer { ShelfWrites (file_words ask (map string_bytes others.now)) (λ told tail reply. AskAnswers ask (map string_bytes others.now) told reply × IsTail ask (map string_bytes others.now) told reply tail)
         (shelf_change S.files S.faults S.taken S.asked shelf.old shelf.new) result }
     ensures stays { S.files shelf.new ≡ S.files shelf.old }
-    ensures asked { AsksFront (taken_words ask (map string_bytes others.now)) (S.asked shelf.old) (S.asked shelf.new) }
-    ensures untaken { taken_words ask (map string_bytes others.now) ≡ [] → S.taken shelf.new ≡ S.taken shelf.old }
+    ensures asked { AsksFront (file_words ask (map string_bytes others.now)) (S.asked shelf.old) (S.asked shelf.new) }
+    ensures untaken { file_words ask (map string_bytes others.now) ≡ [] → S.taken shelf.new ≡ S.taken shelf.old }
 {
     let names = file_names(alloc, ask, others)?;
     let contents = fetch_all(alloc, shelf, &names)?;

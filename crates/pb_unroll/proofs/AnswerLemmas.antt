@@ -28,7 +28,6 @@ use Rattle.pb_check.proofs.FirstLemmas.{some_at}
 use Rattle.pb_check.proofs.OrderLemmas.{found_length}
 use Rattle.pb_recursion.specs.Depths.{call_at, plans_at, sizes_given}
 use Rattle.pb_recursion.proofs.ShapeLemmas.{map_get}
-use Rattle.pb_runs.specs.Placed.{total}
 use Rattle.pb_runs.proofs.BaseLemmas.{total_is}
 use Rattle.pb_run_plan.specs.RunTasks.{plan_of_run}
 use Rattle.pb_run_work.specs.Running.{IsRunning, RunValue, all_of, first_call, ins_of, of_sizes, of_transform, prog_of, run_plan}
@@ -39,11 +38,11 @@ use Rattle.pb_solution.specs.Solutions.{all_matrices, outcomes_of}
 use Rattle.pb_solution.proofs.MayLemmas.{map_same}
 use Rattle.pb_solution.proofs.OutcomeLemmas.{AreSided, count_is, sides_are}
 use Rattle.pb_unroll.specs.Answers.{matrices_text, results_in, results_of, trapped_in}
-use Rattle.pb_unroll.specs.ShownCells.{IsShort, IsWritable, cells_shown, is_trapped, place_in, text_in}
+use Rattle.pb_unroll.specs.ShownCells.{IsShort, IsWritable, cells_shown, is_trapped, matrix_in, place_in, text_in}
 use Rattle.pb_unroll.proofs.CallLemmas.{call_is, stands_first}
 use Rattle.pb_unroll.proofs.PlaceLemmas.{as_place, matrix_count, place_is}
 use Rattle.pb_unroll.proofs.TrapLemmas.{as_wanted, at_part, found_first, found_placed, found_trapped, not_found}
-use Rattle.pb_unroll.proofs.TextLemmas.{are_writable, shapes_fit, texts_are}
+use Rattle.pb_unroll.proofs.TextLemmas.{are_writable, matrices_are, shapes_fit, texts_of}
 
 -- ---- matrices in a row
 module _ (sizes : List ℕ) where
@@ -262,5 +261,8 @@ module _ (v : RunValue) (is : IsRunning v) where
       All-drop (IsWritable (run_plan v).solution) first v.views (are_writable sizes (run_plan v).solution later 0 t.matrices v.views all is.row sided whole
       (shapes_fit sizes (length t.sizes) t.matrices form.matrices is.short few))
 
-  pub results_are : flat_map (text_in (run_plan v).solution) (drop first v.views) ≡ matrices_text (results_in v)
-  results_are = texts_are sizes (run_plan v).solution later first 0 t.matrices v.views all is.row sided whole ∙ ap (λ ms. matrices_text (results_of t ms)) (sym first_is)
+  pub results_are : map (matrix_in (run_plan v).solution) (drop first v.views) ≡ results_in v
+  results_are = matrices_are sizes (run_plan v).solution later first 0 t.matrices v.views all is.row sided whole ∙ ap (results_of t) (sym first_is)
+
+  pub texts_are : flat_map (text_in (run_plan v).solution) (drop first v.views) ≡ matrices_text (results_in v)
+  texts_are = texts_of sizes (run_plan v).solution later (drop first v.views) ∙ ap matrices_text results_are

@@ -14,7 +14,6 @@ use Rattle.pb_values.specs.declared.view.View.{View}
 use Rattle.pb_program.specs.Forms.{DeclValue, constant_numbers}
 use Rattle.pb_program.specs.WellFormed.{IsDecl}
 use Rattle.pb_matrix.specs.Header.{IsMatrixShape, cell_count}
-use Rattle.pb_matrix.specs.Text.{matrix_text}
 use Rattle.pb_matrix.specs.declared.header.TheConstants.{MAX_CELLS}
 use Rattle.pb_model.specs.Calls.{Outcomes}
 use Rattle.pb_model.specs.Cells.{natural}
@@ -25,7 +24,7 @@ use Rattle.pb_views.specs.Layouts as layout
 use Rattle.pb_solution.specs.Solutions.{outcomes_of}
 use Rattle.pb_solution.proofs.OutcomeLemmas.{AreSided}
 use Rattle.pb_unroll.specs.Answers.{matrices_text, matrix_of}
-use Rattle.pb_unroll.specs.ShownCells.{IsWritable, cells_in, text_in}
+use Rattle.pb_unroll.specs.ShownCells.{IsWritable, cells_in, matrix_in, text_in}
 use Rattle.pb_unroll.proofs.PlaceLemmas.{some_side}
 
 one_is : (sizes : List ℕ) → exact_value (constant_numbers (pos 1)) sizes ≡ pos 1
@@ -80,8 +79,8 @@ module _ (sizes : List ℕ) where
     shape_is : v.shape ≡ (matrix_of (d, g)).shape
     shape_is = whole.shape ∙ (λ i. record { dims = d.dims; w = sym sides.width i; h = sym sides.height i })
 
-    text_is : text_in os v ≡ matrix_text (matrix_of (d, g)).shape (matrix_of (d, g)).cells
-    text_is = λ i. matrix_text (shape_is i) (map number_in (cells_are i))
+    matrix_is : matrix_in os v ≡ matrix_of (d, g)
+    matrix_is = λ i. record { shape = shape_is i; cells = map number_in (cells_are i) }
 
     is_writable : IsMatrixShape (shape_of sizes d) → IsWritable os v
     is_writable fits = record { shape = subst IsMatrixShape (sym whole.shape) fits; cells = ap length cells_are ∙ area_is ∙ ap cell_count (sym whole.shape) }
@@ -101,24 +100,28 @@ module _ (sizes : List ℕ) where
     unfolding outcomes_of
     first_of first g ms here = here ∙ append_assoc g.cells (flat_map (λ (m : Outcomes). m.cells) ms) more
 
-    nothing : (n : ℕ) (ms : List Outcomes) → flat_map (text_in os) (drop n []) ≡ matrices_text (map matrix_of (zip (drop n []) (drop n ms)))
+    nothing : (n : ℕ) (ms : List Outcomes) → map (matrix_in os) (drop n []) ≡ map matrix_of (zip (drop n []) (drop n ms))
     nothing zero ms = refl
     nothing (suc n) ms = refl
 
-    pub texts_are : (n first : ℕ) (ds : List DeclValue) (vs : List View) (ms : List Outcomes) → AreInARow first sizes ds vs → AreSided sizes ds ms → drop first os ≡ outcomes_of ms ++ more
-        → flat_map (text_in os) (drop n vs) ≡ matrices_text (map matrix_of (zip (drop n ds) (drop n ms)))
+    pub matrices_are : (n first : ℕ) (ds : List DeclValue) (vs : List View) (ms : List Outcomes) → AreInARow first sizes ds vs → AreSided sizes ds ms → drop first os ≡ outcomes_of ms ++ more
+        → map (matrix_in os) (drop n vs) ≡ map matrix_of (zip (drop n ds) (drop n ms))
     unfolding outcomes_of
-    texts_are n first [] vs ms row sided here = ap (λ (l : List View). flat_map (text_in os) (drop n l)) row ∙ nothing n ms
-    texts_are n first (d ∷ ds) [] ms row sided here = absurd row
-    texts_are n first (d ∷ ds) (v ∷ vs) [] row sided here = absurd (omega (arith, sided.count))
-    texts_are zero first (d ∷ ds) (v ∷ vs) (g ∷ ms) row sided here =
+    matrices_are n first [] vs ms row sided here = ap (λ (l : List View). map (matrix_in os) (drop n l)) row ∙ nothing n ms
+    matrices_are n first (d ∷ ds) [] ms row sided here = absurd row
+    matrices_are n first (d ∷ ds) (v ∷ vs) [] row sided here = absurd (omega (arith, sided.count))
+    matrices_are zero first (d ∷ ds) (v ∷ vs) (g ∷ ms) row sided here =
         let sides = sided.each 0 d g refl refl in
         let mine = first_of first g ms here in
-        let text = text_is os (later ms) first d v g row.0 sides mine in
-        let texts = texts_are zero (first + area_at sizes d) ds vs ms row.1 (rest_sided d ds g ms sided) (rest_is os (later ms) first d v g row.0 sides mine) in
-        λ i. text i ++ texts i
-    texts_are (suc n) first (d ∷ ds) (v ∷ vs) (g ∷ ms) row sided here =
-        texts_are n (first + area_at sizes d) ds vs ms row.1 (rest_sided d ds g ms sided) (rest_is os (later ms) first d v g row.0 (sided.each 0 d g refl refl) (first_of first g ms here))
+        let matrix = matrix_is os (later ms) first d v g row.0 sides mine in
+        let matrices = matrices_are zero (first + area_at sizes d) ds vs ms row.1 (rest_sided d ds g ms sided) (rest_is os (later ms) first d v g row.0 sides mine) in
+        λ i. matrix i ∷ matrices i
+    matrices_are (suc n) first (d ∷ ds) (v ∷ vs) (g ∷ ms) row sided here =
+        matrices_are n (first + area_at sizes d) ds vs ms row.1 (rest_sided d ds g ms sided) (rest_is os (later ms) first d v g row.0 (sided.each 0 d g refl refl) (first_of first g ms here))
+
+    pub texts_of : (vs : List View) → flat_map (text_in os) vs ≡ matrices_text (map (matrix_in os) vs)
+    texts_of [] = refl
+    texts_of (v ∷ vs) = ap (λ l. text_in os v ++ l) (texts_of vs)
 
     pub are_writable : (first : ℕ) (ds : List DeclValue) (vs : List View) (ms : List Outcomes) → AreInARow first sizes ds vs → AreSided sizes ds ms → drop first os ≡ outcomes_of ms ++ more
         → AllByRecursion (λ d. IsMatrixShape (shape_of sizes d)) ds → All (IsWritable os) vs

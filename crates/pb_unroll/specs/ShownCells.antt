@@ -7,6 +7,7 @@ use Rattle.pb_values.specs.declared.shape.TheConstants.{MOST_SIDE}
 use Rattle.pb_values.specs.declared.view.View.{View}
 use Rattle.pb_matrix.specs.Header.{IsMatrixShape, cell_count}
 use Rattle.pb_matrix.specs.Text.{matrix_text}
+use Rattle.pb_matrix.specs.Value.{MatrixValue}
 use Rattle.pb_model.specs.Equations.{number_in}
 
 abbrev pub is_trapped : Outcome → Bool
@@ -31,6 +32,10 @@ place_in (v ∷ vs) first cell =
 -- the outcomes of a matrix's cells, row by row
 abbrev pub cells_in : List Outcome → View → List Outcome
 cells_in outcomes v = take (cell_count v.shape) (drop v.first outcomes)
+
+-- the matrix; a trap in it counts as 0
+abbrev pub matrix_in : List Outcome → View → MatrixValue
+matrix_in outcomes v = record { shape = v.shape; cells = map number_in (cells_in outcomes v) }
 
 -- its text
 abbrev pub text_in : List Outcome → View → List ℕ

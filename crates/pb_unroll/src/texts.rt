@@ -1,9 +1,9 @@
 ghost use Rattle.std.specs.Prelude.{◌≡◌, IfOk, IfSome, flat_map, map};
 ghost use Rattle.std.specs.List.{All};
-ghost use Rattle.pb_unroll.specs.ShownCells.{IsWritable, cells_in, text_in};
+ghost use Rattle.pb_unroll.specs.ShownCells.{IsWritable, cells_in, matrix_in, text_in};
 ghost use Rattle.pb_model.specs.Equations.{number_in};
 
-use pb_matrix::write_matrix;
+use pb_matrix::{Matrix, write_matrix};
 use pb_taskgraph::Outcomes;
 use pb_values::{Outcome, View};
 use std::alloc::{AllocError, Global};
@@ -77,4 +77,32 @@ pub(crate) fn texts_in(
         }
     }
     Ok(text)
+}
+
+/// A matrix with its numbers.
+fn matrix_in(alloc: Global, view: &View, outcomes: &Outcomes) -> Result<Matrix, AllocError>
+    requires { IsWritable outcomes.now view.now }
+    ensures { IfOk result (λ matrix. matrix ≡ matrix_in outcomes.now view.now) }
+{
+    let cells = numbers_in(alloc, view, outcomes)?;
+    Ok(Matrix {
+        shape: view.shape,
+        cells,
+    })
+}
+
+/// Matrices with their numbers, in order.
+pub(crate) fn matrices_in(
+    alloc: Global,
+    views: &[View],
+    outcomes: &Outcomes,
+) -> Result<Vec<Matrix>, AllocError>
+    requires { All (IsWritable outcomes.now) views.now }
+    ensures { IfOk result (λ matrices. matrices.items ≡ map (matrix_in outcomes.now) views.now) }
+{
+    let mut matrices = Vec::with_capacity(alloc, views.len())?;
+    for view in views {
+        matrices.push(matrix_in(alloc, view, outcomes)?)?;
+    }
+    Ok(matrices)
 }

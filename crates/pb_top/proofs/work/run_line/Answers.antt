@@ -1,16 +1,16 @@
-use Rattle.std.proofs.Common.{[], Some, subst, sym}
+use Rattle.std.proofs.Common.{subst}
 use Rattle.std.proofs.lemmas.Result.{err_from_is_err_and}
 use Rattle.pb_words.specs.declared.ask.Pool.TheVariants.{Serial}
 use Rattle.pb_top.specs.Answer.{RunLine, Runs}
 use Rattle.pb_top.specs.Runs.{RunWrites}
-use Rattle.pb_top.specs.Working.{Continues, StopsWith, Writes, contents_of}
+use Rattle.pb_top.specs.Working.{Continues, Writes, contents_of}
 use Rattle.pb_top.proofs.FinishLemmas.{prepared_writes}
 use Rattle.pb_top.proofs.work.run_line.Goals as goal
 
 pub returns-in_err-prepared : goal.returns-in_err-prepared
 returns-in_err-prepared c =
-    let e = err_from_is_err_and c.from_residual-in_err-prepared.result c.from_residual-in_err-prepared.ensures.1 in
-    rw (e.1, e.2) (subst (λ l. StopsWith (Runs c.args.depth c.args.grain (RunWrites Serial c.args.traced []) l (contents_of c.args.contents.now)) c.in_err-prepared.field-0.0) (sym c.in-Some.is) (c.in_err-prepared.ensures.prepares Serial))
+    let e = err_from_is_err_and c.from_residual.result c.from_residual.ensures.1 in
+    rw (e.1, e.2) (c.in_err-prepared.ensures.prepares Serial)
 
 pub returns : goal.returns
 returns c =
@@ -18,7 +18,7 @@ returns c =
     let grain = c.args.grain in
     let traced = c.args.traced in
     let contents = contents_of c.args.contents.now in
+    let line = c.args.line.now in
     let b = c.in_ok-prepared.prepared in
     let went = subst (λ (l : RunLine). Writes (Continues l.transform d grain traced b Serial) c.run_alone.result) c.line.view_is c.run_alone.ensures in
-    subst (λ l. Writes (λ tail. Runs d grain (RunWrites Serial traced tail) l contents) c.run_alone.result) (sym c.in-Some.is)
-    (prepared_writes c.in-Some.line.transform d grain traced (λ pool tail. Runs d grain (RunWrites pool traced tail) (Some c.in-Some.line) contents) b Serial c.run_alone.result c.in_ok-prepared.ensures.prepares went)
+    prepared_writes line.transform d grain traced (λ pool tail. Runs d grain (RunWrites pool traced tail) line contents) b Serial c.run_alone.result c.in_ok-prepared.ensures.prepares went

@@ -1,7 +1,8 @@
 use Rattle.std.proofs.Common.{Ok, length, map, ap, subst, ◌∙◌, string_bytes}
 use Rattle.pb_top.specs.Sinks.{shelf_change}
 use Rattle.pb_top.specs.Steps.{Takes}
-use Rattle.pb_top.specs.Answer.{limited, taken_words, WorkWrites}
+use Rattle.pb_words.specs.Files.{file_words}
+use Rattle.pb_top.specs.Answer.{limited, WorkWrites}
 use Rattle.pb_top.specs.Working.{Writes, contents_of, texts_of}
 use Rattle.pb_top.proofs.CommandLemmas.{taken_length}
 use Rattle.pb_top.proofs.WorkLemmas.{files_write}
@@ -20,4 +21,4 @@ returns-clause-answer g c =
 pub answer_beside-requires-clause-all : goal.answer_beside-requires-clause-all
 answer_beside-requires-clause-all g c κs within =
     let names = subst (λ names. Takes (g.S.Shelf.files c.args.shelf.now) (limited names) (Ok (contents_of c.in_ok-contents.contents.items))) (ap texts_of c.deref.ensures.value ∙ c.in_ok-names.ensures) c.in_ok-contents.ensures.taken.1 in
-    ap length c.deref-2.ensures.value ∙ taken_length (g.S.Shelf.files c.args.shelf.now) (taken_words c.args.ask (map string_bytes c.args.others.now)) c.in_ok-contents.contents.items names
+    ap length c.deref-2.ensures.value ∙ taken_length (g.S.Shelf.files c.args.shelf.now) (file_words c.args.ask (map string_bytes c.args.others.now)) c.in_ok-contents.contents.items names

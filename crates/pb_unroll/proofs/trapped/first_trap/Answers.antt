@@ -1,4 +1,4 @@
-use Rattle.std.proofs.Common.{◌∙◌, sym, arith}
+use Rattle.std.proofs.Common.{◌∙◌, sym}
 use Rattle.pb_unroll.proofs.TrapLemmas.{found_here, none_left, passed}
 use Rattle.pb_unroll.proofs.trapped.first_trap.Goals as goal
 

@@ -1,4 +1,4 @@
-use Rattle.std.proofs.Common.{◌≡◌, ◌∙◌, refl, ap, sym, length, arith}
+use Rattle.std.proofs.Common.{◌∙◌, refl, ap, sym, length, arith}
 use Rattle.pb_program.specs.Transforms.{TransformValue}
 use Rattle.pb_taskgraph.specs.Graphs.{GraphValue}
 use Rattle.pb_unroll.specs.ShownCells.{cells_shown}
