@@ -44,7 +44,7 @@ fail() {
 
 if is_stale; then
     command -v rt >/dev/null || fail "the program isn't built, and the toolchain's command rt isn't on the PATH"
-    echo "pb: proving and building the program; from nothing this takes some 20 minutes" >&2
+    echo "pb: proving and building the program; from nothing this takes about an hour on four processors" >&2
     mkdir -p "$crate/out"
     : >"$log"
     tell_progress &
