@@ -1,5 +1,5 @@
 -- The blocks of an axis and of a layer: they reach all places before the ends, and each stands before the later ones.
-use Rattle.std.proofs.Common.{◌≡◌, refl, subst, inl, inr, ◌⊎◌, ⊎_elim, ℕ, zero, suc, ◌+◌, ◌-◌, ◌*◌, ◌/◌, ◌≤◌, ◌<◌, Bool, true, false, List, [], ◌∷◌, ◌++◌, map, slice_get, Option, Some, None, arith}
+use Rattle.std.proofs.Common.{◌≡◌, refl, subst, inl, inr, ◌⊎◌, ⊎_elim, ℕ, zero, suc, ◌+◌, ◌-◌, ◌*◌, ◌/◌, ◌≤◌, ◌<◌, Bool, true, false, List, [], ◌∷◌, ◌++◌, map, length, slice_get, Option, Some, None, arith}
 use Rattle.std.specs.Prelude.{filter}
 use Rattle.std.specs.Int.{div_ceil}
 use Rattle.std.specs.List.{Contains, flat_map, range_with_len}
@@ -8,7 +8,7 @@ use Rattle.std.proofs.Math.Nat.{div-mul-le_self, lt-div-mul-add, mul-le-mul_righ
 use Rattle.std.proofs.lemmas.Bool.{cases_lt}
 use Rattle.std.proofs.lemmas.Grind.{div_ceil_times}
 use Rattle.std.proofs.lemmas.List.Elements.{Contains-append_cases}
-use Rattle.std.proofs.lemmas.List.FromFn.{get_or-range_with_len, length-range_with_len}
+use Rattle.std.proofs.lemmas.List.FromFn.{get_or-range_with_len, length-map-range_with_len, length-range_with_len}
 use Rattle.pb_linear.specs.declared.boxes.Sign.{Sign}
 use Rattle.pb_linear.specs.declared.boxes.Sign.TheVariants.{Plus, Minus}
 use Rattle.pb_values.specs.Views.{HasPlace}
@@ -107,6 +107,26 @@ module _ (side top : ℕ) where
 
 some_side : (grain top : ℕ) → 0 < block_side grain top
 some_side grain top = omega arith
+
+pub side_serves : (grain top : ℕ) → (grain ≤ block_side grain top) × (top ≤ 16 * block_side grain top)
+side_serves grain top = let all = (div_ceil_times top 16 (omega arith)).0 in (omega arith, omega (arith, all))
+
+pub side_least : (grain top side : ℕ) → 1 ≤ side → grain ≤ side → top ≤ 16 * side → block_side grain top ≤ side
+side_least grain top side some grains enough = omega (arith, some, grains, enough, (div_ceil_times top 16 (omega arith)).1)
+
+pub spans_few : (cut : Option Sign) (grain top : ℕ) → length (spans cut grain top) ≤ 16
+unfolding spans
+spans_few None grain top = omega arith
+spans_few (Some sign) grain top = omega (arith, length-map-range_with_len (λ place. block_at side top (number_by sign count place)) 0 count, few)
+  where
+    side : ℕ
+    side = block_side grain top
+
+    count : ℕ
+    count = div_ceil top side
+
+    few : count ≤ 16
+    few = ⊎_elim (λ more. absurd (let all : 17 * side ≤ count * side = mul-le-mul_right side more in omega (arith, all, (side_serves grain top).1, (div_ceil_times top side (some_side grain top)).1))) (λ h. omega (arith, h)) (cases_lt 16 count)
 
 pub spans_ordered : (cut : Option Sign) (grain top : ℕ) → Ordered (Ahead cut) (spans cut grain top)
 unfolding spans

@@ -1,5 +1,7 @@
-ghost use Rattle.std.specs.Prelude.{◌≡◌, ℕ, List, Some, slice_get};
+ghost use Rattle.std.specs.Prelude.{◌≡◌, ◌≤◌, ◌<◌, ◌*◌, ℕ, List, Option, Some, length, slice_get};
 ghost use Rattle.std.specs.List.{Contains};
+ghost use Rattle.pb_linear.specs.declared.boxes.Sign.{Sign};
+ghost use Rattle.pb_linear.specs.declared.boxes.Sign.TheVariants.{Minus, Plus};
 ghost use Rattle.pb_program.specs.Configs.{ConfigValue};
 ghost use Rattle.pb_program.specs.Trees.{ProgTransform};
 ghost use Rattle.pb_model.specs.Cells.{Cell};
@@ -7,7 +9,7 @@ ghost use Rattle.pb_model.specs.Chosen.{chosen_rule};
 ghost use Rattle.pb_check.specs.Orders.{AnalysisValue};
 ghost use Rattle.pb_check.specs.Ranked.{IsMadeCell};
 ghost use Rattle.pb_frame.specs.Choices.{IsInstance};
-ghost use Rattle.pb_frame.specs.Frames.{HoldsCell, parts_of};
+ghost use Rattle.pb_frame.specs.Frames.{block_side, HoldsCell, parts_of, spans};
 ghost use Rattle.pb_frame.specs.declared.part.FramePart.{FramePart};
 
 /// A law: each cell that a part holds is one that rules make, and the part's rule is its chosen rule.
@@ -25,4 +27,15 @@ pub fn each_cell_lies_in_one_part()
     ensures one { (config : ConfigValue) (number : ℕ) (t : ProgTransform) (a : AnalysisValue) (sizes : List ℕ) → IsInstance number t a sizes
         → (c : Cell) (part other : FramePart) → Contains (parts_of config number t sizes a.nodes) part → Contains (parts_of config number t sizes a.nodes) other
         → HoldsCell a.nodes part c → HoldsCell a.nodes other c → part ≡ other }
+{}
+
+/// A law: the blocks of an axis have the grain as their side, or the least side by which at most 16 of them reach the end, where
+/// that is greater. They reach each place before the end, and each stands before those that come after it in the axis's sign.
+pub fn blocks_reach_each_place()
+    ensures side { (grain top : ℕ) → (grain ≤ block_side grain top) × (top ≤ 16 * block_side grain top) }
+    ensures least { (grain top side : ℕ) → 1 ≤ side → grain ≤ side → top ≤ 16 * side → block_side grain top ≤ side }
+    ensures few { (cut : Option Sign) (grain top : ℕ) → length (spans cut grain top) ≤ 16 }
+    ensures reached { (cut : Option Sign) (grain top x : ℕ) → x < top → (s : ℕ × ℕ) × Contains (spans cut grain top) s × (s.0 ≤ x) × (x < s.1) }
+    ensures rising { (grain top i j : ℕ) (s r : ℕ × ℕ) → slice_get (spans (Some Plus) grain top) i ≡ Some s → slice_get (spans (Some Plus) grain top) j ≡ Some r → i < j → s.1 ≤ r.0 }
+    ensures falling { (grain top i j : ℕ) (s r : ℕ × ℕ) → slice_get (spans (Some Minus) grain top) i ≡ Some s → slice_get (spans (Some Minus) grain top) j ≡ Some r → i < j → r.1 ≤ s.0 }
 {}
