@@ -1,5 +1,5 @@
 -- The blocks of an axis and of a layer: they reach all places before the ends, and each stands before the later ones.
-use Rattle.std.proofs.Common.{◌≡◌, refl, subst, inl, inr, ◌⊎◌, ⊎_elim, ℕ, zero, suc, ◌+◌, ◌-◌, ◌*◌, ◌/◌, ◌≤◌, ◌<◌, Bool, true, false, List, [], ◌∷◌, ◌++◌, map, length, slice_get, Option, Some, None, arith}
+use Rattle.std.proofs.Common.{◌≡◌, refl, subst, inl, inr, ◌⊎◌, ⊎_elim, ℕ, zero, suc, ◌+◌, ◌-◌, ◌*◌, ◌/◌, ◌≤◌, ◌<◌, Bool, true, false, List, [], ◌∷◌, ◌++◌, map, length, min, slice_get, Option, Some, None, arith}
 use Rattle.std.specs.Prelude.{filter}
 use Rattle.std.specs.Int.{div_ceil}
 use Rattle.std.specs.List.{Contains, flat_map, range_with_len}
@@ -127,6 +127,18 @@ spans_few (Some sign) grain top = omega (arith, length-map-range_with_len (λ pl
 
     few : count ≤ 16
     few = ⊎_elim (λ more. absurd (let all : 17 * side ≤ count * side = mul-le-mul_right side more in omega (arith, all, (side_serves grain top).1, (div_ceil_times top side (some_side grain top)).1))) (λ h. omega (arith, h)) (cases_lt 16 count)
+
+pub spans_sized : (sign : Sign) (grain top : ℕ) (s : ℕ × ℕ) → Contains (spans (Some sign) grain top) s
+    → (s.1 ≡ min (s.0 + block_side grain top) top) × ((k : ℕ) × (s.0 ≡ k * block_side grain top))
+unfolding spans
+spans_sized sign grain top s here =
+    let side = block_side grain top in
+    let m = map_in (λ place. block_at side top (number_by sign (div_ceil top side) place)) (range_with_len 0 (div_ceil top side)) s here in
+    subst (λ (r : ℕ × ℕ). (r.1 ≡ min (r.0 + side) top) × ((k : ℕ) × (r.0 ≡ k * side))) m.2 (refl, (number_by sign (div_ceil top side) m.0, refl))
+
+pub spans_whole : (grain top : ℕ) → spans None grain top ≡ (0, top) ∷ []
+unfolding spans
+spans_whole grain top = refl
 
 pub spans_ordered : (cut : Option Sign) (grain top : ℕ) → Ordered (Ahead cut) (spans cut grain top)
 unfolding spans

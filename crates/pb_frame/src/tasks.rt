@@ -164,7 +164,8 @@ fn frame_of(
 }
 
 /// What an instance of transform `t` makes at sizes in range, where a valid configuration chooses. There is such a
-/// transform. `grain` is the least side of a block.
+/// transform. `grain` is the least side of the blocks, but for one
+/// that the end of its axis cuts short.
 pub fn frame(
     alloc: Global,
     a: &Accepted,
