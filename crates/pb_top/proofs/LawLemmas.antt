@@ -46,7 +46,7 @@ one_reply_lem words files first second (inr (outside, is)) (inl (ask, place, lin
 one_reply_lem words files first second (inr (outside, is)) (inr (outside_too, other_is)) = is ∙ sym other_is
 
 -- a call ends with an answer or with one of three faults
-fault_or_not : (status : ℕ) → IsAnswerStatus status ⊎ (status ≡ 9) ⊎ (status ≡ 10) ⊎ (status ≡ 11)
+pub fault_or_not : (status : ℕ) → IsAnswerStatus status ⊎ (status ≡ 9) ⊎ (status ≡ 10) ⊎ (status ≡ 11)
 fault_or_not status =
     elim (cases_lt status 9) [
       | inl few ↦ inl (other_status status status refl (inl few))

@@ -15,3 +15,4 @@ pub mod CommandLemmas
 pub mod SiteLemmas
 pub mod TuneLemmas
 pub mod DemoLemmas
+pub mod StatusLemmas

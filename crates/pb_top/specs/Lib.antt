@@ -9,5 +9,6 @@ pub mod Tunes
 pub mod Demos
 pub mod Answer
 pub mod Ends
+pub mod Statuses
 -- what only proofs use: the contracts of the private functions on the way
 pub mod Working

@@ -1,5 +1,5 @@
 ghost use Rattle.std.specs.Prelude.{◌≡◌, ℕ, ◌≤◌, List, length, Some};
-ghost use Rattle.std.specs.List.{AllByRecursion};
+ghost use Rattle.std.specs.List.{AllByRecursion, Contains};
 ghost use Rattle.pb_syntax.specs.Trees.{TransformTree};
 ghost use Rattle.pb_syntax.specs.declared.refusal.Refusal.{Refusal};
 ghost use Rattle.pb_front.specs.Reading.{IsRead};
@@ -11,6 +11,9 @@ ghost use Rattle.pb_top.specs.Reply.{Reply, done_reply};
 ghost use Rattle.pb_top.specs.Check.{CheckAnswers};
 ghost use Rattle.pb_top.specs.Answer.{Answers};
 ghost use Rattle.pb_top.specs.Ends.{Ends, IsFaultless, IsComplete};
+ghost use Rattle.pb_top.specs.Statuses.{statuses, usage_statuses};
+ghost use Rattle.pb_words.specs.Line.{IsInside, Line};
+ghost use Rattle.pb_words.specs.declared.ask.Ask.{Ask};
 
 use pb_syntax::MOST_BYTES;
 
@@ -37,4 +40,12 @@ pub fn a_checked_text_stays()
 /// A law: of a text whose tree is refused for its names, the place that is told is the least of all faults of names.
 pub fn the_least_fault_of_names_is_told()
     ensures { (text : List ℕ) (tree : List TransformTree) (e : Refusal) → IsRead text tree → IsRefused tree e → AllByRecursion (λ f. told_at e ≤ place_of f) (faults_of tree) }
+{}
+
+/// A law: a call ends with a status that its command has; where the words are outside the grammar with 2, 10 or 11.
+pub fn a_command_has_its_statuses()
+    ensures inside { (words : List (List ℕ)) (shelf : ShelfChange) (out err : SinkChange) (status : ℕ) (ask : Ask) (place : ℕ)
+        → Ends words shelf out err status → Line words ask place → Contains (statuses ask) status }
+    ensures outside { (words : List (List ℕ)) (shelf : ShelfChange) (out err : SinkChange) (status : ℕ)
+        → Ends words shelf out err status → (IsInside words → ⊥) → Contains usage_statuses status }
 {}

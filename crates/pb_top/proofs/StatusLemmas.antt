@@ -1,0 +1,237 @@
+-- Each command has its statuses alone.
+use Rattle.std.proofs.Common.{refl, sym, subst, ℕ, List, [], ◌∷◌, drop, Option, Result, Ok, Err, inl, inr, Contains, arith}
+use Rattle.pb_check.specs.Orders.{AnalysisValue}
+use Rattle.pb_front.specs.Reading.{IsRefused}
+use Rattle.pb_matrix.specs.Value.{MatrixValue}
+use Rattle.pb_matrix.specs.declared.matrix.MatrixRefusal.{MatrixRefusal}
+use Rattle.pb_matrix.specs.declared.matrix.MatrixRefusal.TheVariants as fault
+use Rattle.pb_model.specs.Calls.{TrappedCell}
+use Rattle.pb_names.specs.Transforms.{IsRefused as HasBadNames}
+use Rattle.pb_outside.specs.Shelf.{Files}
+use Rattle.pb_program.specs.Configs.{ConfigValue}
+use Rattle.pb_program.specs.Trees.{ProgTransform}
+use Rattle.pb_run_lines.specs.RunLines.{trap_line}
+use Rattle.pb_syntax.specs.Trees.{TransformTree}
+use Rattle.pb_syntax.specs.declared.refusal.Refusal.{Refusal}
+use Rattle.pb_values.specs.declared.outcome.Kind.{Kind}
+use Rattle.pb_values.specs.declared.outcome.Kind.TheVariants as trap
+use Rattle.pb_words.specs.Files.{file_words}
+use Rattle.pb_words.specs.Line.{IsInside, Line}
+use Rattle.pb_words.specs.declared.ask.Ask.{Ask}
+use Rattle.pb_words.specs.declared.ask.Ask.TheVariants.{Check, Choices, Run, Tune, Demo}
+use Rattle.pb_words.proofs.LineLemmas.{one_reading}
+use Rattle.pb_top.specs.Answer.{Answers, AskAnswers, Runs, RunLine, WorkAnswers, config_text, content_at, input_files, limited, run_line, tuned_name}
+use Rattle.pb_top.specs.Check.{Printed, Text, its_canonical, its_report}
+use Rattle.pb_top.specs.Demos.{DemoAnswers, DemoRun, HasText}
+use Rattle.pb_top.specs.Ends.{Ends, IsAnswered}
+use Rattle.pb_top.specs.Reply.{IsFaultyInput, Reply, refusal_reply}
+use Rattle.pb_top.specs.Runs.{AfterAccept, AfterFit, AfterInputs, Configures, FindsTransform, Fits, Fitting, IsWithin, ReadsInput, RunReplies, RunsProgram, answer_reply, run_answer, trap_status}
+use Rattle.pb_top.specs.Sinks.{ShelfChange, SinkChange}
+use Rattle.pb_top.specs.Statuses.{check_statuses, demo_statuses, run_statuses, statuses, tune_statuses, usage_statuses}
+use Rattle.pb_top.specs.Steps.{Accepts, AfterProgram, Each, OfProgram, Reads, Refuses, RefusesProgram, Resolves, Takes, TakesFile, Then}
+use Rattle.pb_top.specs.Tunes.{FindsNamed, Tunes, TunesProgram}
+use Rattle.pb_top.specs.declared.reply.Status.TheVariants.{File, Program}
+use Rattle.pb_top.proofs.LawLemmas.{fault_or_not}
+
+abbrev HasOne : List ℕ → Reply → Type 0
+HasOne ns reply = Contains ns reply.status
+
+-- ---- what a step's replies have, and those after it
+module _ (Has : Reply → Type 0) where
+  then_has : {A : Type 0} (Step : Result A Reply → Type 0) (next : A → Reply → Type 0) → ((reply : Reply) → Step (Err reply) → Has reply)
+      → ((a : A) (reply : Reply) → next a reply → Has reply) → (reply : Reply) → Then Step next reply → Has reply
+  then_has Step next stops more reply (inl (a, step, rest)) = more a reply rest
+  then_has Step next stops more reply (inr stop) = stops reply stop
+
+  each_has : {A B : Type 0} (Step : A → Result B Reply → Type 0) → ((x : A) (reply : Reply) → Step x (Err reply) → Has reply)
+      → (xs : List A) (reply : Reply) → Each Step xs (Err reply) → Has reply
+  each_has Step stops [] reply none = absurd none
+  each_has Step stops (x ∷ xs) reply (inl stop) = stops x reply stop
+  each_has Step stops (x ∷ xs) reply (inr (y, here, stop)) = each_has Step stops xs reply stop
+
+  -- the files of a command
+  module _ (of_file : (line : List ℕ) → Has (refusal_reply File line)) (told : Option Files) where
+    file_has : (word : List ℕ) (limit : ℕ) (reply : Reply) → TakesFile told word limit (Err reply) → Has reply
+    file_has word limit reply (inl (none, is)) = subst Has (sym is) (of_file _)
+    file_has word limit reply (inr (long, is)) = subst Has (sym is) (of_file _)
+
+    takes_has : (wanted : List (List ℕ × ℕ)) (reply : Reply) → Takes told wanted (Err reply) → Has reply
+    takes_has = each_has (λ file. TakesFile told file.0 file.1) (λ file. file_has file.0 file.1)
+
+  -- a program
+  module _ (of_program : (line : List ℕ) → Has (refusal_reply Program line)) where
+    why_has : (IsWhy : Refusal → Type 0) (reply : Reply) → Refuses IsWhy reply → Has reply
+    why_has IsWhy reply (why, is_why, is) = subst Has (sym is) (of_program _)
+
+    refused_has : (p : List ProgTransform) (reply : Reply) → RefusesProgram p reply → Has reply
+    refused_has p reply (why, nodes, unsound, named, is) = subst Has (sym is) (of_program _)
+
+    program_has : (Next : OfProgram) → ((tree : List TransformTree) (p : List ProgTransform) (found : List AnalysisValue) (reply : Reply) → Next tree p found reply → Has reply)
+        → (text : List ℕ) (reply : Reply) → AfterProgram Next text reply → Has reply
+    program_has Next more text =
+        then_has (Reads text) _ (why_has (IsRefused text))
+        (λ tree. then_has (Resolves tree) _ (why_has (HasBadNames tree)) (λ p. then_has (Accepts p) (Next tree p) (refused_has p) (more tree p)))
+
+-- ---- `check` and `choices`
+prints_has : (text : Text) (program : List ℕ) (reply : Reply) → AfterProgram (Printed text) program reply → HasOne check_statuses reply
+prints_has text = program_has (HasOne check_statuses) (λ line. (1, omega arith, refl)) (Printed text) (λ tree p found reply is. subst (HasOne check_statuses) (sym is) (0, omega arith, refl))
+
+-- ---- `run`
+abbrev RunHas : Reply → Type 0
+RunHas = HasOne run_statuses
+
+trap_has : (kind : Kind) (line : List ℕ) → RunHas (refusal_reply (trap_status kind) line)
+trap_has trap.Overflow line = (5, omega arith, refl)
+trap_has trap.DivideByZero line = (5, omega arith, refl)
+trap_has trap.OutOfView line = (5, omega arith, refl)
+trap_has trap.LoopLimit line = (5, omega arith, refl)
+trap_has trap.BadShape line = (5, omega arith, refl)
+trap_has trap.DepthEnded line = (6, omega arith, refl)
+
+answer_has : (r : Fitting) (answer : Result (List MatrixValue) TrappedCell) → RunHas (answer_reply r answer)
+answer_has r (Ok matrices) = (0, omega arith, refl)
+answer_has r (Err cell) = trap_has cell.trap.kind (trap_line r.program r.number cell)
+
+replies_has : (r : Fitting) (reply : Reply) → RunReplies r reply → RunHas reply
+replies_has r reply is = subst RunHas (sym is) (answer_has r (run_answer r))
+
+fault_has : (file : List ℕ) (why : MatrixRefusal) (reply : Reply) → IsFaultyInput file why reply → RunHas reply
+fault_has file fault.BadHeader reply is = subst RunHas (sym is) (3, omega arith, refl)
+fault_has file (fault.BadNumber word) reply is = subst RunHas (sym is) (3, omega arith, refl)
+fault_has file (fault.TooFew wanted found) reply is = subst RunHas (sym is) (3, omega arith, refl)
+fault_has file (fault.TooMany wanted) reply is = subst RunHas (sym is) (3, omega arith, refl)
+fault_has file fault.Memory reply is = absurd is
+
+input_has : (file : List ℕ × List ℕ) (reply : Reply) → ReadsInput file (Err reply) → RunHas reply
+input_has file reply (why, none, is) = fault_has file.0 why reply is
+
+configures_has : (p : List ProgTransform) (text : Option (List ℕ)) (reply : Reply) → Configures p text (Err reply) → RunHas reply
+configures_has p text reply (why, none, is) = subst RunHas (sym is) (2, omega arith, refl)
+
+module _ (name : List ℕ) (depth grain : ℕ) where
+  finds_has : (p : List ProgTransform) (given : ℕ) (reply : Reply) → FindsTransform p name given (Err reply) → RunHas reply
+  finds_has p given reply (why, none, is) = subst RunHas (sym is) (3, omega arith, refl)
+
+  fits_has : (p : List ProgTransform) (number : ℕ) (t : ProgTransform) (inputs : List MatrixValue) (reply : Reply) → Fits p name number t inputs (Err reply) → RunHas reply
+  fits_has p number t inputs reply (why, none, is) = subst RunHas (sym is) (3, omega arith, refl)
+
+  within_has : (r : Fitting) (reply : Reply) → IsWithin r name (Err reply) → RunHas reply
+  within_has r reply (why, large, is) = subst RunHas (sym is) (4, omega arith, refl)
+
+  fitting_has : (r : Fitting) (reply : Reply) → AfterFit name depth grain RunReplies r reply → RunHas reply
+  fitting_has r = then_has RunHas (IsWithin r name) (λ u. RunReplies r) (within_has r) (λ u. replies_has r)
+
+  inputs_has : (p : List ProgTransform) (found : List AnalysisValue) (config : ConfigValue) (number : ℕ) (inputs : List MatrixValue) (reply : Reply)
+      → AfterInputs name depth grain RunReplies p found config number inputs reply → RunHas reply
+  inputs_has p found config number inputs reply (t, at, after) =
+      then_has RunHas (Fits p name number t inputs) _ (fits_has p number t inputs) (λ sizes. fitting_has _) reply after
+
+  accept_has : (p : List ProgTransform) (found : List AnalysisValue) (text : Option (List ℕ)) (files : List (List ℕ × List ℕ)) (reply : Reply)
+      → AfterAccept name depth grain RunReplies p found text files reply → RunHas reply
+  accept_has p found text files =
+      then_has RunHas (Configures p text) _ (configures_has p text)
+      (λ config. then_has RunHas (FindsTransform p name _) _ (finds_has p _)
+      (λ number. then_has RunHas (Each ReadsInput files) _ (each_has RunHas ReadsInput input_has files) (inputs_has p found config number)))
+
+  runs_has : (text : Option (List ℕ)) (files : List (List ℕ × List ℕ)) (program : List ℕ) (reply : Reply) → RunsProgram name depth grain RunReplies program text files reply → RunHas reply
+  runs_has text files = program_has RunHas (λ line. (1, omega arith, refl)) _ (λ tree p found. accept_has p found text files)
+
+line_has : (depth grain : ℕ) (line : RunLine) (contents : List (List ℕ)) (reply : Reply) → Runs depth grain RunReplies line contents reply → RunHas reply
+line_has depth grain line contents = runs_has line.transform depth grain (config_text line contents) (input_files line contents) (content_at contents 0)
+
+-- ---- `tune`
+named_has : (p : List ProgTransform) (name : List ℕ) (reply : Reply) → FindsNamed p name (Err reply) → HasOne tune_statuses reply
+named_has p name reply (none, is) = subst (HasOne tune_statuses) (sym is) (2, omega arith, refl)
+
+tunes_has : (name : List ℕ) (up_to : ℕ) (program : List ℕ) (reply : Reply) → TunesProgram name up_to program reply → HasOne tune_statuses reply
+tunes_has name up_to =
+    program_has (HasOne tune_statuses) (λ line. (1, omega arith, refl)) (Tunes name up_to)
+    (λ tree p found. then_has (HasOne tune_statuses) (FindsNamed p name) _ (named_has p name) (λ number reply printed. subst (HasOne tune_statuses) (sym printed.2) (0, omega arith, refl)))
+
+-- ---- `demo`
+stop_has : (Says : Reply → Type 0) (reply : Reply) → HasText Says (Err reply) → HasOne demo_statuses reply
+stop_has Says reply (other, says, bad, is) = subst (HasOne demo_statuses) (sym is) (2, omega arith, refl)
+
+demo_has : (seed size : ℕ) (reply : Reply) → DemoAnswers seed size reply → HasOne demo_statuses reply
+demo_has seed size =
+    then_has (HasOne demo_statuses) (HasText (DemoRun 0 seed size)) _ (stop_has (DemoRun 0 seed size))
+    (λ first. then_has (HasOne demo_statuses) (HasText (DemoRun 1 seed size)) _ (stop_has (DemoRun 1 seed size))
+    (λ second reply is. subst (HasOne demo_statuses) (sym is) (0, omega arith, refl)))
+
+-- ---- all commands
+work_has : (ask : Ask) (others contents : List (List ℕ)) (reply : Reply) → WorkAnswers ask others contents reply → HasOne (statuses ask) reply
+work_has Check others contents = prints_has its_canonical (content_at contents 0)
+work_has Choices others contents = prints_has its_report (content_at contents 0)
+work_has (Run workers depth grain pool trace) others contents = line_has depth grain (run_line others) contents
+work_has (Tune up_to) others contents = tunes_has (tuned_name others) up_to (content_at contents 0)
+work_has (Demo seed size workers) others contents = demo_has seed size
+
+files_has : (ask : Ask) (others : List (List ℕ)) (told : Option Files) (reply : Reply) → Takes told (limited (file_words ask others)) (Err reply) → HasOne (statuses ask) reply
+files_has Check others told = takes_has (HasOne check_statuses) (λ line. (5, omega arith, refl)) told (limited (file_words Check others))
+files_has Choices others told = takes_has (HasOne check_statuses) (λ line. (5, omega arith, refl)) told (limited (file_words Choices others))
+files_has (Run workers depth grain pool trace) others told =
+    takes_has (HasOne run_statuses) (λ line. (10, omega arith, refl)) told (limited (file_words (Run workers depth grain pool trace) others))
+files_has (Tune up_to) others told = takes_has (HasOne tune_statuses) (λ line. (6, omega arith, refl)) told (limited (file_words (Tune up_to) others))
+files_has (Demo seed size workers) others told = λ reply stop. absurd stop
+
+asked_has : (ask : Ask) (others : List (List ℕ)) (told : Option Files) (reply : Reply) → AskAnswers ask others told reply → HasOne (statuses ask) reply
+asked_has ask others told = then_has (HasOne (statuses ask)) (Takes told (limited (file_words ask others))) (WorkAnswers ask others) (files_has ask others told) (work_has ask others)
+
+-- a fault of a device, and no memory
+has_read_fault : (ask : Ask) (others : List (List ℕ)) (word : List ℕ) → Contains (file_words ask others) word → Contains (statuses ask) 9
+has_read_fault Check others word file = (2, omega arith, refl)
+has_read_fault Choices others word file = (2, omega arith, refl)
+has_read_fault (Run workers depth grain pool trace) others word file = (7, omega arith, refl)
+has_read_fault (Tune up_to) others word file = (3, omega arith, refl)
+has_read_fault (Demo seed size workers) others word file = absurd (omega (arith, file.1))
+
+has_write_fault : (ask : Ask) → Contains (statuses ask) 10
+has_write_fault Check = (3, omega arith, refl)
+has_write_fault Choices = (3, omega arith, refl)
+has_write_fault (Run workers depth grain pool trace) = (8, omega arith, refl)
+has_write_fault (Tune up_to) = (4, omega arith, refl)
+has_write_fault (Demo seed size workers) = (1, omega arith, refl)
+
+has_no_memory : (ask : Ask) → Contains (statuses ask) 11
+has_no_memory Check = (4, omega arith, refl)
+has_no_memory Choices = (4, omega arith, refl)
+has_no_memory (Run workers depth grain pool trace) = (9, omega arith, refl)
+has_no_memory (Tune up_to) = (5, omega arith, refl)
+has_no_memory (Demo seed size workers) = (2, omega arith, refl)
+
+module _ (words : List (List ℕ)) (shelf : ShelfChange) (out err : SinkChange) (status : ℕ) (ends : Ends words shelf out err status) where
+  module _ (ask : Ask) (place : ℕ) (line : Line words ask place) where
+    answers_has : (reply : Reply) → Answers words shelf.before reply → HasOne (statuses ask) reply
+    answers_has reply (inl (other, there, again, answers)) =
+        subst (λ a. HasOne (statuses a) reply) (one_reading words other ask there place again line).0 (asked_has other (drop there words) shelf.before reply answers)
+    answers_has reply (inr (outside, is)) = absurd (outside (ask, place, line))
+
+    answered_has : IsAnswered words shelf.before out err status → Contains (statuses ask) status
+    answered_has a = subst (Contains (statuses ask)) (sym a.shows.status_is) (answers_has a.reply a.answers)
+
+    pub inside_has : Contains (statuses ask) status
+    inside_has =
+        elim (fault_or_not status) [
+          | inl plain ↦ answered_has (ends.answered plain)
+          | inr (inl nine) ↦ (let of_line = (ends.read_fault nine).fault.of_line in
+              subst (λ s. Contains (statuses ask) s) (sym nine) (subst (λ a. Contains (statuses a) 9) (one_reading words of_line.0 ask of_line.1 place of_line.2 line).0 (has_read_fault of_line.0 _ _ of_line.3)))
+          | inr (inr (inl ten)) ↦ subst (λ s. Contains (statuses ask) s) (sym ten) (has_write_fault ask)
+          | inr (inr (inr eleven)) ↦ subst (λ s. Contains (statuses ask) s) (sym eleven) (has_no_memory ask)
+        ]
+
+  module _ (outside : IsInside words → ⊥) where
+    usage_has : (reply : Reply) → Answers words shelf.before reply → HasOne usage_statuses reply
+    usage_has reply (inl (ask, place, line, answers)) = absurd (outside (ask, place, line))
+    usage_has reply (inr (out_of_it, is)) = subst (HasOne usage_statuses) (sym is) (0, omega arith, refl)
+
+    usage_answered : IsAnswered words shelf.before out err status → Contains usage_statuses status
+    usage_answered a = subst (Contains usage_statuses) (sym a.shows.status_is) (usage_has a.reply a.answers)
+
+    pub outside_has : Contains usage_statuses status
+    outside_has =
+        elim (fault_or_not status) [
+          | inl plain ↦ usage_answered (ends.answered plain)
+          | inr (inl nine) ↦ (let of_line = (ends.read_fault nine).fault.of_line in absurd (outside (of_line.0, of_line.1, of_line.2)))
+          | inr (inr (inl ten)) ↦ subst (Contains usage_statuses) (sym ten) (1, omega arith, refl)
+          | inr (inr (inr eleven)) ↦ subst (Contains usage_statuses) (sym eleven) (2, omega arith, refl)
+        ]
