@@ -19,7 +19,8 @@ pub record Keeps (items : List ℕ) (logs : List Log) : Type 0 where
   pub pushed : owner.pushed ≡ left ++ items
   pub took : sum_by (λ l. l.took) logs ≡ length left
 
--- a deque that holds no task can have a log like this among those of its passes
+-- a deque that holds no task can have a log like this among those of its passes. That is so of any log, since other passes may have
+-- taken all that was pushed: a pass that finds a deque empty changes nothing that could be told. So it tells no deque's state
 pub record WasEmpty (log : Log) : Type 0 where
   pub logs : List Log
   pub keeps : Keeps [] logs
