@@ -6,11 +6,17 @@ const LARGE: &str = "MatrixMultiply AB 96 96 least -1028 greatest 1122 sum 22712
 RollingSum B 96 least -109 greatest 13 sum -5392
 ";
 
-fn rows() -> [Row; 5] {
+fn rows() -> [Row; 6] {
     [
         done("demo 1 96 4", &[], LARGE),
         done("demo 1 96 4", &[], LARGE),
         done("demo 1 96 1", &[], LARGE),
+        // The largest.
+        done(
+            "demo 0 256 64",
+            &[],
+            "MatrixMultiply AB 256 256 least -2169 greatest 1996 sum -272390\nRollingSum B 256 least -41 greatest 43 sum 372\n",
+        ),
         done(
             "demo 1 1 1",
             &[],

@@ -323,7 +323,7 @@ impl Gate for Watching {
 
 #[test]
 fn a_worker_takes_from_its_own_deque_first(rt: HostRuntime) -> Result<(), Fail> {
-    let row = done(
+    let divided = done(
         "run --workers 2 --grain 1 p - Div a d",
         &[
             ("p", DIV),
@@ -332,11 +332,23 @@ fn a_worker_takes_from_its_own_deque_first(rt: HostRuntime) -> Result<(), Fail> 
         ],
         "matrix 4\n4 3 4 3\n",
     );
+    // The product is made in four blocks, the sums in fewer.
+    let drawn = done(
+        "demo 1 17 2",
+        &[],
+        "MatrixMultiply AB 17 17 least -409 greatest 304 sum -4068\n\
+        RollingSum B 17 least -19 greatest 5 sum -139\n",
+    );
     // Task 3 stands in the deque of the worker that isn't held, and task 2 in the other's. Under the lock the least ready task
     // is taken.
-    for (words, second_first) in [
-        (row.words, false),
-        ("run --workers 2 --grain 1 --pool locked p - Div a d", true),
+    for (row, words, second_first) in [
+        (&divided, divided.words, false),
+        (
+            &divided,
+            "run --workers 2 --grain 1 --pool locked p - Div a d",
+            true,
+        ),
+        (&drawn, drawn.words, false),
     ] {
         let gate = Watching {
             second: AtomicBool::new(false),
@@ -344,7 +356,8 @@ fn a_worker_takes_from_its_own_deque_first(rt: HostRuntime) -> Result<(), Fail> 
             second_first: AtomicBool::new(false),
             missed: AtomicBool::new(false),
         };
-        answers(&rt, rt.alloc(), &row, words, &gate)?;
+        answers(&rt, rt.alloc(), row, words, &gate)?;
+        assert!(rt; gate.third.load(Ordering::SeqCst), "{words}");
         assert!(rt; !gate.missed.load(Ordering::SeqCst), "{words}");
         assert_eq!(rt;
             gate.second_first.load(Ordering::SeqCst),
