@@ -1,7 +1,9 @@
 -- Each command has its statuses alone.
-use Rattle.std.proofs.Common.{refl, sym, subst, ℕ, List, [], ◌∷◌, drop, Option, Result, Ok, Err, inl, inr, Contains, arith}
+use Rattle.std.proofs.Common.{refl, sym, subst, ℕ, List, [], ◌∷◌, drop, Option, Some, Result, Ok, Err, inl, inr, Contains, arith}
 use Rattle.pb_check.specs.Orders.{AnalysisValue}
 use Rattle.pb_front.specs.Reading.{IsRefused}
+use Rattle.pb_gen.specs.Examples.{example_of}
+use Rattle.pb_gen.specs.Texts.{text_of}
 use Rattle.pb_matrix.specs.Value.{MatrixValue}
 use Rattle.pb_matrix.specs.declared.matrix.MatrixRefusal.{MatrixRefusal}
 use Rattle.pb_matrix.specs.declared.matrix.MatrixRefusal.TheVariants as fault
@@ -22,10 +24,10 @@ use Rattle.pb_words.specs.declared.ask.Ask.TheVariants.{Check, Choices, Run, Tun
 use Rattle.pb_words.proofs.LineLemmas.{one_reading}
 use Rattle.pb_top.specs.Answer.{Answers, AskAnswers, Runs, RunLine, WorkAnswers, config_text, content_at, input_files, limited, run_line, tuned_name}
 use Rattle.pb_top.specs.Check.{Printed, Text, its_canonical, its_report}
-use Rattle.pb_top.specs.Demos.{DemoAnswers, DemoRun, HasText}
+use Rattle.pb_top.specs.Demos.{DemoAnswers, DemoRun, HasText, Summarizes, demo_config, demo_name, demo_transform, summary_reply}
 use Rattle.pb_top.specs.Ends.{Ends, IsAnswered}
 use Rattle.pb_top.specs.Reply.{IsFaultyInput, Reply, refusal_reply}
-use Rattle.pb_top.specs.Runs.{AfterAccept, AfterFit, AfterInputs, Configures, FindsTransform, Fits, Fitting, IsWithin, ReadsInput, RunReplies, RunsProgram, answer_reply, run_answer, trap_status}
+use Rattle.pb_top.specs.Runs.{AfterAccept, AfterAcceptWith, AfterFit, AfterInputs, Configures, FindsTransform, Fits, Fitting, IsWithin, ReadsInput, RunReplies, RunsProgram, answer_reply, run_answer, trap_status}
 use Rattle.pb_top.specs.Sinks.{ShelfChange, SinkChange}
 use Rattle.pb_top.specs.Statuses.{check_statuses, demo_statuses, run_statuses, statuses, tune_statuses, usage_statuses}
 use Rattle.pb_top.specs.Steps.{Accepts, AfterProgram, Each, OfProgram, Reads, Refuses, RefusesProgram, Resolves, Takes, TakesFile, Then}
@@ -149,14 +151,62 @@ tunes_has name up_to =
     (λ tree p found. then_has (HasOne tune_statuses) (FindsNamed p name) _ (named_has p name) (λ number reply printed. subst (HasOne tune_statuses) (sym printed.2) (0, omega arith, refl)))
 
 -- ---- `demo`
-stop_has : (Says : Reply → Type 0) (reply : Reply) → HasText Says (Err reply) → HasOne demo_statuses reply
-stop_has Says reply (other, says, bad, is) = subst (HasOne demo_statuses) (sym is) (2, omega arith, refl)
+abbrev DemoHas : Reply → Type 0
+DemoHas = HasOne demo_statuses
 
-demo_has : (seed size : ℕ) (reply : Reply) → DemoAnswers seed size reply → HasOne demo_statuses reply
+demo_trap_has : (kind : Kind) (line : List ℕ) → DemoHas (refusal_reply (trap_status kind) line)
+demo_trap_has trap.Overflow line = (5, omega arith, refl)
+demo_trap_has trap.DivideByZero line = (5, omega arith, refl)
+demo_trap_has trap.OutOfView line = (5, omega arith, refl)
+demo_trap_has trap.LoopLimit line = (5, omega arith, refl)
+demo_trap_has trap.BadShape line = (5, omega arith, refl)
+demo_trap_has trap.DepthEnded line = (6, omega arith, refl)
+
+summary_has : (name : List ℕ) (r : Fitting) (answer : Result (List MatrixValue) TrappedCell) → DemoHas (summary_reply name r answer)
+summary_has name r (Ok matrices) = (0, omega arith, refl)
+summary_has name r (Err cell) = demo_trap_has cell.trap.kind (trap_line r.program r.number cell)
+
+demo_configures : (p : List ProgTransform) (text : Option (List ℕ)) (reply : Reply) → Configures p text (Err reply) → DemoHas reply
+demo_configures p text reply (why, none, is) = subst DemoHas (sym is) (2, omega arith, refl)
+
+module _ (which seed size : ℕ) where
+  abbrev called : List ℕ
+  called = demo_transform which
+
+  demo_finds : (p : List ProgTransform) (given : ℕ) (reply : Reply) → FindsTransform p called given (Err reply) → DemoHas reply
+  demo_finds p given reply (why, none, is) = subst DemoHas (sym is) (3, omega arith, refl)
+
+  demo_fits : (p : List ProgTransform) (number : ℕ) (t : ProgTransform) (inputs : List MatrixValue) (reply : Reply) → Fits p called number t inputs (Err reply) → DemoHas reply
+  demo_fits p number t inputs reply (why, none, is) = subst DemoHas (sym is) (3, omega arith, refl)
+
+  demo_within : (r : Fitting) (reply : Reply) → IsWithin r called (Err reply) → DemoHas reply
+  demo_within r reply (why, large, is) = subst DemoHas (sym is) (4, omega arith, refl)
+
+  demo_fitting : (r : Fitting) (reply : Reply) → AfterFit called 64 16 (Summarizes (demo_name which)) r reply → DemoHas reply
+  demo_fitting r =
+      then_has DemoHas (IsWithin r called) (λ u. Summarizes (demo_name which) r) (demo_within r)
+      (λ u reply is. subst DemoHas (sym is) (summary_has (demo_name which) r (run_answer r)))
+
+  demo_inputs : (p : List ProgTransform) (found : List AnalysisValue) (config : ConfigValue) (number : ℕ) (inputs : List MatrixValue) (reply : Reply)
+      → AfterInputs called 64 16 (Summarizes (demo_name which)) p found config number inputs reply → DemoHas reply
+  demo_inputs p found config number inputs reply (t, at, after) =
+      then_has DemoHas (Fits p called number t inputs) _ (demo_fits p number t inputs) (λ sizes. demo_fitting _) reply after
+
+  demo_accept : (p : List ProgTransform) (found : List AnalysisValue) (text : Option (List ℕ)) (inputs : List MatrixValue) (reply : Reply)
+      → AfterAcceptWith called 64 16 (Summarizes (demo_name which)) p found text inputs reply → DemoHas reply
+  demo_accept p found text inputs =
+      then_has DemoHas (Configures p text) _ (demo_configures p text)
+      (λ config. then_has DemoHas (FindsTransform p called _) _ (demo_finds p _) (λ number. demo_inputs p found config number inputs))
+
+  demo_run_has : (reply : Reply) → DemoRun which seed size reply → DemoHas reply
+  demo_run_has =
+      program_has DemoHas (λ line. (1, omega arith, refl)) _ (λ tree p found. demo_accept p found (Some (demo_config which)) (example_of which seed size)) (text_of which)
+
+demo_has : (seed size : ℕ) (reply : Reply) → DemoAnswers seed size reply → DemoHas reply
 demo_has seed size =
-    then_has (HasOne demo_statuses) (HasText (DemoRun 0 seed size)) _ (stop_has (DemoRun 0 seed size))
-    (λ first. then_has (HasOne demo_statuses) (HasText (DemoRun 1 seed size)) _ (stop_has (DemoRun 1 seed size))
-    (λ second reply is. subst (HasOne demo_statuses) (sym is) (0, omega arith, refl)))
+    then_has DemoHas (HasText (DemoRun 0 seed size)) _ (λ reply stop. demo_run_has 0 seed size reply stop.0)
+    (λ first. then_has DemoHas (HasText (DemoRun 1 seed size)) _ (λ reply stop. demo_run_has 1 seed size reply stop.0)
+    (λ second reply is. subst DemoHas (sym is) (0, omega arith, refl)))
 
 -- ---- all commands
 work_has : (ask : Ask) (others contents : List (List ℕ)) (reply : Reply) → WorkAnswers ask others contents reply → HasOne (statuses ask) reply
@@ -190,14 +240,14 @@ has_write_fault Check = (3, omega arith, refl)
 has_write_fault Choices = (3, omega arith, refl)
 has_write_fault (Run workers depth grain pool trace) = (8, omega arith, refl)
 has_write_fault (Tune up_to) = (4, omega arith, refl)
-has_write_fault (Demo seed size workers) = (1, omega arith, refl)
+has_write_fault (Demo seed size workers) = (7, omega arith, refl)
 
 has_no_memory : (ask : Ask) → Contains (statuses ask) 11
 has_no_memory Check = (4, omega arith, refl)
 has_no_memory Choices = (4, omega arith, refl)
 has_no_memory (Run workers depth grain pool trace) = (9, omega arith, refl)
 has_no_memory (Tune up_to) = (5, omega arith, refl)
-has_no_memory (Demo seed size workers) = (2, omega arith, refl)
+has_no_memory (Demo seed size workers) = (8, omega arith, refl)
 
 module _ (words : List (List ℕ)) (shelf : ShelfChange) (out err : SinkChange) (status : ℕ) (ends : Ends words shelf out err status) where
   module _ (ask : Ask) (place : ℕ) (line : Line words ask place) where

@@ -1,12 +1,11 @@
 -- What `demo` answers to a seed and a size: two runs of programs that are always the same, over matrices that are drawn from the seed.
-use Rattle.std.specs.Prelude.{◌≡◌, ◌≢◌, ℕ, zero, suc, List, [], ◌++◌, flat_map, codes, Some, Result, Ok, Err}
+use Rattle.std.specs.Prelude.{◌≡◌, ◌≢◌, ℕ, zero, suc, List, ◌++◌, flat_map, codes, Some, Result, Ok, Err}
 use Rattle.pb_matrix.specs.Value.{MatrixValue}
 use Rattle.pb_model.specs.Calls.{TrappedCell}
 use Rattle.pb_gen.specs.Examples.{example_of}
 use Rattle.pb_gen.specs.Texts.{text_of}
 use Rattle.pb_summary.specs.Summary.{summary_text}
-use Rattle.pb_top.specs.Reply.{Reply, done_reply, status_code}
-use Rattle.pb_top.specs.declared.reply.Status.TheVariants.{NoMemory}
+use Rattle.pb_top.specs.Reply.{Reply, done_reply}
 use Rattle.pb_top.specs.Runs.{Fitting, RunsWith, answer_reply, run_answer}
 use Rattle.pb_top.specs.Steps.{Then}
 
@@ -37,15 +36,10 @@ abbrev pub DemoRun : ℕ → ℕ → ℕ → Reply → Type 0
 DemoRun which seed size = RunsWith (demo_transform which) 64 16 (Summarizes (demo_name which)) (text_of which) (Some (demo_config which)) (example_of which seed size)
 
 -- ---- one after the other
--- how the work ends where a run is refused or trapped: with nothing, as where memory runs out. `demo` has no status of its own for
--- that, since its programs and configurations are always the same
-abbrev pub unfinished : Reply
-unfinished = record { status = status_code NoMemory; out = []; err = [] }
-
--- the text that a reply of status 0 has for `out`; with another the work is unfinished
+-- the text that a reply of status 0 has for `out`; another reply ends the work
 abbrev pub HasText : (Reply → Type 0) → Result (List ℕ) Reply → Type 0
 HasText Says (Ok text) = (reply : Reply) × Says reply × (reply.status ≡ 0) × (text ≡ reply.out)
-HasText Says (Err stop) = (reply : Reply) × Says reply × (reply.status ≢ 0) × (stop ≡ unfinished)
+HasText Says (Err reply) = Says reply × (reply.status ≢ 0)
 
 -- the summaries of both
 abbrev pub DemoAnswers : ℕ → ℕ → Reply → Type 0

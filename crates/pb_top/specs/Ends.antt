@@ -74,8 +74,7 @@ pub record IsAnswerStatus (status : ℕ) : Type 0 where
   pub no_write_fault : status ≢ 10
   pub in_memory : status ≢ 11
 
--- status 9 is a file that couldn't be read, 10 a sink that refused, 11 that memory ran out (or that a run of `demo` has no text), and any
--- other the answer's
+-- status 9 is a file that couldn't be read, 10 a sink that refused, 11 that memory ran out, and any other the answer's
 pub record Ends (words : List (List ℕ)) (shelf : ShelfChange) (out err : SinkChange) (status : ℕ) : Type 0 where
   pub answered : IsAnswerStatus status → IsAnswered words shelf.before out err status
   pub read_fault : status ≡ 9 → ReadFails words shelf out err

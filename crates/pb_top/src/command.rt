@@ -124,8 +124,8 @@ fn with_threads<R: Threads + Wait + Sync, S: Shelf, O: Sink, E: Sink, G: Gate>(
     write(&found, out, err)
 }
 
-/// Does all that the program does, and answers its status, as `pb_alone` says; 11 also where a run of `demo` had no text. `rt` starts the
-/// threads of the pools, and each worker calls the gate's `enter` before it runs a task.
+/// Does all that the program does, and answers its status, as `pb_alone` says. `rt` starts the threads of the
+/// pools, and each worker calls the gate's `enter` before it runs a task.
 pub fn pb_command<R: Threads + Wait + Sync, S: Shelf, O: Sink, E: Sink, G: Gate>(
     rt: &R,
     alloc: Global,

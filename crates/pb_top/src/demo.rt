@@ -161,8 +161,7 @@ fn demo_run<R: Threads + Wait + Sync, G: Gate>(
     demo_resolved(rt, alloc, which, &tree, inputs, workers, gate)
 }
 
-/// The summaries of both runs, one after the other. The programs, their configurations and the sides of their matrices are such that
-/// no run is refused or trapped; of one that were, nothing would be told.
+/// The summaries of both runs, one after the other.
 pub fn demo<R: Threads + Wait + Sync, G: Gate>(
     rt: &R,
     alloc: Global,
@@ -175,12 +174,8 @@ pub fn demo<R: Threads + Wait + Sync, G: Gate>(
     requires workers { IsWithin 1 64 workers }
     ensures { Replies (DemoAnswers seed size) result }
 {
-    let Ok(mut text) = demo_run(rt, alloc, 0, seed, size, workers, gate) else {
-        return Err(Stop::Memory);
-    };
-    let Ok(second) = demo_run(rt, alloc, 1, seed, size, workers, gate) else {
-        return Err(Stop::Memory);
-    };
+    let mut text = demo_run(rt, alloc, 0, seed, size, workers, gate)?;
+    let second = demo_run(rt, alloc, 1, seed, size, workers, gate)?;
     text.extend_from_slice(&second)?;
     Ok(text)
 }
