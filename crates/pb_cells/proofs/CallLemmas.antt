@@ -1,5 +1,7 @@
 -- What the calls of a table ask of its steps.
 use Rattle.std.proofs.Common.{◌≡◌, ◌∙◌, refl, sym, ap, subst, inl, inr, ⊎_elim, ℕ, ◌+◌, ◌-◌, ◌%◌, ◌^◌, ◌<◌, ◌≤◌, true, false, is_some, List, [], length, get_or, pos, Some, None, IsSome, slice_get, arith}
+use Rattle.std.specs.Prelude.{IsTrue, Option}
+use Rattle.std.specs.Int.{cast_signed, w64}
 use Rattle.std.specs.List.{Contains}
 use Rattle.std.proofs.lemmas.Bool.{cases_lt}
 use Rattle.std.proofs.lemmas.List.{get_or-take, get_or_past, length-take}
@@ -8,13 +10,15 @@ use mathlib.Core.Option.{none}
 use Rattle.atomic_table.specs.Table.{Allows, Joins, Splits, step}
 use Rattle.atomic_table.specs.Seated.{TableId}
 use Rattle.pb_base.proofs.ListLemmas.{in_none}
+use Rattle.pb_values.specs.Cells.{TellsTrap, is_number}
 use Rattle.pb_values.specs.declared.outcome.Outcome.{Outcome}
 use Rattle.pb_values.specs.declared.outcome.Outcome.TheVariants.{Value}
+use Rattle.pb_values.specs.declared.outcome.Trap.{Trap}
 use Rattle.pb_taskgraph.specs.Graphs.{after_of}
 use Rattle.pb_taskgraph.specs.Plans.{IsPlan, IsSmall, Plan, outcome_at}
 use Rattle.pb_taskgraph.specs.Turns.{MayRead}
 use Rattle.pb_taskgraph.proofs.GraphLemmas.{before-past}
-use Rattle.pb_taskgraph.proofs.KnownLemmas.{known-next, some-known}
+use Rattle.pb_taskgraph.proofs.KnownLemmas.{known-next, some-known, told-known}
 use Rattle.pb_taskgraph.proofs.PlanLemmas.{own-below}
 use Rattle.pb_core.proofs.ListedLemmas.{not-true}
 use Rattle.pb_core.proofs.WithLemmas.{of-some}
@@ -28,7 +32,7 @@ use Rattle.pb_cells.specs.Words.{mark_of, outcome_in, word_of}
 use Rattle.pb_cells.proofs.SeatLemmas.{in-listed, listed-in}
 use Rattle.pb_cells.proofs.RuleLemmas.{draw-allows, file-allows, gather-joins, join-joins, look-allows, mark-allows, number-allows, read-allows, release-allows, turn-splits, value-allows}
 use Rattle.pb_cells.proofs.LookLemmas.{look-few, look-past, look-tasks}
-use Rattle.pb_cells.proofs.WordLemmas.{outcome-back}
+use Rattle.pb_cells.proofs.WordLemmas.{marked-number, number-back, outcome-back}
 
 -- every outcome of a plan is small
 pub any-small : (p : Plan) → IsPlan p → (c : ℕ) → IsSmall (outcome_at p.solution c)
@@ -177,6 +181,26 @@ module _ (p : Plan) (table : TableId) (cells tasks : ℕ) (is : IsTable p table 
 -- what is read is the outcome
 pub read-gives : (p : Plan) → IsPlan p → (c mark word : ℕ) (result : Outcome) → result ≡ outcome_in mark word → mark ≡ mark_of (outcome_at p.solution c) → word ≡ word_of (outcome_at p.solution c) → result ≡ outcome_at p.solution c
 read-gives p is c mark word result gives is_mark is_word = gives ∙ ((λ i. outcome_in (is_mark i) (is_word i)) ∙ outcome-back (outcome_at p.solution c) (any-small p is c))
+
+pub number-some : (o : Option Outcome) → IsTrue (is_number o) → IsSome o
+number-some None h = absurd (let wrong : false ≡ true = h in cc)
+number-some (Some o) h = refl
+
+-- a number that is told is the solution's
+pub number-known : (p : Plan) (j : TaskView) (c : ℕ) → IsTrue (is_number ((turn_at p j).outcomes c)) → IsSome ((turn_at p j).outcomes c) × IsTrue (is_number (Some (outcome_at p.solution c)))
+number-known p j c h =
+    let some = number-some ((turn_at p j).outcomes c) h in
+    (some, subst (λ (o : Option Outcome). IsTrue (is_number o)) (told-known p j.task j.written c (some-known p j.task j.written c some)) h)
+
+pub trap-number : (p : Plan) (c mark : ℕ) → mark ≡ 1 → mark ≡ mark_of (outcome_at p.solution c) → IsTrue (is_number (Some (outcome_at p.solution c)))
+trap-number p c mark one is_mark = marked-number (outcome_at p.solution c) (sym is_mark ∙ one)
+
+pub trap-told : (p : Plan) → IsPlan p → (c mark word : ℕ) (v : Outcome) → v ≡ outcome_in mark word → mark ≡ mark_of (outcome_at p.solution c) → word ≡ word_of (outcome_at p.solution c) → (o : Option Trap) → TellsTrap (Some v) o
+    → TellsTrap (Some (outcome_at p.solution c)) o
+trap-told p is c mark word v gives is_mark is_word o told = subst (λ (w : Outcome). TellsTrap (Some w) o) (read-gives p is c mark word v gives is_mark is_word) told
+
+pub number-gives : (p : Plan) → IsPlan p → (c word : ℕ) → IsTrue (is_number (Some (outcome_at p.solution c))) → word ≡ word_of (outcome_at p.solution c) → outcome_at p.solution c ≡ Value (cast_signed w64 word)
+number-gives p is c word number is_word = number-back (outcome_at p.solution c) (any-small p is c) number word is_word
 
 -- ---- what the calls of a hand ask
 module _ (p : Plan) (id : ℕ) (me : Me) (hand : IsHand me) where

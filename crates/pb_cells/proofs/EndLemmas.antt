@@ -1,5 +1,5 @@
 -- What the words of a table tell in which all tasks are filed.
-use Rattle.std.proofs.Common.{◌≡◌, ◌∙◌, refl, sym, ap, subst, ◌⊎◌, ⊎_elim, ℕ, zero, suc, ◌+◌, ◌<◌, ◌≤◌, List, [], ◌∷◌, ◌++◌, length, length-set, get_or, slice_get, slice_set, pos, Some, IsSome, zero-add, arith}
+use Rattle.std.proofs.Common.{◌≡◌, ◌∙◌, sym, ap, subst, ◌⊎◌, ⊎_elim, ℕ, zero, suc, ◌+◌, ◌<◌, ◌≤◌, List, [], ◌∷◌, ◌++◌, length, length-set, get_or, slice_get, slice_set, pos, Some, IsSome, zero-add, arith}
 use Rattle.std.specs.List.{Contains}
 use Rattle.std.proofs.lemmas.Bool.{cases_eq, cases_lt}
 use Rattle.std.proofs.lemmas.List.{ext_get_or, get_or-set_other, get_or-set_same}
@@ -19,7 +19,7 @@ use Rattle.pb_core.proofs.FinishLemmas.{finished-all}
 use Rattle.pb_core.proofs.OrderLemmas.{is-task, lawful-order, numbered-is}
 use Rattle.pb_core.proofs.WithLemmas.{some-of}
 use Rattle.pb_cells.specs.declared.view.View.{View}
-use Rattle.pb_cells.specs.Banks.{Bank, bank_of, mark_at, number_at, width}
+use Rattle.pb_cells.specs.Banks.{Bank, bank_of, number_at, width}
 use Rattle.pb_cells.specs.Ends.{AreLast, HasItsNumbers, Knows, StandByNumber}
 use Rattle.pb_cells.specs.Handles.{HandValue, gathered}
 use Rattle.pb_cells.specs.Steps.{Me}

@@ -1,10 +1,10 @@
 -- A hand looks at the filed count, and takes in a Job.
-use Rattle.std.proofs.Common.{◌≡◌, ◌∙◌, refl, sym, ap, subst, inl, inr, ⊎_elim, ℕ, ◌+◌, ◌<◌, true, false, List, [], ◌∷◌, ◌++◌, length, map, Some, None, IsSome, set, arith}
+use Rattle.std.proofs.Common.{◌≡◌, ◌∙◌, refl, sym, ap, subst, inl, inr, ℕ, ◌+◌, ◌<◌, true, List, [], ◌∷◌, ◌++◌, length, map, Some, None, IsSome, set, arith}
 use Rattle.std.specs.List.{Contains}
 use Rattle.std.proofs.lemmas.List.Elements.{Contains-append_cases, Contains-append_left, Contains-append_right, Contains-push, Contains-push_cases}
 use mathlib.Core.Option.{some}
 use lib.ListN.{get_elem?}
-use Rattle.pb_base.proofs.ListLemmas.{in_cases, in_head, in_none, in_tail, map_in}
+use Rattle.pb_base.proofs.ListLemmas.{in_head, in_none, in_tail, map_in}
 use Rattle.pb_taskgraph.specs.Graphs.{EachOnce, after_of}
 use Rattle.pb_taskgraph.specs.Plans.{IsPlan, Plan}
 use Rattle.pb_core.specs.States.{with}

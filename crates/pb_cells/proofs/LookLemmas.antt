@@ -1,5 +1,5 @@
 -- What follows of a hand where the rule holds.
-use Rattle.std.proofs.Common.{◌≡◌, ◌∙◌, sym, ap, subst, ⊎_elim, ℕ, ◌<◌, ◌≤◌, eqb, List, length, map, Some, arith}
+use Rattle.std.proofs.Common.{◌≡◌, ap, subst, ⊎_elim, ℕ, ◌<◌, ◌≤◌, eqb, List, length, map, Some, arith}
 use Rattle.std.specs.Cmp.{nat_eq_equiv}
 use Rattle.std.specs.List.{Contains}
 use Rattle.std.proofs.lemmas.Bool.{cases_lt}

@@ -1,7 +1,8 @@
 -- The port of a Job.
 use Rattle.std.proofs.Common.{◌≡◌, ◌∙◌, refl, sym, ap, subst, ℕ, ◌≤◌, length, Some, IsSome, slice_get, arith}
 use Rattle.atomic_table.specs.Seated.{TableId}
-use Rattle.pb_values.specs.Cells.{Turn}
+use Rattle.std.specs.Prelude.{IsTrue}
+use Rattle.pb_values.specs.Cells.{Turn, is_number}
 use Rattle.pb_values.specs.declared.outcome.Outcome.{Outcome}
 use Rattle.pb_taskgraph.specs.Known.{known_turn}
 use Rattle.pb_taskgraph.specs.Plans.{Plan, outcome_at}
@@ -33,6 +34,10 @@ module _ (p : Plan) (name cells : TableId) (job : JobValue) (is : IsPort p name 
       pub port-told : (v : Outcome) → v ≡ outcome_at p.solution c → (port_turn p self).outcomes c ≡ Some v
       port-told v right =
           ap (λ (turn : Turn). turn.outcomes c) turn-is ∙ told-known p job.at.task job.at.written c (some-known p job.at.task job.at.written c port-known) ∙ ap (λ o. Some o) (sym right)
+
+    -- a number is read
+    pub port-number : (c : ℕ) → IsTrue (is_number ((port_turn p self).outcomes c)) → IsTrue (is_number ((turn_at p job.at).outcomes c))
+    port-number c h = subst (λ (turn : Turn). IsTrue (is_number (turn.outcomes c))) turn-is h
 
     -- the next cell is written
     module _ (c : ℕ) (v : Outcome) (first : slice_get (port_turn p self).left 0 ≡ Some (c, v)) where

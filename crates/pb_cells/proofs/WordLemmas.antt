@@ -1,7 +1,9 @@
 -- Outcomes in two words.
-use Rattle.std.proofs.Common.{◌≡◌, ◌∙◌, refl, ap, ◌+◌, ◌*◌, ◌/◌, ◌%◌, ◌<◌, ◌^◌, w64, arith}
+use Rattle.std.proofs.Common.{◌≡◌, ◌∙◌, refl, sym, ap, ℕ, ◌+◌, ◌*◌, ◌/◌, ◌%◌, ◌<◌, ◌^◌, w64, true, false, IsTrue, Some, arith}
+use Rattle.std.specs.Int.{cast_signed}
 use Rattle.std.proofs.lemmas.Int.{to_z-of_z}
 use Rattle.std.proofs.lemmas.Nat.{div-mul-add, mod-mul-add}
+use Rattle.pb_values.specs.Cells.{is_number}
 use Rattle.pb_values.specs.declared.outcome.Kind.{Kind}
 use Rattle.pb_values.specs.declared.outcome.Kind.TheVariants.{BadShape, DepthEnded, DivideByZero, LoopLimit, OutOfView, Overflow}
 use Rattle.pb_values.specs.declared.outcome.Outcome.{Outcome}
@@ -52,3 +54,23 @@ is-marked (Trapped t) = marked t.kind
     marked LoopLimit = omega arith
     marked BadShape = omega arith
     marked DepthEnded = omega arith
+
+-- the mark 1 is that of a number
+pub marked-number : (v : Outcome) → mark_of v ≡ 1 → IsTrue (is_number (Some v))
+unfolding mark_of
+marked-number (Value z) e = refl
+marked-number (Trapped t) e = absurd (none t.kind e)
+  where
+    none : (k : Kind) → kind_mark k ≡ 1 → ⊥
+    none Overflow h = omega (arith, h)
+    none DivideByZero h = omega (arith, h)
+    none OutOfView h = omega (arith, h)
+    none LoopLimit h = omega (arith, h)
+    none BadShape h = omega (arith, h)
+    none DepthEnded h = omega (arith, h)
+
+-- the word of a number gives it back
+pub number-back : (v : Outcome) → IsSmall v → IsTrue (is_number (Some v)) → (word : ℕ) → word ≡ word_of v → v ≡ Value (cast_signed w64 word)
+unfolding word_of
+number-back (Value z) small number word e = sym (ap (λ n. Value (cast_signed w64 n)) e ∙ ap Value (to_z-of_z w64 z small))
+number-back (Trapped t) small number word e = absurd (let wrong : false ≡ true = number in cc)

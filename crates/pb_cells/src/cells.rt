@@ -1,4 +1,6 @@
-ghost use Rattle.std.specs.Prelude.{◌≡◌, ◌+◌, ◌≤◌, ℕ, IfOk, IsSome, None, Some, length, map, replicate, slice_get};
+ghost use Rattle.std.specs.Prelude.{◌≡◌, ◌+◌, ◌≤◌, ℕ, IfOk, IsSome, IsTrue, None, Some, length, map, replicate, slice_get};
+ghost use Rattle.pb_values.specs.Cells.{TellsTrap, is_number};
+ghost use Rattle.pb_values.specs.declared.outcome.Outcome.TheVariants.{Value};
 ghost use Rattle.std.specs.List.{Contains};
 ghost use Rattle.pb_taskgraph.specs.Graphs.{after_of};
 ghost use Rattle.pb_taskgraph.specs.Plans.{outcome_at};
@@ -14,10 +16,10 @@ use crate::steps::{
     StoreValue, TakeFromCount, TakeIn,
 };
 use crate::view::View;
-use crate::words::{pack, unpack};
+use crate::words::{pack, trap_of, unpack};
 use atomic_table::Table;
 use pb_taskgraph::{NamesWork, Outcomes, Work};
-use pb_values::Outcome;
+use pb_values::{Outcome, Trap};
 use std::alloc::{AllocError, Global};
 use std::marker::Model;
 
@@ -88,6 +90,41 @@ impl<N: NamesWork> Cells<N> {
             .shared
             .load::<LoadCell<N>>(&mut job.seat, cell as usize);
         unpack(mark, word)
+    }
+
+    /// The trap of a cell that the task may read by now; none where it has a number, and then its mark alone is loaded.
+    pub fn trap(&self, job: &mut Job<N>, cell: u64) -> Option<Trap>
+        requires table { job.old.table ≡ self.now }
+        requires known { IsSome ((turn_at N.plan job.old.at).outcomes cell) }
+        ensures trap { TellsTrap (Some (outcome_at N.plan.solution cell)) result }
+        ensures same { job.new ≡ job.old }
+    {
+        let mark = self
+            .table
+            .shared
+            .load::<LoadCell<N>>(&mut job.seat, self.cells + cell as usize);
+        if mark == 1 {
+            return None;
+        }
+        let word = self
+            .table
+            .shared
+            .load::<LoadCell<N>>(&mut job.seat, cell as usize);
+        trap_of(unpack(mark, word))
+    }
+
+    /// The number of a cell that the task may read by now, and that isn't trapped: its value alone is loaded.
+    pub fn number(&self, job: &mut Job<N>, cell: u64) -> i64
+        requires table { job.old.table ≡ self.now }
+        requires number { IsTrue (is_number ((turn_at N.plan job.old.at).outcomes cell)) }
+        ensures number { outcome_at N.plan.solution cell ≡ Value result }
+        ensures same { job.new ≡ job.old }
+    {
+        let word = self
+            .table
+            .shared
+            .load::<LoadCell<N>>(&mut job.seat, cell as usize);
+        word.cast_signed()
     }
 
     /// Writes the next cell of the task's own order, with the solution's outcome.

@@ -6,7 +6,7 @@ use crate::cells::Cells;
 use crate::names::NamesTable;
 use crate::seats::Job;
 use pb_taskgraph::{CellPort, NamesWork, Work};
-use pb_values::{CellReader, Outcome};
+use pb_values::{CellReader, Outcome, Trap};
 use std::marker::{Brand, Model, PhantomData};
 
 /// The port of a Job: its task reads and writes the words of the table that `B` names. It owns the Job until the task has run.
@@ -57,6 +57,14 @@ impl<'c, N: NamesWork, B: NamesTable> CellReader for JobPort<'c, N, B> {
 
     fn read(&mut self, cell: u64) -> Outcome {
         self.cells.read(&mut self.job, cell)
+    }
+
+    fn trap(&mut self, cell: u64) -> Option<Trap> {
+        self.cells.trap(&mut self.job, cell)
+    }
+
+    fn number(&mut self, cell: u64) -> i64 {
+        self.cells.number(&mut self.job, cell)
     }
 }
 

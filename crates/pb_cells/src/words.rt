@@ -1,4 +1,5 @@
-ghost use Rattle.std.specs.Prelude.{◌≡◌, ◌<◌, ◌^◌};
+ghost use Rattle.std.specs.Prelude.{◌≡◌, ◌<◌, ◌^◌, Some};
+ghost use Rattle.pb_values.specs.Cells.{TellsTrap};
 ghost use Rattle.pb_taskgraph.specs.Plans.{IsSmall};
 ghost use Rattle.pb_cells.specs.Words.{kind_at, kind_mark, mark_of, outcome_in, trap_in, trap_word, word_of};
 
@@ -83,5 +84,15 @@ pub(crate) fn unpack(mark: u64, word: u64) -> Outcome
         Outcome::Value(word.cast_signed())
     } else {
         Outcome::Trapped(trap_in(kind_at(mark), word))
+    }
+}
+
+/// The trap of an outcome; none where it is a number.
+pub(crate) fn trap_of(outcome: Outcome) -> Option<Trap>
+    ensures { TellsTrap (Some outcome) result }
+{
+    match outcome {
+        Outcome::Value(_) => None,
+        Outcome::Trapped(trap) => Some(trap),
     }
 }

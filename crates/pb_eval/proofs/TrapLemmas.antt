@@ -1,8 +1,8 @@
 -- The first trap among outcomes.
-use Rattle.std.proofs.Common.{◌≡◌, ◌∙◌, refl, sym, ap, ℕ, zero, suc, ◌+◌, ◌-◌, ◌<◌, ◌≤◌, ℤ, List, [], ◌∷◌, ◌++◌, length, drop, get_or, map, Some, None, drop-cons, add-one, arith}
+use Rattle.std.proofs.Common.{◌≡◌, ◌∙◌, refl, sym, ap, subst, ℕ, zero, suc, ◌+◌, ◌-◌, ◌<◌, ◌≤◌, List, [], ◌∷◌, ◌++◌, length, drop, get_or, map, Option, Some, None, drop-cons, add-one, arith}
 use Rattle.std.specs.List.{flat_map, range_with_len}
 use Rattle.std.proofs.lemmas.List.{map-append}
-use Rattle.pb_values.specs.Cells.{Turn}
+use Rattle.pb_values.specs.Cells.{TellsTrap, Turn}
 use Rattle.pb_values.specs.Views.{cell_of, view_cells}
 use Rattle.pb_values.specs.declared.outcome.Outcome.{Outcome}
 use Rattle.pb_values.specs.declared.outcome.Outcome.TheVariants.{Trapped, Value}
@@ -13,6 +13,7 @@ use Rattle.pb_eval.specs.Shown.{outcome_of, seen_by}
 use Rattle.pb_eval.specs.Traps.{outcomes_from, rows_seen, views_seen}
 use Rattle.pb_eval.proofs.PlaceLemmas.{map_rows}
 use Rattle.pb_eval.proofs.SumLemmas.{range_end, range_next}
+use Rattle.pb_eval.proofs.ViewLemmas.{has_trap, has_value}
 
 trap_none : (l rest : List Outcome) → first_trap l ≡ None → first_trap (l ++ rest) ≡ first_trap rest
 unfolding first_trap
@@ -31,15 +32,17 @@ module _ (turn : Turn) (v : View) where
   unfolding outcomes_from
   row_next y x below = ap (map (λ i. outcome_of turn (cell_of v i y))) (range_next x v.shape.w below)
 
-  pub row_value : (y x cell : ℕ) (o : Outcome) (n : ℤ) → x < v.shape.w → cell ≡ cell_of v x y → o ≡ outcome_of turn cell → o ≡ Value n → first_trap (outcomes_from turn v y (x + 1)) ≡ first_trap (outcomes_from turn v y x)
+  pub row_number : (y x cell : ℕ) (o : Option Trap) → x < v.shape.w → cell ≡ cell_of v x y → TellsTrap (turn.outcomes cell) o → o ≡ None → first_trap (outcomes_from turn v y (x + 1)) ≡ first_trap (outcomes_from turn v y x)
   unfolding first_trap
-  row_value y x cell o n below at is e =
-      sym (ap first_trap (row_next y x below) ∙ ap (λ p. first_trap (p ∷ outcomes_from turn v y (x + 1))) (ap (outcome_of turn) (sym at) ∙ sym is ∙ e))
+  row_number y x cell o below at told is =
+      let value = has_value turn cell (subst (TellsTrap (turn.outcomes cell)) is told) in
+      sym (ap first_trap (row_next y x below) ∙ ap (λ p. first_trap (p ∷ outcomes_from turn v y (x + 1))) (ap (outcome_of turn) (sym at) ∙ value.1))
 
-  pub row_trapped : (y x cell : ℕ) (o : Outcome) (t : Trap) → x < v.shape.w → cell ≡ cell_of v x y → o ≡ outcome_of turn cell → o ≡ Trapped t → Some t ≡ first_trap (outcomes_from turn v y x)
+  pub row_trapped : (y x cell : ℕ) (o : Option Trap) (t : Trap) → x < v.shape.w → cell ≡ cell_of v x y → TellsTrap (turn.outcomes cell) o → o ≡ Some t → Some t ≡ first_trap (outcomes_from turn v y x)
   unfolding first_trap
-  row_trapped y x cell o t below at is e =
-      sym (ap first_trap (row_next y x below) ∙ ap (λ p. first_trap (p ∷ outcomes_from turn v y (x + 1))) (ap (outcome_of turn) (sym at) ∙ sym is ∙ e))
+  row_trapped y x cell o t below at told is =
+      let trap = has_trap turn cell t (subst (TellsTrap (turn.outcomes cell)) is told) in
+      sym (ap first_trap (row_next y x below) ∙ ap (λ p. first_trap (p ∷ outcomes_from turn v y (x + 1))) (ap (outcome_of turn) (sym at) ∙ trap))
 
   pub row_end : (y x : ℕ) → v.shape.w ≤ x → None ≡ first_trap (outcomes_from turn v y x)
   unfolding first_trap outcomes_from
@@ -58,6 +61,12 @@ module _ (turn : Turn) (v : View) where
   pub rows_end : (y : ℕ) → v.shape.h ≤ y → None ≡ first_trap (rows_seen turn v y)
   unfolding first_trap rows_seen
   rows_end y past = sym (ap (λ l. first_trap (flat_map (λ j. outcomes_from turn v j 0) l)) (range_end y v.shape.h past))
+
+  pub cell_alone : (cell : ℕ) (o : Option Trap) → v.shape.w ≡ 1 → v.shape.h ≡ 1 → cell ≡ cell_of v 0 0 → TellsTrap (turn.outcomes cell) o → o ≡ first_trap (rows_seen turn v 0)
+  cell_alone cell None wide tall at told =
+      let row : None ≡ first_trap (outcomes_from turn v 0 0) = row_end 0 1 (omega (arith, wide)) ∙ row_number 0 0 cell None (omega (arith, wide)) at told refl in
+      rows_end 1 (omega (arith, tall)) ∙ rows_none 0 (omega (arith, tall)) row
+  cell_alone cell (Some t) wide tall at told = rows_some 0 t (omega (arith, tall)) (row_trapped 0 0 cell (Some t) t (omega (arith, wide)) at told refl)
 
 module _ (turn : Turn) (views : List View) where
   views_next : (i : ℕ) (v : View) → i < length views → v ≡ get_or views i v → views_seen turn (drop i views) ≡ rows_seen turn v 0 ++ views_seen turn (drop (i + 1) views)

@@ -7,7 +7,7 @@ use Rattle.pb_values.specs.declared.outcome.Kind.{Kind}
 use Rattle.pb_values.specs.Views.{cell_of}
 use Rattle.pb_model.specs.Bodies.{if_ok}
 use Rattle.pb_model.specs.Grids.{Grid}
-use Rattle.pb_eval.specs.Shown.{IsTold, number_told}
+use Rattle.pb_eval.specs.Shown.{HasNumbers, number_told}
 use Rattle.pb_eval.specs.declared.shown.Shown.{Shown}
 use Rattle.pb_eval.specs.declared.shown.Shown.TheVariants.{Told, Kept, Nothing}
 
@@ -48,7 +48,7 @@ grid_shown turn numbers s = record { width = width_of s; height = height_of s; c
 
 -- what is shown can be read
 abbrev pub IsShown : Turn → List ℤ → Shown → Type 0
-IsShown turn numbers (Told v) = IsTold turn v
+IsShown turn numbers (Told v) = HasNumbers turn v
 IsShown turn numbers (Kept s) = s.first + s.height * s.width ≤ length numbers
 IsShown turn numbers Nothing = Unit {0}
 

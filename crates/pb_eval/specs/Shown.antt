@@ -4,7 +4,7 @@ use Rattle.std.specs.List.{All, flat_map}
 use Rattle.std.specs.Option.{option_map_or}
 use Rattle.pb_linear.specs.Sizes.{sizes_of}
 use Rattle.pb_linear.specs.declared.sizes.Sizes.{Sizes}
-use Rattle.pb_values.specs.Cells.{Turn}
+use Rattle.pb_values.specs.Cells.{Turn, is_number}
 use Rattle.pb_values.specs.Views.{cell_of, view_cells}
 use Rattle.pb_values.specs.declared.outcome.Outcome.{Outcome}
 use Rattle.pb_values.specs.declared.outcome.Outcome.TheVariants.{Value}
@@ -35,6 +35,12 @@ pub record IsTold (turn : Turn) (v : View) : Type 0 where
   pub wide : v.shape.w ≤ MOST_SIDE
   pub tall : v.shape.h ≤ MOST_SIDE
 
+-- each cell of a view has a number, and its sides are at most those of a matrix
+pub record HasNumbers (turn : Turn) (v : View) : Type 0 where
+  pub told : (x y : ℕ) → x < v.shape.w → y < v.shape.h → IsTrue (is_number (turn.outcomes (cell_of v x y)))
+  pub wide : v.shape.w ≤ MOST_SIDE
+  pub tall : v.shape.h ≤ MOST_SIDE
+
 -- what a body is run around: the sizes, the rule variables, and what the reads show
 pub record Around : Type 0 where
   pub sizes : List ℕ
@@ -45,12 +51,12 @@ pub record Around : Type 0 where
 unfoldable pub around_of : Turn → Sizes → ℕ → ℕ → List View → Around
 around_of turn sizes x y views = record { sizes = sizes_of sizes; x = pos x; y = pos y; reads = map (grid_told turn) views }
 
--- sizes and rule variables are numbers of 64 bits, and the cells of the views are told
+-- sizes and rule variables are numbers of 64 bits, and the cells of the views have numbers
 pub record IsSetting (turn : Turn) (sizes : Sizes) (x y : ℕ) (views : List View) : Type 0 where
   pub small : (i : ℕ) → slice_index sizes.of i < 2 ^ 63
   pub small_x : x < 2 ^ 63
   pub small_y : y < 2 ^ 63
-  pub told : All (IsTold turn) views
+  pub told : All (HasNumbers turn) views
 
 -- where nothing is told
 abbrev pub nothing_told : Turn

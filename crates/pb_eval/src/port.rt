@@ -1,9 +1,8 @@
 ghost use Rattle.std.specs.Prelude.{◌≡◌, IsTrue, is_some};
-ghost use Rattle.pb_values.specs.Cells.{Turn};
-ghost use Rattle.pb_model.specs.Equations.{number_in};
-ghost use Rattle.pb_eval.specs.Shown.{number_told, outcome_of};
+ghost use Rattle.pb_values.specs.Cells.{HasNoTrap, TellsTrap, Turn, is_number};
+ghost use Rattle.pb_eval.specs.Shown.{number_told};
 
-use pb_values::{CellReader, Outcome};
+use pb_values::{CellReader, Trap};
 use std::marker::Brand;
 
 /// A name for what a reader tells, so that a type can speak of it.
@@ -26,33 +25,31 @@ pub(crate) struct Port<'a, C: CellReader, N: NamesTurn> {
 }
 
 impl<'a, C: CellReader, N: NamesTurn> Port<'a, C, N> {
-    /// The outcome of a cell that is told.
-    #[tactic(auto, using(crate::proofs::ViewLemmas::told_outcome))]
-    pub(crate) fn outcome(&mut self, cell: u64) -> Outcome
-        requires { IsTrue (is_some (N.turn.outcomes cell)) }
-        ensures outcome { result ≡ outcome_of N.turn cell }
-        ensures same_reference { self.new.reader.ghost_name ≡ self.old.reader.ghost_name }
+    /// Whether it is known that no cell that is told is trapped.
+    #[tactic(auto, using(crate::proofs::ViewLemmas::told_untrapped))]
+    pub(crate) fn is_untrapped(&self) -> bool
+        ensures { IsTrue result → HasNoTrap N.turn }
     {
-        self.reader.read(cell)
+        self.reader.is_untrapped()
     }
 
-    /// The number of a cell that is told.
+    /// The trap of a cell that is told.
+    #[tactic(auto, using(crate::proofs::ViewLemmas::told_trap))]
+    pub(crate) fn trap(&mut self, cell: u64) -> Option<Trap>
+        requires { IsTrue (is_some (N.turn.outcomes cell)) }
+        ensures trap { TellsTrap (N.turn.outcomes cell) result }
+        ensures same_reference { self.new.reader.ghost_name ≡ self.old.reader.ghost_name }
+    {
+        self.reader.trap(cell)
+    }
+
+    /// The number of a cell of which one is told.
     #[tactic(auto, using(crate::proofs::ViewLemmas::told_number))]
     pub(crate) fn number(&mut self, cell: u64) -> i64
-        requires { IsTrue (is_some (N.turn.outcomes cell)) }
+        requires { IsTrue (is_number (N.turn.outcomes cell)) }
         ensures number { result ≡ number_told N.turn cell }
         ensures same_reference { self.new.reader.ghost_name ≡ self.old.reader.ghost_name }
     {
-        number_in(self.reader.read(cell))
-    }
-}
-
-/// The number of an outcome that is no trap.
-fn number_in(outcome: Outcome) -> i64
-    ensures { result ≡ number_in outcome }
-{
-    match outcome {
-        Outcome::Value(n) => n,
-        Outcome::Trapped(_) => 0,
+        self.reader.number(cell)
     }
 }

@@ -86,7 +86,7 @@ impl Shown {
 }
 
 ghost use Rattle.pb_eval.specs.Places.{plus_product};
-ghost use Rattle.pb_eval.specs.Shown.{IsTold};
+ghost use Rattle.pb_eval.specs.Shown.{HasNumbers};
 
 /// The sum of the products of the cells of two rows: a loop over both, by their steps.
 #[tactic(auto, using(crate::proofs::ProductLemmas::dot_other, crate::proofs::ProductLemmas::dot_ok, crate::proofs::ProductLemmas::dot_err, crate::proofs::ProductLemmas::dot_end, crate::proofs::ProductLemmas::dot_start))]
@@ -96,8 +96,8 @@ fn dot_rows<C: CellReader, N: NamesTurn>(
     scratch: &Scratch,
     port: &mut Port<C, N>,
 ) -> Result<i64, Kind>
-    requires left { IsTold N.turn left.now }
-    requires right { IsTold N.turn right.now }
+    requires left { HasNumbers N.turn left.now }
+    requires right { HasNumbers N.turn right.now }
     requires one_left { left.now.shape.h ≡ 1 }
     requires one_right { right.now.shape.h ≡ 1 }
     ensures dot { result ≡ dot_product (grid_shown N.turn scratch.now.numbers.items (Told left.now)).cells (grid_shown N.turn scratch.now.numbers.items (Told right.now)).cells }

@@ -5,7 +5,7 @@ ghost use Rattle.pb_eval.specs.Shown.{IsTold};
 ghost use Rattle.pb_eval.specs.Traps.{outcomes_from, rows_seen, views_seen};
 
 use crate::port::{NamesTurn, Port};
-use pb_values::{CellReader, Outcome, Trap, View};
+use pb_values::{CellReader, Trap, View};
 
 /// The first trap in a row of a view.
 #[inline]
@@ -16,9 +16,9 @@ fn row_trap<C: CellReader, N: NamesTurn>(view: &View, y: u64, port: &mut Port<C,
     ensures same_reference { port.new.reader.ghost_name ≡ port.old.reader.ghost_name }
 {
     for x in 0..view.shape.w {
-        match port.outcome(view.place(x, y)) {
-            Outcome::Value(_) => (),
-            Outcome::Trapped(trap) => return Some(trap),
+        match port.trap(view.place(x, y)) {
+            None => (),
+            Some(trap) => return Some(trap),
         }
     }
     None
@@ -33,10 +33,7 @@ fn cell_trap<C: CellReader, N: NamesTurn>(view: &View, port: &mut Port<C, N>) ->
     ensures trap { result ≡ first_trap (rows_seen N.turn view.now 0) }
     ensures same_reference { port.new.reader.ghost_name ≡ port.old.reader.ghost_name }
 {
-    match port.outcome(view.place(0, 0)) {
-        Outcome::Value(_) => None,
-        Outcome::Trapped(trap) => Some(trap),
-    }
+    port.trap(view.place(0, 0))
 }
 
 /// The first trap in a view.
@@ -69,6 +66,9 @@ pub(crate) fn first_trap<C: CellReader, N: NamesTurn>(
     ensures trap { result ≡ first_trap (views_seen N.turn views.now) }
     ensures same_reference { port.new.reader.ghost_name ≡ port.old.reader.ghost_name }
 {
+    if port.is_untrapped() {
+        return None;
+    }
     for view in views {
         match view_trap(view, port) {
             None => (),

@@ -1,10 +1,13 @@
 -- Outcomes that are held as words.
-use Rattle.std.proofs.Common.{◌≡◌, ◌∙◌, refl, sym, ap, ℕ, zero, suc, ◌+◌, ◌*◌, ◌/◌, ◌%◌, ◌<◌, ◌^◌, ℤ, Bool, true, false, ◌||◌, List, [], ◌∷◌, length, map, take, drop, get_or, slice_set, Some, slice_get, arith}
+use Rattle.std.proofs.Common.{◌≡◌, ◌∙◌, refl, sym, ap, subst, ℕ, zero, suc, ◌+◌, ◌*◌, ◌/◌, ◌%◌, ◌<◌, ◌^◌, ℤ, Bool, true, false, ◌||◌, IsTrue, List, [], ◌∷◌, length, map, replicate, take, drop, get_or, slice_set, Some, slice_get, arith}
+use Rattle.std.specs.Prelude.{is_some}
 use Rattle.std.specs.List.{list_any}
 use Rattle.std.proofs.lemmas.Nat.{div-mul-add, mod-mul-add}
+use Rattle.pb_values.specs.Cells.{is_number}
+use Rattle.pb_values.specs.declared.outcome.Outcome.{Outcome}
 use Rattle.pb_values.specs.declared.outcome.Outcome.TheVariants.{Value}
 use Rattle.pb_values.specs.declared.outcome.Trap.{Trap}
-use Rattle.pb_taskgraph.specs.Packed.{kind_at, outcome_in, outcomes_in, trap_by, trap_in}
+use Rattle.pb_taskgraph.specs.Packed.{AreNumbers, HasNumbers, kind_at, outcome_in, outcomes_in, trap_by, trap_in}
 
 -- ---- a trap as a word
 pub maker : (trap : Trap) (k : ℕ) → kind_at k ≡ trap.kind → trap.transform < 64 → trap.rule < 32 → trap_by ((k * 64 + trap.transform) * 32 + trap.rule) trap.x trap.y ≡ trap
@@ -79,3 +82,32 @@ values_in f is (w ∷ ws) (false ∷ bs) e none = ap (λ l. Value w ∷ l) (valu
     later : (a b : Bool) → (a || b) ≡ false → b ≡ false
     later true b h = absurd (let wrong : true ≡ false = h in cc)
     later false b h = h
+
+-- ---- whether there is a trap among them
+pub none-first : (n : ℕ) → AreNumbers (replicate n false)
+none-first zero = refl
+none-first (suc n) = none-first n
+
+pub none-later : (bs : List Bool) (i : ℕ) → AreNumbers bs → AreNumbers (slice_set bs i false)
+none-later [] i none = none
+none-later (true ∷ bs) i none = absurd (let wrong : true ≡ false = none in cc)
+none-later (false ∷ bs) zero none = none
+none-later (false ∷ bs) (suc i) none = none-later bs i none
+
+numbers-there : (ws : List ℤ) (c : ℕ) → IsTrue (is_some (slice_get (map (λ z. Value z) ws) c)) → IsTrue (is_number (slice_get (map (λ z. Value z) ws) c))
+numbers-there [] c some = absurd (let wrong : false ≡ true = some in cc)
+numbers-there (w ∷ ws) zero some = refl
+numbers-there (w ∷ ws) (suc c) some = numbers-there ws c some
+
+pub numbers-all : (ws : List ℤ) (bs : List Bool) (outcomes : List Outcome) → length bs ≡ length ws → outcomes_in ws bs ≡ outcomes → AreNumbers bs → HasNumbers outcomes
+numbers-all ws bs outcomes e same none =
+    let all : map (λ z. Value z) ws ≡ outcomes = sym (values_in (λ b. b) refl ws bs e none) ∙ same in
+    λ c some. subst (λ (l : List Outcome). IsTrue (is_number (slice_get l c))) all (numbers-there ws c (subst (λ (l : List Outcome). IsTrue (is_some (slice_get l c))) (sym all) some))
+
+pub number-in : (ws : List ℤ) (bs : List Bool) (c : ℕ) → length bs ≡ length ws → IsTrue (is_number (slice_get (outcomes_in ws bs) c)) → (c < length ws) × ((w : ℤ) → w ≡ get_or ws c w → slice_get (outcomes_in ws bs) c ≡ Some (Value w))
+unfolding outcomes_in outcome_in
+number-in [] bs c e number = absurd (let wrong : false ≡ true = number in cc)
+number-in (w ∷ ws) [] c e number = absurd (omega arith)
+number-in (w ∷ ws) (true ∷ bs) zero e number = absurd (let wrong : false ≡ true = number in cc)
+number-in (w ∷ ws) (false ∷ bs) zero e number = (omega arith, λ v is. ap (λ z. Some (Value z)) (sym is))
+number-in (w ∷ ws) (b ∷ bs) (suc c) e number = let rest = number-in ws bs c (omega arith) number in (omega (arith, rest.0), rest.1)

@@ -1,5 +1,7 @@
 -- Outcomes that are held as words: a number, or a trap as the number that its parts make, digit by digit.
-use Rattle.std.specs.Prelude.{ℕ, ◌==◌, if◌then◌else◌, ◌^◌, ◌/◌, ◌%◌, ℤ, unsigned_abs, Bool, true, false, List, [], ◌∷◌}
+use Rattle.std.specs.Prelude.{◌≡◌, ℕ, ◌==◌, if◌then◌else◌, ◌^◌, ◌/◌, ◌%◌, ℤ, unsigned_abs, Bool, true, false, IsTrue, is_some, List, [], ◌∷◌, slice_get}
+use Rattle.std.specs.List.{list_any}
+use Rattle.pb_values.specs.Cells.{is_number}
 use Rattle.pb_values.specs.declared.outcome.Kind.{Kind}
 use Rattle.pb_values.specs.declared.outcome.Kind.TheVariants as kind
 use Rattle.pb_values.specs.declared.outcome.Outcome.{Outcome}
@@ -28,3 +30,11 @@ outcome_in w true = Trapped (trap_in (unsigned_abs w))
 unfoldable pub outcomes_in : List ℤ → List Bool → List Outcome
 outcomes_in (w ∷ ws) (b ∷ bs) = outcome_in w b ∷ outcomes_in ws bs
 outcomes_in _ _ = []
+
+-- none of these flags says that an outcome is a trap
+abbrev pub AreNumbers : List Bool → Type 0
+AreNumbers flags = list_any (λ b. b) flags ≡ false
+
+-- each outcome that is there is a number
+abbrev pub HasNumbers : List Outcome → Type 0
+HasNumbers outcomes = (cell : ℕ) → IsTrue (is_some (slice_get outcomes cell)) → IsTrue (is_number (slice_get outcomes cell))

@@ -1,13 +1,19 @@
+ghost use Rattle.std.specs.Prelude.{◌≡◌, false};
+ghost use Rattle.pb_taskgraph.specs.Packed.{AreNumbers};
+
 use crate::packed::{trap_in, word_of};
 use pb_values::Outcome;
 use std::alloc::{AllocError, Global};
 use std::marker::Model;
 
-/// The outcomes of cells, by number. A cell takes nine bytes: its number or its trap as one word, and which of both it is.
+/// The outcomes of cells, by number. A cell takes nine bytes: its number or its trap as one word, and which of both it is. `any`
+/// tells whether a trap was ever put among them.
 #[derive(Debug, Drop)]
 pub struct Outcomes {
     words: Vec<i64>,
     trapped: Vec<bool>,
+    any: bool,
+    ghost none: { any ≡ false → AreNumbers trapped.items },
 }
 
 impl Model for Outcomes {
@@ -23,8 +29,10 @@ impl Model for Outcomes {
 }
 
 impl Outcomes {
-    ghost use Rattle.std.specs.Prelude.{◌≡◌, ◌<◌, ◌≤◌, ◌-◌, IfOk, IfSome, Some, drop, length, map, slice_get, slice_set, take};
+    ghost use Rattle.std.specs.Prelude.{◌≡◌, ◌<◌, ◌≤◌, ◌-◌, IfOk, IfSome, IsTrue, Some, drop, length, map, slice_get, slice_set, take};
     ghost use Rattle.pb_values.specs.declared.outcome.Outcome.TheVariants.{Value};
+    ghost use Rattle.pb_values.specs.Cells.{is_number};
+    ghost use Rattle.pb_taskgraph.specs.Packed.{HasNumbers};
     ghost use Rattle.pb_taskgraph.specs.Plans.{IsSmall};
 
     /// So many outcomes, of which each is 0.
@@ -35,6 +43,7 @@ impl Outcomes {
         Ok(Outcomes {
             words: vec![in alloc; 0i64; cells as usize]?,
             trapped: vec![in alloc; false; cells as usize]?,
+            any: false,
         })
     }
 
@@ -57,6 +66,23 @@ impl Outcomes {
         } else {
             Outcome::Value(word)
         }
+    }
+
+    /// Whether it is known that none of them is a trap.
+    #[inline(always)]
+    pub fn is_untrapped(&self) -> bool
+        ensures { IsTrue result → HasNumbers self.now }
+    {
+        !self.any
+    }
+
+    /// The number of a cell that isn't trapped.
+    #[inline(always)]
+    pub fn number(&self, cell: u64) -> i64
+        requires { IsTrue (is_number (slice_get self.now cell)) }
+        ensures { slice_get self.now cell ≡ Some (Value result) }
+    {
+        self.words[cell as usize]
     }
 
     /// The numbers of the cells from `first` to before `end`, unless one of them is trapped.
@@ -86,6 +112,7 @@ impl Outcomes {
             Outcome::Trapped(trap) => {
                 self.words[cell as usize] = word_of(&trap);
                 self.trapped[cell as usize] = true;
+                self.any = true;
             }
         }
     }

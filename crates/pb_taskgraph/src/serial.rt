@@ -60,6 +60,16 @@ impl<N: NamesWork> CellReader for SerialPort<N> {
     fn read(&mut self, cell: u64) -> Outcome {
         self.outcomes.get(cell)
     }
+
+    #[inline(always)]
+    fn is_untrapped(&self) -> bool {
+        self.outcomes.is_untrapped()
+    }
+
+    #[inline(always)]
+    fn number(&mut self, cell: u64) -> i64 {
+        self.outcomes.number(cell)
+    }
 }
 
 impl<N: NamesWork> CellPort for SerialPort<N> {

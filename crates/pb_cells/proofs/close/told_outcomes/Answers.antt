@@ -2,7 +2,7 @@ use Rattle.std.proofs.Common.{◌≡◌, ◌∙◌, ◌<◌, ◌+◌, sym, ap, s
 use mathlib.Core.Option.{some}
 use lib.ListN.{get_elem?}
 use Rattle.std.specs.Mem.Slots.{slots_items}
-use Rattle.pb_taskgraph.specs.Plans.{IsSmall, outcome_at}
+use Rattle.pb_taskgraph.specs.Plans.{IsSmall}
 use Rattle.pb_taskgraph.proofs.PlanLemmas.{outcome-small}
 use Rattle.pb_taskgraph.proofs.SerialLemmas.{inputs-more}
 use Rattle.pb_cells.proofs.EndLemmas.{end-outcome, outcomes-all}

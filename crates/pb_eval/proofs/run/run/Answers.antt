@@ -8,10 +8,17 @@ use Rattle.pb_eval.specs.Stored.{sides_of, store_of}
 use Rattle.pb_eval.specs.Working.{left_in}
 use Rattle.pb_eval.proofs.RunLemmas.{finished, left_names, runs_err, runs_ok, runs_trap}
 use Rattle.pb_eval.proofs.TrapLemmas.{seen_is}
+use Rattle.pb_eval.proofs.ViewLemmas.{seen_numbers, small_sizes}
 use Rattle.pb_eval.proofs.run.run.Goals as goal
 
 pub returns-in-Some-clause-found : goal.returns-in-Some-clause-found
 returns-in-Some-clause-found g c = runs_trap _ _ _ _ _ (c.in-Some.ensures.trap ∙ ap first_trap (seen_is g.N.NamesTurn.turn c.args.views.now))
+
+pub invariant_of-scene : goal.invariant_of-scene
+invariant_of-scene g c =
+    let N = g.N.NamesTurn.turn in
+    let none : None ≡ first_trap (seen_by N c.args.views.now) = sym c.in_default.is ∙ c.first_trap.ensures.trap ∙ ap first_trap (seen_is N c.args.views.now) in
+    record { small = small_sizes c.args.s.now.of c.requires.sizes; small_x = c.requires.x; small_y = c.requires.y; told = seen_numbers N c.args.views.now none c.requires.told }
 
 pub lay-total-requires-clause-room : goal.lay-total-requires-clause-room
 unfolding outs_of

@@ -1,4 +1,4 @@
-use Rattle.std.proofs.Common.{◌∙◌, refl, sym, ap, subst, ◌<◌, ◌+◌, length, arith}
+use Rattle.std.proofs.Common.{◌∙◌, refl, sym, subst, ◌<◌, ◌+◌, length, arith}
 use Rattle.pb_cells.proofs.CallLemmas.{draw-asks, file-asks, filed-inside, number-asks, number-inside, own-is, own-task, task-is}
 use Rattle.pb_cells.proofs.cells.Cells.finish.Goals as goal
 
