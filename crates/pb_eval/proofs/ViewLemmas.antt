@@ -92,7 +92,7 @@ seen_numbers turn views e told k d below =
     let v = get_or views k d in
     let here : Contains views v = (k, below, get_or_any views k v d below) in
     record {
-      told = λ x y across down. numbers_in turn (flat_map view_cells views) (sym e) (cell_of v x y) (inside views v x y here across down) ((told k d below).told x y across down);
+      number = λ x y across down. numbers_in turn (flat_map view_cells views) (sym e) (cell_of v x y) (inside views v x y here across down) ((told k d below).told x y across down);
       wide = (told k d below).wide;
       tall = (told k d below).tall;
     }

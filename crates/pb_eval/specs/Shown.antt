@@ -37,7 +37,7 @@ pub record IsTold (turn : Turn) (v : View) : Type 0 where
 
 -- each cell of a view has a number, and its sides are at most those of a matrix
 pub record HasNumbers (turn : Turn) (v : View) : Type 0 where
-  pub told : (x y : ℕ) → x < v.shape.w → y < v.shape.h → IsTrue (is_number (turn.outcomes (cell_of v x y)))
+  pub number : (x y : ℕ) → x < v.shape.w → y < v.shape.h → IsTrue (is_number (turn.outcomes (cell_of v x y)))
   pub wide : v.shape.w ≤ MOST_SIDE
   pub tall : v.shape.h ≤ MOST_SIDE
 
@@ -56,7 +56,7 @@ pub record IsSetting (turn : Turn) (sizes : Sizes) (x y : ℕ) (views : List Vie
   pub small : (i : ℕ) → slice_index sizes.of i < 2 ^ 63
   pub small_x : x < 2 ^ 63
   pub small_y : y < 2 ^ 63
-  pub told : All (HasNumbers turn) views
+  pub numbers : All (HasNumbers turn) views
 
 -- where nothing is told
 abbrev pub nothing_told : Turn

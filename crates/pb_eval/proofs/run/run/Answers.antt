@@ -18,7 +18,7 @@ pub invariant_of-scene : goal.invariant_of-scene
 invariant_of-scene g c =
     let N = g.N.NamesTurn.turn in
     let none : None ≡ first_trap (seen_by N c.args.views.now) = sym c.in_default.is ∙ c.first_trap.ensures.trap ∙ ap first_trap (seen_is N c.args.views.now) in
-    record { small = small_sizes c.args.s.now.of c.requires.sizes; small_x = c.requires.x; small_y = c.requires.y; told = seen_numbers N c.args.views.now none c.requires.told }
+    record { small = small_sizes c.args.s.now.of c.requires.sizes; small_x = c.requires.x; small_y = c.requires.y; numbers = seen_numbers N c.args.views.now none c.requires.told }
 
 pub lay-total-requires-clause-room : goal.lay-total-requires-clause-room
 unfolding outs_of
