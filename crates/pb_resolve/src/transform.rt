@@ -7,7 +7,7 @@ ghost use Rattle.pb_names.specs.Faults.{Fails};
 ghost use Rattle.pb_names.specs.Turns.{turn_faults};
 ghost use Rattle.pb_names.specs.Rules.{rule_of, rule_faults};
 ghost use Rattle.pb_resolve.specs.RuleWords.{rule_in, rule_faults_in, IsRuleWithin};
-ghost use Rattle.pb_names.specs.Transforms.{all_matrices, decls_faults, decls_of, minimum_faults, minimums_of, next_minimum, seen, sizes as sizes_named, transform_faults, transform_of};
+ghost use Rattle.pb_names.specs.Transforms.{all_matrices, decls_faults, decls_of, matrices_of, minimum_faults, minimums_of, next_minimum, seen, sizes as sizes_named, transform_faults, transform_of};
 ghost use Rattle.pb_names.specs.declared.fault.Fault.TheVariants.{Memory};
 ghost use Rattle.pb_syntax.specs.declared.limits.TheConstants.{MOST_SIZES};
 
@@ -78,6 +78,21 @@ impl<'t, 'p> Scope<'t, 'p> {
         self.matrices(matrices, t.to.as_slice(), &mut found)?;
         Ok(found)
     }
+
+    /// Resolves the matrices and the rules of a transform.
+    #[tactic(auto, using(crate::proofs::FaultLemmas::fails_left, crate::proofs::FaultLemmas::fails_right))]
+    fn parts(&mut self, t: &'t TransformText) -> Result<(Vec<Decl>, Vec<Rule>), Fault>
+        requires { TransformWithin (bare_transform t.now) }
+        ensures matrices { IfOk result (λ r. r.0.items ≡ decls_of self.old (bare_transform t.now)) }
+        ensures rules { IfOk result (λ r. map resolved_rule r.1.items ≡ map (rule_of (matrices_of (bare_transform t.now)) self.old) (map bare_rule t.now.rules)) }
+        ensures faultless { OnOk result (decls_faults self.old (bare_transform t.now) ++ flat_map (rule_faults (matrices_of (bare_transform t.now)) self.old) (map bare_rule t.now.rules) ≡ []) }
+        ensures refused { IfErr result (λ f. Fails f (decls_faults self.old (bare_transform t.now) ++ flat_map (rule_faults (matrices_of (bare_transform t.now)) self.old) (map bare_rule t.now.rules))) }
+    {
+        let mut matrices = Matrices::new(self.alloc, t.from.len() as u32);
+        let decls = self.all_matrices(&mut matrices, t)?;
+        let rules = self.rules_of(&matrices, t)?;
+        Ok((decls, rules))
+    }
 }
 
 /// What the header of a transform sees; the names of its sizes are added to `found`.
@@ -112,19 +127,17 @@ pub(crate) fn transform<'t>(
     ensures faultless { OnOk result (transform_faults transforms.now (bare_transform t.now) ≡ []) }
     ensures refused { IfErr result (λ f. Fails f (transform_faults transforms.now (bare_transform t.now))) }
 {
-    let mut names = Vec::new(alloc);
-    let mut scope = seen(alloc, transforms, t, &mut names)?;
+    let name = copy_name(alloc, &t.name)?;
+    let mut sizes = Vec::new(alloc);
+    let mut scope = seen(alloc, transforms, t, &mut sizes)?;
     let minimums = scope.minimums_of(t)?;
-    let inputs = t.from.len() as u32;
-    let mut matrices = Matrices::new(alloc, inputs);
-    let decls = scope.all_matrices(&mut matrices, t)?;
-    let rules = scope.rules_of(&matrices, t)?;
+    let (matrices, rules) = scope.parts(t)?;
     Ok(Transform {
-        name: copy_name(alloc, &t.name)?,
-        ranges: ranges(&minimums, names.as_slice()),
-        sizes: names,
-        matrices: decls,
-        inputs,
+        name,
+        ranges: ranges(&minimums, sizes.as_slice()),
+        sizes,
+        matrices,
+        inputs: t.from.len() as u32,
         middles: t.through.len() as u32,
         rules,
     })
