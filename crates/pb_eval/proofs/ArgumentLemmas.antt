@@ -15,7 +15,8 @@ use Rattle.pb_model.specs.Bodies.{Bindings, Store, called, cell_at, cell_in, dot
 use Rattle.pb_model.specs.Grids.{no_grid}
 use Rattle.pb_syntax.specs.declared.tree.expression.Operator.{Operator}
 use Rattle.pb_syntax.specs.declared.tree.expression.Operator.TheVariants as operator
-use Rattle.pb_eval.specs.Working.{assign_cell_in, called_in, decided, lone_name, operand_in, cell_in_list, function_in, pair_in, place_in, single_in, value_in, view_in}
+use Rattle.pb_numbers.specs.Deciding.{decided}
+use Rattle.pb_eval.specs.Working.{assign_cell_in, called_in, lone_name, operand_in, cell_in_list, function_in, pair_in, place_in, single_in, value_in, view_in}
 
 one_item : (xs : List Expr) (x : Expr) → 1 ≤ length xs → length xs < 2 → x ≡ get_or xs 0 x → xs ≡ x ∷ []
 one_item [] x some few is = absurd (omega arith)
@@ -104,6 +105,10 @@ module _ (b : Bindings) (st : Store) where
   cell_placed m (x ∷ []) = alone (value_in b st x) (cell_in (view_of b st m))
   cell_placed m (x ∷ y ∷ []) = pairs (value_in b st x) (value_in b st y) (cell_in (view_of b st m))
   cell_placed m (x ∷ y ∷ z ∷ xs) = refl
+
+  pub cell_found : (m : Meaning) (xs : List Expr) (r : Result ℤ Kind) (i j u v : ℤ) → place_in b st xs ≡ Ok (i, j) → u ≡ i → v ≡ j → r ≡ cell_in (view_of b st m) u v → r ≡ cell_in_list b st m xs
+  cell_found m xs r i j u v there same_i same_j is = is ∙ ap (λ n. cell_in (view_of b st m) n v) same_i ∙ ap (λ n. cell_in (view_of b st m) i n) same_j
+      ∙ sym (cell_placed m xs ∙ ap (λ p. if_ok p (λ q. cell_in (view_of b st m) q.0 q.1)) there)
 
   thrice : {A : Type 0} (r s t : Result ℤ Kind) (f : ℤ → ℤ → ℤ → Result A Kind)
       → if_ok r (λ i. if_ok s (λ j. if_ok t (f i j))) ≡ if_ok {A = ℤ × ℤ} {B = A} (if_ok {A = ℤ} {B = ℤ × ℤ} r (λ i. if_ok {A = ℤ} {B = ℤ × ℤ} s (λ j. Ok (i, j)))) (λ p. if_ok t (f p.0 p.1))

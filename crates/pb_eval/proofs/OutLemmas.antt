@@ -1,11 +1,12 @@
 -- The sides of outputs, output by output.
-use Rattle.std.proofs.Common.{◌≡◌, ◌∙◌, sym, ap, ℕ, suc, ◌+◌, ◌*◌, ◌<◌, List, [], ◌∷◌, ◌++◌, length, drop, take, get_or, map, Some, subst, drop-cons, add-one}
+use Rattle.std.proofs.Common.{◌≡◌, ◌∙◌, sym, ap, ℕ, suc, ◌+◌, ◌*◌, ◌<◌, ◌≤◌, List, [], ◌∷◌, ◌++◌, length, drop, take, get_or, map, Some, subst, drop-cons, add-one, arith}
 use Rattle.std.specs.List.{All}
 use Rattle.std.specs.Option.{option_map_or}
 use Rattle.std.proofs.Math.Seq.{take-suc}
 use Rattle.std.proofs.lemmas.List.{map-append}
 use Rattle.std.proofs.lemmas.Option.{slice_get-get_or}
 use Rattle.pb_program.specs.declared.view.Read.{Read}
+use Rattle.pb_program.specs.declared.view.ReadView.TheVariants as view
 use Rattle.pb_program.specs.Forms.{DeclValue}
 use Rattle.pb_eval.specs.Outputs.{free_by, free_sides, numbers_in}
 
@@ -13,8 +14,19 @@ pub sides_here : (matrices : List DeclValue) (sizes : List ℕ) (r : Read) (d : 
 unfolding free_sides
 sides_here matrices sizes r d below is = ap (λ o. option_map_or (free_by r.view sizes r) o (0, 0)) (slice_get-get_or matrices r.matrix d below ∙ ap (λ z. Some z) (sym is))
 
+pub lone_cell : (matrices : List DeclValue) (sizes : List ℕ) (r : Read) → r.view ≡ view.Cell → r.matrix < length matrices → free_sides matrices sizes r ≡ (1, 1)
+unfolding free_sides
+lone_cell [] sizes r cell below = absurd (omega arith)
+lone_cell (d ∷ ds) sizes r cell below = ap (λ o. option_map_or (free_by r.view sizes r) o (0, 0)) (slice_get-get_or (d ∷ ds) r.matrix d below) ∙ ap (λ v. free_by v sizes r (get_or (d ∷ ds) r.matrix d)) cell
+
 pub at_matrix : (matrices : List DeclValue) (outs : List Read) (i : ℕ) (out : Read) → i < length outs → out ≡ get_or outs i out → All (λ o. o.matrix < length matrices) outs → out.matrix < length matrices
 at_matrix matrices outs i out below is all = subst (λ (o : Read). o.matrix < length matrices) (sym is) (all i out below)
+
+-- the sides of the one output of a rule for single cells
+pub lone_sides : (matrices : List DeclValue) (sizes : List ℕ) (outs : List Read) (out : Read) → 1 ≤ length outs → length outs < 2 → out ≡ get_or outs 0 out → out.view ≡ view.Cell → All (λ o. o.matrix < length matrices) outs → map (free_sides matrices sizes) outs ≡ (1, 1) ∷ []
+lone_sides matrices sizes [] out least most is cell all = absurd (omega arith)
+lone_sides matrices sizes (x ∷ []) out least most is cell all = ap (λ z. z ∷ []) (ap (free_sides matrices sizes) (sym is) ∙ lone_cell matrices sizes out cell (at_matrix matrices (x ∷ []) 0 out (omega arith) is all))
+lone_sides matrices sizes (x ∷ y ∷ l) out least most is cell all = absurd (omega arith)
 
 module _ (F : Read → ℕ × ℕ) (outs : List Read) (i : ℕ) (out : Read) (below : i < length outs) (is : out ≡ get_or outs i out) where
   next : drop i outs ≡ out ∷ drop (i + 1) outs

@@ -1,7 +1,6 @@
 -- Expressions and statements as they are held, and what they mean.
-use Rattle.std.specs.Prelude.{ℕ, ℤ, pos, if◌then◌else◌, Option, Some, None, List, [], ◌∷◌, map, Result, Ok, Err}
+use Rattle.std.specs.Prelude.{ℕ, ℤ, pos, Option, Some, None, List, [], ◌∷◌, map, Result, Ok, Err}
 use Rattle.pb_syntax.specs.declared.tree.expression.Operator.{Operator}
-use Rattle.pb_syntax.specs.declared.tree.expression.Operator.TheVariants as operator
 use Rattle.pb_values.specs.declared.outcome.Kind.{Kind}
 use Rattle.pb_program.specs.declared.expression.Expr.{Expr}
 use Rattle.pb_program.specs.declared.meaning.Callee.{Callee}
@@ -14,14 +13,8 @@ use Rattle.pb_program.specs.Exprs as e
 use Rattle.pb_program.specs.declared.statement.Stmt.{Stmt}
 use Rattle.pb_program.specs.Stmts.{bare_stmt, stmts}
 use Rattle.pb_eval.specs.Rooms.{locals_among, locals_in}
-use Rattle.pb_model.specs.Bodies.{Bindings, Store, after, after_all, assigned, assigned_cell, by_operator, called, cell_at, each_turn, if_ok, is_zero, named_view, place_of, refused, turns, value, values}
+use Rattle.pb_model.specs.Bodies.{Bindings, Store, after, after_all, assigned, assigned_cell, by_operator, called, cell_at, each_turn, if_ok, named_view, place_of, refused, turns, value, values}
 use Rattle.pb_model.specs.Grids.{Grid}
-
--- the value that a left side decides alone
-abbrev pub decided : Operator → ℤ → Option ℤ
-decided operator.And a = if is_zero a then Some (pos 0) else None
-decided operator.Or a = if is_zero a then None else Some (pos 1)
-decided _ a = None
 
 -- the name that an expression is
 abbrev pub lone_name : ExprValue → Option Named

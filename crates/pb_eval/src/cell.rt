@@ -7,6 +7,7 @@ use crate::port::{NamesTurn, Port};
 use crate::scene::Scene;
 use crate::scratch::Scratch;
 use crate::shown::Shown;
+use pb_numbers::KindWord;
 use pb_program::Meaning;
 use pb_values::{CellReader, Kind};
 
@@ -37,16 +38,16 @@ impl Shown {
         port: &mut Port<C, N>,
         x: u64,
         y: u64,
-    ) -> Result<i64, Kind>
+    ) -> Result<i64, KindWord>
         requires { IsShown N.turn scratch.now.numbers.items self.now }
         ensures number { result ≡ cell_in (grid_shown N.turn scratch.now.numbers.items self.now) (pos x) (pos y) }
         ensures same_reference { port.new.reader.ghost_name ≡ port.old.reader.ghost_name }
     {
         if x >= self.width() {
-            return Err(Kind::OutOfView);
+            return Err(KindWord::of(Kind::OutOfView));
         }
         if y >= self.height() {
-            return Err(Kind::OutOfView);
+            return Err(KindWord::of(Kind::OutOfView));
         }
         Ok(self.number(scratch, port, x, y))
     }
@@ -60,16 +61,16 @@ impl Shown {
         port: &mut Port<C, N>,
         i: i64,
         j: i64,
-    ) -> Result<i64, Kind>
+    ) -> Result<i64, KindWord>
         requires { IsShown N.turn scratch.now.numbers.items self.now }
         ensures number { result ≡ cell_in (grid_shown N.turn scratch.now.numbers.items self.now) i j }
         ensures same_reference { port.new.reader.ghost_name ≡ port.old.reader.ghost_name }
     {
         let Some(x) = natural(i) else {
-            return Err(Kind::OutOfView);
+            return Err(KindWord::of(Kind::OutOfView));
         };
         let Some(y) = natural(j) else {
-            return Err(Kind::OutOfView);
+            return Err(KindWord::of(Kind::OutOfView));
         };
         self.at(scratch, port, x, y)
     }
@@ -114,7 +115,7 @@ impl<'a, N: NamesTurn> Scene<'a, N> {
         j: i64,
         scratch: &Scratch,
         port: &mut Port<C, N>,
-    ) -> Result<i64, Kind>
+    ) -> Result<i64, KindWord>
         ensures number { result ≡ cell_in (view_of (bound self.now scratch.now) (store_of scratch.now) what) i j }
         ensures same_reference { port.new.reader.ghost_name ≡ port.old.reader.ghost_name }
     {

@@ -4,10 +4,10 @@ ghost use Rattle.pb_program.specs.declared.meaning.Function.TheVariants.{Dot, Su
 ghost use Rattle.pb_eval.specs.Stored.{bound, store_of};
 ghost use Rattle.pb_eval.specs.Working.{called_in, cell_in_list, function_in, name_in, operand_in, pair_in, place_in, single_in, value_in, values_in, view_in};
 
-use crate::numbers::{compare, decided, greater, lesser, negated, number, operate};
 use crate::port::{NamesTurn, Port};
 use crate::scene::Scene;
 use crate::scratch::Scratch;
+use pb_numbers::{KindWord, compare, decided, greater, in_words, lesser, negated, number, operate};
 use pb_program::{Callee, Expr, Function, Meaning, Named};
 use pb_syntax::Operator;
 use pb_values::{CellReader, Kind, abs};
@@ -35,7 +35,7 @@ impl<'a, N: NamesTurn> Scene<'a, N> {
         e: &Expr,
         scratch: &Scratch,
         port: &mut Port<C, N>,
-    ) -> Result<i64, Kind>
+    ) -> Result<i64, KindWord>
         ensures value { result ≡ value_in (bound self.now scratch.now) (store_of scratch.now) e.now }
         ensures same_reference { port.new.reader.ghost_name ≡ port.old.reader.ghost_name }
     {
@@ -81,7 +81,7 @@ impl<'a, N: NamesTurn> Scene<'a, N> {
         left: i64,
         scratch: &Scratch,
         port: &mut Port<C, N>,
-    ) -> Result<i64, Kind>
+    ) -> Result<i64, KindWord>
         ensures value { result ≡ operand_in (bound self.now scratch.now) (store_of scratch.now) left operator e.now }
         ensures same_reference { port.new.reader.ghost_name ≡ port.old.reader.ghost_name }
     {
@@ -103,7 +103,7 @@ impl<'a, N: NamesTurn> Scene<'a, N> {
         first: i64,
         scratch: &Scratch,
         port: &mut Port<C, N>,
-    ) -> Result<i64, Kind>
+    ) -> Result<i64, KindWord>
         ensures value { result ≡ values_in (bound self.now scratch.now) (store_of scratch.now) first rest.now }
         ensures same_reference { port.new.reader.ghost_name ≡ port.old.reader.ghost_name }
     {
@@ -125,13 +125,13 @@ impl<'a, N: NamesTurn> Scene<'a, N> {
         numbers: &[Expr],
         scratch: &Scratch,
         port: &mut Port<C, N>,
-    ) -> Result<i64, Kind>
+    ) -> Result<i64, KindWord>
         ensures value { result ≡ single_in (bound self.now scratch.now) (store_of scratch.now) numbers.now }
         ensures same_reference { port.new.reader.ghost_name ≡ port.old.reader.ghost_name }
     {
         match numbers {
             [x] => self.value(x, scratch, port),
-            _ => Err(Kind::OutOfView),
+            _ => Err(KindWord::of(Kind::OutOfView)),
         }
     }
 
@@ -143,7 +143,7 @@ impl<'a, N: NamesTurn> Scene<'a, N> {
         numbers: &[Expr],
         scratch: &Scratch,
         port: &mut Port<C, N>,
-    ) -> Result<(i64, i64), Kind>
+    ) -> Result<(i64, i64), KindWord>
         ensures value { result ≡ pair_in (bound self.now scratch.now) (store_of scratch.now) numbers.now }
         ensures same_reference { port.new.reader.ghost_name ≡ port.old.reader.ghost_name }
     {
@@ -153,7 +153,7 @@ impl<'a, N: NamesTurn> Scene<'a, N> {
                 let j = self.value(y, scratch, port)?;
                 Ok((i, j))
             }
-            _ => Err(Kind::OutOfView),
+            _ => Err(KindWord::of(Kind::OutOfView)),
         }
     }
 
@@ -166,7 +166,7 @@ impl<'a, N: NamesTurn> Scene<'a, N> {
         coordinates: &[Expr],
         scratch: &Scratch,
         port: &mut Port<C, N>,
-    ) -> Result<i64, Kind>
+    ) -> Result<i64, KindWord>
         ensures value { result ≡ cell_in_list (bound self.now scratch.now) (store_of scratch.now) view coordinates.now }
         ensures same_reference { port.new.reader.ghost_name ≡ port.old.reader.ghost_name }
     {
@@ -182,7 +182,7 @@ impl<'a, N: NamesTurn> Scene<'a, N> {
         coordinates: &[Expr],
         scratch: &Scratch,
         port: &mut Port<C, N>,
-    ) -> Result<(i64, i64), Kind>
+    ) -> Result<(i64, i64), KindWord>
         ensures value { result ≡ place_in (bound self.now scratch.now) (store_of scratch.now) coordinates.now }
         ensures same_reference { port.new.reader.ghost_name ≡ port.old.reader.ghost_name }
     {
@@ -201,13 +201,13 @@ impl<'a, N: NamesTurn> Scene<'a, N> {
         arguments: &[Expr],
         scratch: &Scratch,
         port: &mut Port<C, N>,
-    ) -> Result<i64, Kind>
+    ) -> Result<i64, KindWord>
         ensures value { result ≡ called_in (bound self.now scratch.now) (store_of scratch.now) callee arguments.now }
         ensures same_reference { port.new.reader.ghost_name ≡ port.old.reader.ghost_name }
     {
         match callee {
             Callee::Function(function) => self.function(function, arguments, scratch, port),
-            Callee::Transform(_) => Err(Kind::OutOfView),
+            Callee::Transform(_) => Err(KindWord::of(Kind::OutOfView)),
         }
     }
 
@@ -220,7 +220,7 @@ impl<'a, N: NamesTurn> Scene<'a, N> {
         arguments: &[Expr],
         scratch: &Scratch,
         port: &mut Port<C, N>,
-    ) -> Result<i64, Kind>
+    ) -> Result<i64, KindWord>
         ensures value { result ≡ function_in (bound self.now scratch.now) (store_of scratch.now) function arguments.now }
         ensures same_reference { port.new.reader.ghost_name ≡ port.old.reader.ghost_name }
     {
@@ -235,7 +235,7 @@ impl<'a, N: NamesTurn> Scene<'a, N> {
                 let (i, j) = self.pair(arguments, scratch, port)?;
                 Ok(greater(i, j))
             }
-            Function::Abs => abs(self.single(arguments, scratch, port)?),
+            Function::Abs => in_words(abs(self.single(arguments, scratch, port)?)),
         }
     }
 
@@ -245,13 +245,13 @@ impl<'a, N: NamesTurn> Scene<'a, N> {
         arguments: &[Expr],
         scratch: &Scratch,
         port: &mut Port<C, N>,
-    ) -> Result<i64, Kind>
+    ) -> Result<i64, KindWord>
         ensures value { result ≡ function_in (bound self.now scratch.now) (store_of scratch.now) Sum arguments.now }
         ensures same_reference { port.new.reader.ghost_name ≡ port.old.reader.ghost_name }
     {
         match arguments {
             [view] => self.sum(named_view(view), scratch, port),
-            _ => Err(Kind::OutOfView),
+            _ => Err(KindWord::of(Kind::OutOfView)),
         }
     }
 
@@ -261,13 +261,13 @@ impl<'a, N: NamesTurn> Scene<'a, N> {
         arguments: &[Expr],
         scratch: &Scratch,
         port: &mut Port<C, N>,
-    ) -> Result<i64, Kind>
+    ) -> Result<i64, KindWord>
         ensures value { result ≡ function_in (bound self.now scratch.now) (store_of scratch.now) Dot arguments.now }
         ensures same_reference { port.new.reader.ghost_name ≡ port.old.reader.ghost_name }
     {
         match arguments {
             [view, other] => self.dot(named_view(view), named_view(other), scratch, port),
-            _ => Err(Kind::OutOfView),
+            _ => Err(KindWord::of(Kind::OutOfView)),
         }
     }
 }

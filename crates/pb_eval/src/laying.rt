@@ -10,7 +10,7 @@ use crate::scratch::Scratch;
 use crate::sides::view_sides;
 use crate::spot::Spot;
 use pb_linear::{SIZE_TOP, Sizes};
-use pb_program::{Decl, Read};
+use pb_program::{Decl, Read, ReadView};
 
 impl Scratch {
     /// Lays one more output after the others.
@@ -33,8 +33,41 @@ impl Scratch {
         let _ = self.spots.push(spot);
     }
 
+    /// Lays the output of a rule for single cells, which has one number.
+    fn lay_cell(&mut self) -> u64
+        requires { 1 ≤ length self.old.numbers.items }
+        ensures spots { map sides_of self.new.spots.items ≡ (1, 1) ∷ [] }
+        ensures end { result ≡ end_of 0 self.new.spots.items }
+        ensures one { result ≡ 1 }
+        ensures locals { self.new.locals ≡ self.old.locals }
+        ensures numbers { self.new.numbers ≡ self.old.numbers }
+    {
+        self.spots.clear();
+        self.lay_one(0, 1, 1);
+        1
+    }
+
     /// Lays the outputs of a rule one after the other, and tells how many numbers they have.
     pub(crate) fn lay(&mut self, outs: &[Read], matrices: &[Decl], s: &Sizes) -> u64
+        requires few { length outs.now ≤ MOST_VIEWS }
+        requires there { All (λ out. out.matrix < length matrices.now) outs.now }
+        requires sizes { All (λ size. size ≤ SIZE_TOP) s.now.of }
+        requires room { numbers_in (map (free_sides matrices.now (sizes_of s.now)) outs.now) ≤ length self.old.numbers.items }
+        ensures spots { map sides_of self.new.spots.items ≡ map (free_sides matrices.now (sizes_of s.now)) outs.now }
+        ensures end { result ≡ end_of 0 self.new.spots.items }
+        ensures all { result ≡ numbers_in (map (free_sides matrices.now (sizes_of s.now)) outs.now) }
+        ensures locals { self.new.locals ≡ self.old.locals }
+        ensures numbers { self.new.numbers ≡ self.old.numbers }
+    {
+        if let [out] = outs {
+            if let ReadView::Cell = out.view {
+                return self.lay_cell();
+            }
+        }
+        self.lay_all(outs, matrices, s)
+    }
+
+    fn lay_all(&mut self, outs: &[Read], matrices: &[Decl], s: &Sizes) -> u64
         requires few { length outs.now ≤ MOST_VIEWS }
         requires there { All (λ out. out.matrix < length matrices.now) outs.now }
         requires sizes { All (λ size. size ≤ SIZE_TOP) s.now.of }

@@ -10,7 +10,6 @@ mod cell;
 mod expression;
 mod laws;
 mod laying;
-mod numbers;
 mod place;
 mod port;
 mod products;

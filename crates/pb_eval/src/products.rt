@@ -8,8 +8,9 @@ use crate::port::{NamesTurn, Port};
 use crate::scene::Scene;
 use crate::scratch::Scratch;
 use crate::shown::Shown;
+use pb_numbers::{KindWord, in_words, plus};
 use pb_program::Meaning;
-use pb_values::{CellReader, Kind, View, add, mul};
+use pb_values::{CellReader, Kind, View, mul};
 
 impl Shown {
     /// How many cells there are.
@@ -58,7 +59,7 @@ impl Shown {
         other: &Shown,
         scratch: &Scratch,
         port: &mut Port<C, N>,
-    ) -> Result<i64, Kind>
+    ) -> Result<i64, KindWord>
         requires shown { IsShown N.turn scratch.now.numbers.items self.now }
         requires other { IsShown N.turn scratch.now.numbers.items other.now }
         ensures dot { result ≡ dot_product (grid_shown N.turn scratch.now.numbers.items self.now).cells (grid_shown N.turn scratch.now.numbers.items other.now).cells }
@@ -71,7 +72,7 @@ impl Shown {
         }
         let cells = self.cells::<N>(scratch);
         if cells != other.cells::<N>(scratch) {
-            return Err(Kind::BadShape);
+            return Err(KindWord::of(Kind::BadShape));
         }
         let mut total = 0;
         for i in 0..cells {
@@ -95,7 +96,7 @@ fn dot_rows<C: CellReader, N: NamesTurn>(
     right: &View,
     scratch: &Scratch,
     port: &mut Port<C, N>,
-) -> Result<i64, Kind>
+) -> Result<i64, KindWord>
     requires left { HasNumbers N.turn left.now }
     requires right { HasNumbers N.turn right.now }
     requires one_left { left.now.shape.h ≡ 1 }
@@ -105,7 +106,7 @@ fn dot_rows<C: CellReader, N: NamesTurn>(
 {
     let cells = left.shape.w;
     if cells != right.shape.w {
-        return Err(Kind::BadShape);
+        return Err(KindWord::of(Kind::BadShape));
     }
     let mut total = 0;
     for i in 0..cells {
@@ -121,10 +122,11 @@ fn dot_rows<C: CellReader, N: NamesTurn>(
 
 /// A sum, and a product added to it.
 #[inline]
-fn with_product(total: i64, left: i64, right: i64) -> Result<i64, Kind>
+fn with_product(total: i64, left: i64, right: i64) -> Result<i64, KindWord>
     ensures { result ≡ plus_product total left right }
 {
-    add(total, mul(left, right)?)
+    let product = in_words(mul(left, right))?;
+    plus(total, product)
 }
 
 impl<'a, N: NamesTurn> Scene<'a, N> {
@@ -135,7 +137,7 @@ impl<'a, N: NamesTurn> Scene<'a, N> {
         other: Meaning,
         scratch: &Scratch,
         port: &mut Port<C, N>,
-    ) -> Result<i64, Kind>
+    ) -> Result<i64, KindWord>
         ensures dot { result ≡ dot_product (view_of (bound self.now scratch.now) (store_of scratch.now) what).cells (view_of (bound self.now scratch.now) (store_of scratch.now) other).cells }
         ensures same_reference { port.new.reader.ghost_name ≡ port.old.reader.ghost_name }
     {

@@ -4,11 +4,11 @@ ghost use Rattle.pb_eval.specs.Stored.{bound, SameRoom, store_of};
 ghost use Rattle.pb_eval.specs.Working.{assign_cell_in, assign_in, left_in, repeated, room_in, rooms_in, stmt_in, stmts_in, turn_in, turns_in, value_in};
 ghost use Rattle.pb_eval.specs.Turns.{all_turns};
 
-use crate::numbers::is_true;
 use crate::port::{NamesTurn, Port};
 use crate::scene::Scene;
 use crate::scratch::Scratch;
 use crate::turns::Turns;
+use pb_numbers::is_true;
 use pb_program::{Expr, Meaning, Stmt};
 use pb_values::{CellReader, Kind};
 
@@ -29,7 +29,7 @@ impl<'a, N: NamesTurn> Scene<'a, N> {
     {
         match self.value(e, scratch, port) {
             Ok(n) => scratch.assign(what, n),
-            Err(kind) => Err(kind),
+            Err(kind) => Err(kind.kind()),
         }
     }
 
@@ -48,11 +48,11 @@ impl<'a, N: NamesTurn> Scene<'a, N> {
     {
         let (i, j) = match self.place(coordinates, scratch, port) {
             Ok(place) => place,
-            Err(kind) => return Err(kind),
+            Err(kind) => return Err(kind.kind()),
         };
         match self.value(e, scratch, port) {
             Ok(n) => scratch.put(what, i, j, n),
-            Err(kind) => Err(kind),
+            Err(kind) => Err(kind.kind()),
         }
     }
 
@@ -103,7 +103,7 @@ impl<'a, N: NamesTurn> Scene<'a, N> {
             } => {
                 let truth = match self.value(test, scratch, port) {
                     Ok(truth) => truth,
-                    Err(kind) => return Err(kind),
+                    Err(kind) => return Err(kind.kind()),
                 };
                 if is_true(truth) {
                     return self.statements(then, scratch, port);

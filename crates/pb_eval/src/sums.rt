@@ -7,8 +7,9 @@ use crate::port::{NamesTurn, Port};
 use crate::scene::Scene;
 use crate::scratch::Scratch;
 use crate::shown::Shown;
+use pb_numbers::{KindWord, plus};
 use pb_program::Meaning;
-use pb_values::{CellReader, Kind, add};
+use pb_values::{CellReader};
 
 impl Shown {
     /// A sum, and a row added to it.
@@ -20,7 +21,7 @@ impl Shown {
         port: &mut Port<C, N>,
         y: u64,
         before: i64,
-    ) -> Result<i64, Kind>
+    ) -> Result<i64, KindWord>
         requires shown { IsShown N.turn scratch.now.numbers.items self.now }
         requires down { y < height_of self.now }
         ensures sum { result ≡ summed before (row_of (number_at N.turn scratch.now.numbers.items self.now) (width_of self.now) y) }
@@ -28,7 +29,7 @@ impl Shown {
     {
         let mut total = before;
         for x in 0..self.width() {
-            match add(total, self.number(scratch, port, x, y)) {
+            match plus(total, self.number(scratch, port, x, y)) {
                 Ok(next) => total = next,
                 Err(kind) => return Err(kind),
             }
@@ -42,7 +43,7 @@ impl Shown {
         &self,
         scratch: &Scratch,
         port: &mut Port<C, N>,
-    ) -> Result<i64, Kind>
+    ) -> Result<i64, KindWord>
         requires { IsShown N.turn scratch.now.numbers.items self.now }
         ensures sum { result ≡ summed (pos 0) (grid_shown N.turn scratch.now.numbers.items self.now).cells }
         ensures same_reference { port.new.reader.ghost_name ≡ port.old.reader.ghost_name }
@@ -69,7 +70,7 @@ impl<'a, N: NamesTurn> Scene<'a, N> {
         what: Meaning,
         scratch: &Scratch,
         port: &mut Port<C, N>,
-    ) -> Result<i64, Kind>
+    ) -> Result<i64, KindWord>
         ensures sum { result ≡ summed (pos 0) (view_of (bound self.now scratch.now) (store_of scratch.now) what).cells }
         ensures same_reference { port.new.reader.ghost_name ≡ port.old.reader.ghost_name }
     {

@@ -1,4 +1,4 @@
-use Rattle.std.proofs.Common.{◌≡◌, ◌<◌, ◌∙◌, sym, refl, rules, arith, to_z, of_z, w64, length}
+use Rattle.std.proofs.Common.{◌≡◌, ◌<◌, ◌∙◌, ap, Err, sym, refl, rules, arith, to_z, of_z, w64, length}
 use Rattle.pb_eval.specs.Places.{grid_shown}
 use Rattle.pb_eval.specs.declared.shown.Shown.TheVariants.{Told}
 use Rattle.pb_eval.proofs.CellLemmas.{in_row, length_row}
@@ -9,7 +9,7 @@ pub returns-then-cells-right-clause-dot : goal.returns-then-cells-right-clause-d
 returns-then-cells-right-clause-dot g c =
     let l = length_row g.N.NamesTurn.turn c.args.scratch.now.numbers.items c.args.left.now c.requires.one_left in
     let r = length_row g.N.NamesTurn.turn c.args.scratch.now.numbers.items c.args.right.now c.requires.one_right in
-    dot_other _ _ (λ e. c.if-cells-right.true (sym l ∙ e ∙ r))
+    ap (λ k. Err k) c.of.ensures ∙ dot_other _ _ (λ e. c.if-cells-right.true (sym l ∙ e ∙ r))
 
 pub loop-i-init : goal.loop-i-init
 loop-i-init g c =

@@ -1,7 +1,7 @@
 use Rattle.std.proofs.Common.{◌≡◌, ◌<◌, ◌≤◌, length, ◌∙◌, sym, ap, rules, arith, to_z, of_z, w64, None}
 use Rattle.std.proofs.lemmas.Result.{err_from_is_err_and}
-use Rattle.pb_eval.specs.Working.{decided}
-use Rattle.pb_eval.proofs.ArgumentLemmas.{operand_open, pair_both, pair_first, pair_second}
+use Rattle.pb_numbers.specs.Deciding.{decided}
+use Rattle.pb_eval.proofs.ArgumentLemmas.{cell_found, operand_open, pair_both, pair_first, pair_second}
 use Rattle.pb_eval.proofs.ExprLemmas.{operated_same, values_end, values_err, values_ok, values_same}
 use Rattle.pb_eval.proofs.scene.Scene.+expression.Goals as goal
 
@@ -34,6 +34,12 @@ pair-returns-in_ok-j-in-len2-clause-value g t c =
     let i : to_z w64 (of_z w64 c.in_ok-i-in-len2.i) ≡ c.in_ok-i-in-len2.i = search rules in
     let j : to_z w64 (of_z w64 c.in_ok-j-in-len2.j) ≡ c.in_ok-j-in-len2.j = search rules in
     pair_both _ _ _ _ _ _ _ _ _ c.in-len2.len_at_least c.in-len2.len_below c.x-item.is c.y-item.is (sym c.value.ensures.value ∙ c.in_ok-i-in-len2.was) (sym c.value-in-len2.ensures.value ∙ c.in_ok-j-in-len2.was) i j
+
+pub cell_of-returns-clause-value : goal.cell_of-returns-clause-value
+cell_of-returns-clause-value g t c =
+    let i : to_z w64 (of_z w64 c.in_ok-i.i) ≡ c.in_ok-i.i = search rules in
+    let j : to_z w64 (of_z w64 c.in_ok-i.j) ≡ c.in_ok-i.j = search rules in
+    cell_found _ _ _ _ _ _ _ _ _ (sym c.place.ensures.value ∙ c.in_ok-i.was) i j c.cell.ensures.number
 
 pub values-returns-in-Err-clause-value : goal.values-returns-in-Err-clause-value
 values-returns-in-Err-clause-value g t c =

@@ -1,4 +1,4 @@
-use Rattle.std.proofs.Common.{◌≡◌, ◌<◌, ◌≤◌, ◌∙◌, sym, ap, rules, arith, length, not, to_z, of_z, w64}
+use Rattle.std.proofs.Common.{◌≡◌, ◌<◌, ◌≤◌, ◌∙◌, sym, ap, Err, rules, arith, length, not, to_z, of_z, w64}
 use Rattle.pb_program.specs.declared.statement.Stmt.{If, Stmt, the_lemmas}
 use Rattle.pb_model.specs.Bodies.{is_zero}
 use Rattle.pb_eval.specs.Stored.{bound, store_of}
@@ -29,7 +29,7 @@ statement-returns-in-Assign-clause-after g t c = let a = c.in-Assign in ap (λ (
 pub statement-returns-in-Err-clause-after : goal.statement-returns-in-Err-clause-after
 statement-returns-in-Err-clause-after g t c =
     let a = c.in-If in
-    ap (λ (s : Stmt). stmt_in (bound c.args.self.now c.args.scratch.now) s (store_of c.args.scratch.now)) a.is ∙ if_err _ _ a.at a.test a.«then» a.otherwise c.in-Err.kind (sym c.value.ensures.value ∙ c.in-Err.is)
+    ap (λ (s : Stmt). stmt_in (bound c.args.self.now c.args.scratch.now) s (store_of c.args.scratch.now)) a.is ∙ if_err _ _ a.at a.test a.«then» a.otherwise c.in-Err.kind (sym c.value.ensures.value ∙ c.in-Err.is) ∙ ap (λ k. Err k) (sym c.kind.ensures)
 
 pub statement-returns-in-AssignCell-clause-after : goal.statement-returns-in-AssignCell-clause-after
 statement-returns-in-AssignCell-clause-after g t c =

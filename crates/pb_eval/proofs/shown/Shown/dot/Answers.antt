@@ -1,4 +1,4 @@
-use Rattle.std.proofs.Common.{◌≡◌, ◌<◌, ◌∙◌, sym, rules, arith, to_z, of_z, w64, length}
+use Rattle.std.proofs.Common.{◌≡◌, ◌<◌, ◌∙◌, ap, Err, sym, rules, arith, to_z, of_z, w64, length}
 use Rattle.pb_eval.specs.Places.{grid_shown}
 use Rattle.pb_eval.proofs.CellLemmas.{length-cells}
 use Rattle.pb_eval.proofs.ProductLemmas.{dot_end, dot_err, dot_ok, dot_other, dot_start}
@@ -8,7 +8,7 @@ pub returns-then-cells-clause-dot : goal.returns-then-cells-clause-dot
 returns-then-cells-clause-dot g c =
     let l = length-cells g.N.NamesTurn.turn c.args.scratch.now.numbers.items c.args.self.now in
     let r = length-cells g.N.NamesTurn.turn c.args.scratch.now.numbers.items c.args.other.now in
-    dot_other _ _ (λ e. c.if-cells.true (c.cells-cells.ensures ∙ sym l ∙ e ∙ r ∙ sym c.cells.ensures))
+    ap (λ k. Err k) c.of.ensures ∙ dot_other _ _ (λ e. c.if-cells.true (c.cells-cells.ensures ∙ sym l ∙ e ∙ r ∙ sym c.cells.ensures))
 
 pub loop-i-init : goal.loop-i-init
 loop-i-init g c =

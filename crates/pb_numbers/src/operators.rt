@@ -1,37 +1,45 @@
-ghost use Rattle.std.specs.Prelude.{◌≡◌, not, pos};
+ghost use Rattle.std.specs.Prelude.{◌≡◌, ◌+ℤ◌, not, pos};
 ghost use Rattle.pb_values.specs.Checked.{checked_result};
 ghost use Rattle.pb_model.specs.Bodies.{greater, is_zero, lesser, operated, related, signed_by, truth};
-ghost use Rattle.pb_eval.specs.Working.{decided};
+ghost use Rattle.pb_numbers.specs.Deciding.{decided};
 
+use crate::kind_word::{KindWord, in_words};
 use pb_syntax::{Operator, Relation, UnarySign};
 use pb_values::{Kind, add, div, mul, neg, rem, sub};
 
-/// A number that is written.
-pub(crate) fn number(value: u64) -> Result<i64, Kind>
+/// A number that is written; `Kind::Overflow` where it is greater than the greatest of 64 bits with a sign.
+pub fn number(value: u64) -> Result<i64, KindWord>
     ensures { result ≡ checked_result (pos value) }
 {
     if value > i64::MAX as u64 {
-        return Err(Kind::Overflow);
+        return Err(KindWord::of(Kind::Overflow));
     }
     Ok(value as i64)
 }
 
-/// An operator of a product or a sum; of the others the right side.
-pub(crate) fn operate(operator: Operator, left: i64, right: i64) -> Result<i64, Kind>
+/// The sum of two numbers; `Kind::Overflow` where it is outside `i64`.
+pub fn plus(left: i64, right: i64) -> Result<i64, KindWord>
+    ensures { result ≡ checked_result (left +ℤ right) }
+{
+    in_words(add(left, right))
+}
+
+/// An operator of a product or a sum, or the kind of its trap; of `&&` and `||` the right side.
+pub fn operate(operator: Operator, left: i64, right: i64) -> Result<i64, KindWord>
     ensures { result ≡ operated operator left right }
 {
     match operator {
-        Operator::Times => mul(left, right),
-        Operator::Over => div(left, right),
-        Operator::Modulo => rem(left, right),
-        Operator::Plus => add(left, right),
-        Operator::Minus => sub(left, right),
+        Operator::Times => in_words(mul(left, right)),
+        Operator::Over => in_words(div(left, right)),
+        Operator::Modulo => in_words(rem(left, right)),
+        Operator::Plus => plus(left, right),
+        Operator::Minus => in_words(sub(left, right)),
         Operator::And | Operator::Or => Ok(right),
     }
 }
 
-/// What `&&` and `||` are where the left side alone decides.
-pub(crate) fn decided(operator: Operator, left: i64) -> Option<i64>
+/// What `&&` and `||` are where the left side alone decides; none where the right side is to be looked at.
+pub fn decided(operator: Operator, left: i64) -> Option<i64>
     ensures { result ≡ decided operator left }
 {
     match operator {
@@ -49,7 +57,7 @@ fn truth(is_so: bool) -> i64
 }
 
 /// Whether two numbers are so related, as a number.
-pub(crate) fn compare(left: i64, relation: Relation, right: i64) -> i64
+pub fn compare(left: i64, relation: Relation, right: i64) -> i64
     ensures { result ≡ truth (related left relation right) }
 {
     truth(match relation {
@@ -62,32 +70,32 @@ pub(crate) fn compare(left: i64, relation: Relation, right: i64) -> i64
     })
 }
 
-/// A number after its sign.
-pub(crate) fn negated(sign: UnarySign, value: i64) -> Result<i64, Kind>
+/// A number after its sign; `Kind::Overflow` for the least number after `-`.
+pub fn negated(sign: UnarySign, value: i64) -> Result<i64, KindWord>
     ensures { result ≡ signed_by sign value }
 {
     match sign {
-        UnarySign::Minus => neg(value),
+        UnarySign::Minus => in_words(neg(value)),
         UnarySign::Not => Ok(truth(value == 0)),
     }
 }
 
 /// The lesser of two numbers.
-pub(crate) fn lesser(left: i64, right: i64) -> i64
+pub fn lesser(left: i64, right: i64) -> i64
     ensures { result ≡ lesser left right }
 {
     if left <= right { left } else { right }
 }
 
 /// The greater of two numbers.
-pub(crate) fn greater(left: i64, right: i64) -> i64
+pub fn greater(left: i64, right: i64) -> i64
     ensures { result ≡ greater left right }
 {
     if left <= right { right } else { left }
 }
 
 /// Whether a number stands for what is true.
-pub(crate) fn is_true(value: i64) -> bool
+pub fn is_true(value: i64) -> bool
     ensures { result ≡ not (is_zero value) }
 {
     value != 0
