@@ -9,7 +9,7 @@ use crate::scratch::Scratch;
 use crate::shown::Shown;
 use pb_numbers::{KindWord, plus};
 use pb_program::Meaning;
-use pb_values::{CellReader};
+use pb_values::CellReader;
 
 impl Shown {
     /// A sum, and a row added to it.

@@ -8,6 +8,4 @@ mod kind_word;
 mod operators;
 
 pub use kind_word::{KindWord, in_words};
-pub use operators::{
-    compare, decided, greater, is_true, lesser, negated, number, operate, plus,
-};
+pub use operators::{compare, decided, greater, is_true, lesser, negated, number, operate, plus};
