@@ -18,7 +18,7 @@ line size = record { dims = 1; w = size; h = 1 }
 abbrev pub matrix_after : ℕ → ℕ → Shape → MatrixValue
 matrix_after seed k shape = record { shape = shape; cells = cells_after seed k (cell_count shape) }
 
--- 0: the two factors of a product. 1: the input of the rolling sum, which stands behind both in the stream
+-- 0: the two factors of a product. 1: the input of the rolling sum, which stands after both in the stream
 abbrev pub example_of : ℕ → ℕ → ℕ → List MatrixValue
 example_of zero seed size = matrix_after seed 0 (square size) ∷ matrix_after seed (size * size) (square size) ∷ []
 example_of (suc _) seed size = matrix_after seed (2 * (size * size)) (line size) ∷ []
