@@ -1,6 +1,9 @@
 -- The words of a table before any step, and what is dealt.
-use Rattle.std.proofs.Common.{◌≡◌, ◌∙◌, refl, sym, ap, subst, ℕ, zero, suc, ◌+◌, ◌<◌, eqb, Bool, true, false, List, [], ◌∷◌, ◌++◌, length, get_or, replicate, set, zero-add, arith}
-use Rattle.std.specs.Prelude.{filter}
+use Rattle.std.proofs.Common.{◌≡◌, ◌∙◌, refl, sym, ap, subst, ℕ, ℤ, zero, suc, ◌+◌, ◌<◌, ◌==◌, eqb, not, Some, Bool, true, false, List, [], ◌∷◌, ◌++◌, length, get_or, replicate, set, zero-add, arith}
+use Rattle.std.specs.Prelude.{filter, IsTrue}
+use Rattle.std.proofs.lemmas.Bool.{eqb-false, eqb-true}
+use Rattle.pb_values.specs.Cells.{is_number}
+use Rattle.pb_values.specs.declared.outcome.Outcome.TheVariants.{Value}
 use Rattle.std.specs.List.{range_with_len}
 use Rattle.std.proofs.Math.Bool.{cond}
 use Rattle.std.proofs.Math.ListN.{length-set}
@@ -12,11 +15,26 @@ use Rattle.pb_taskgraph.proofs.GraphLemmas.{before-at}
 use Rattle.pb_core.specs.States.{with}
 use Rattle.pb_core.proofs.WithLemmas.{with-each}
 use Rattle.pb_cells.specs.Banks.{Bank, bank_of, count_at, filed_at, finish_at, mark_at, width}
+use Rattle.pb_cells.specs.Handles.{ArePlain}
 use Rattle.pb_cells.specs.Openings.{AreCells, AreCounts, AreTold}
 use Rattle.pb_cells.specs.Views.{ready_tasks}
 use Rattle.pb_cells.specs.Words.{mark_of, word_of}
 use Rattle.pb_cells.proofs.BankLemmas.{get-filed, get-finish, get-mark, set-count, set-mark, set-value}
 use Rattle.pb_cells.proofs.SeatLemmas.{with-both}
+
+-- one more cell has a number
+pub plain-more : (p : Plan) (k : ℕ) (n : ℤ) → ArePlain p k → outcome_at p.solution k ≡ Value n → ArePlain p (k + 1)
+plain-more p k n old is c below = at (eqb c k) refl
+  where
+    at : (b : Bool) → eqb c k ≡ b → IsTrue (is_number (Some (outcome_at p.solution c)))
+    at true e = let here : outcome_at p.solution c ≡ Value n = ap (outcome_at p.solution) (eqb-true c k e) ∙ is in ap (λ o. is_number (Some o)) here
+    at false e = let other : c ≡ k → ⊥ = eqb-false c k e in old c (omega arith)
+
+-- a task that doesn't wait has no predecessors
+pub none-before : (b : Bool) (xs : List ℕ) (n : ℕ) → n ≡ length xs → b ≡ (n == 0) → not b ≡ false → xs ≡ []
+none-before b [] n size is h = refl
+none-before true (x ∷ xs) n size is h = let none = eqb-true n 0 (sym is) in absurd (omega (arith, none, size))
+none-before false (x ∷ xs) n size is h = absurd (let wrong : true ≡ false = h in cc)
 
 last-range : (a n j : ℕ) → a + n ≡ j → range_with_len a (suc n) ≡ range_with_len a n ++ j ∷ []
 last-range a zero j e = let same : a ≡ j = omega arith in ap (λ k. k ∷ []) same

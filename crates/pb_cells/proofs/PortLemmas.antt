@@ -1,23 +1,54 @@
 -- The port of a Job.
-use Rattle.std.proofs.Common.{◌≡◌, ◌∙◌, refl, sym, ap, subst, ℕ, ◌≤◌, length, Some, IsSome, slice_get, arith}
+use Rattle.std.proofs.Common.{◌≡◌, ◌∙◌, refl, sym, ap, subst, inl, inr, ℕ, ◌<◌, ◌≤◌, ◌==◌, Bool, true, false, List, [], ◌∷◌, length, Option, Some, None, IsSome, slice_get, arith}
+use Rattle.std.proofs.Math.Bool.{cond}
+use Rattle.std.specs.List.{Contains}
 use Rattle.atomic_table.specs.Seated.{TableId}
-use Rattle.std.specs.Prelude.{IsTrue}
-use Rattle.pb_values.specs.Cells.{Turn, is_number}
+use Rattle.std.specs.Prelude.{IsTrue, is_some}
+use Rattle.pb_values.specs.Cells.{HasNoTrap, Turn, is_number}
 use Rattle.pb_values.specs.declared.outcome.Outcome.{Outcome}
+use Rattle.pb_taskgraph.specs.Graphs.{before_of}
 use Rattle.pb_taskgraph.specs.Known.{known_turn}
 use Rattle.pb_taskgraph.specs.Plans.{Plan, outcome_at}
-use Rattle.pb_taskgraph.specs.Turns.{Begins, after_all, after_write}
+use Rattle.pb_taskgraph.specs.Turns.{Begins, MayRead, after_all, after_write}
 use Rattle.pb_taskgraph.proofs.KnownLemmas.{known-begins, known-ends, known-next, known-write, some-known, told-known}
-use Rattle.pb_cells.specs.Handles.{JobValue, new_job, turn_at}
+use Rattle.pb_cells.specs.Handles.{HasPlainInputs, JobValue, new_job, turn_at}
 use Rattle.pb_cells.specs.Ports.{IsPort, PortValue, first_written, port_of, port_turn, wholly_written}
 use Rattle.pb_cells.specs.Views.{after_mark}
 
--- a port is made
-module _ (p : Plan) (name cells : TableId) (t : ℕ) (job : JobValue) (fresh : job ≡ new_job name t) where
-  pub made-port : cells ≡ name → IsPort p name cells job
-  made-port same = subst (IsPort p name cells) (sym fresh) (record { table = same; job = refl; few = omega arith })
+-- what is told is a number where each cell that may be read has one
+some-told : (o : Option Outcome) → IsTrue (is_some o) → IsSome o
+some-told None h = absurd (let wrong : false ≡ true = h in cc)
+some-told (Some v) h = refl
 
-module _ (p : Plan) (name cells : TableId) (job : JobValue) (is : IsPort p name cells job) where
+none-in : (xs : List ℕ) (u : ℕ) → xs ≡ [] → Contains xs u → ⊥
+none-in [] u e h = let below : h.0 < 0 = h.1 in omega (arith, below)
+none-in (x ∷ xs) u e h = absurd (cc)
+
+module _ (p : Plan) (t : ℕ) (plain : HasPlainInputs p) (alone : before_of p.graph t ≡ []) where
+  may-number : (c : ℕ) → MayRead p t 0 c → IsTrue (is_number (Some (outcome_at p.solution c)))
+  may-number c (inl input) = plain c input
+  may-number c (inr (inl before)) = absurd (none-in (before_of p.graph t) before.0 alone before.1)
+  may-number c (inr (inr written)) = absurd (none-in [] c refl written)
+
+  pub begins-untrapped : HasNoTrap (known_turn p t 0)
+  begins-untrapped c h =
+      let may = some-known p t 0 c (some-told ((known_turn p t 0).outcomes c) h) in
+      subst (λ o. IsTrue (is_number o)) (sym (told-known p t 0 c may)) (may-number c may)
+
+-- and it stays so after a number is written
+number-kept : (b : Bool) (v : Outcome) (o : Option Outcome) → IsTrue (is_number (Some v)) → (IsTrue (is_some o) → IsTrue (is_number o)) → IsTrue (is_some (cond b (Some v) o)) → IsTrue (is_number (cond b (Some v) o))
+number-kept true v o number old h = number
+number-kept false v o number old h = old h
+
+written-untrapped : (turn : Turn) (c : ℕ) (v : Outcome) → HasNoTrap turn → IsTrue (is_number (Some v)) → HasNoTrap (after_write turn c v)
+written-untrapped turn c v old number d h = number-kept (d == c) v (turn.outcomes d) number (old d) h
+
+-- a port is made
+module _ (p : Plan) (name cells : TableId) (t : ℕ) (job : JobValue) (untrapped : Bool) (fresh : job ≡ new_job name t) where
+  pub made-port : cells ≡ name → (IsTrue untrapped → HasPlainInputs p) → (IsTrue untrapped → before_of p.graph t ≡ []) → IsPort p name cells job untrapped
+  made-port same plain alone = subst (λ (j : JobValue). IsPort p name cells j untrapped) (sym fresh) (record { table = same; job = refl; few = omega arith; known = λ h. begins-untrapped p t (plain h) (alone h) })
+
+module _ (p : Plan) (name cells : TableId) (job : JobValue) (untrapped : Bool) (is : IsPort p name cells job untrapped) where
   pub port-table : job.table ≡ cells
   port-table = ap (λ (j : JobValue). j.table) is.job ∙ sym is.table
 
@@ -35,6 +66,10 @@ module _ (p : Plan) (name cells : TableId) (job : JobValue) (is : IsPort p name 
       port-told v right =
           ap (λ (turn : Turn). turn.outcomes c) turn-is ∙ told-known p job.at.task job.at.written c (some-known p job.at.task job.at.written c port-known) ∙ ap (λ o. Some o) (sym right)
 
+    -- nothing that it tells is trapped
+    pub port-untrapped : IsTrue untrapped → HasNoTrap (port_turn p self)
+    port-untrapped h = subst HasNoTrap (sym turn-is) (is.known h)
+
     -- a number is read
     pub port-number : (c : ℕ) → IsTrue (is_number ((port_turn p self).outcomes c)) → IsTrue (is_number ((turn_at p job.at).outcomes c))
     port-number c h = subst (λ (turn : Turn). IsTrue (is_number (turn.outcomes c))) turn-is h
@@ -45,11 +80,12 @@ module _ (p : Plan) (name cells : TableId) (job : JobValue) (is : IsPort p name 
       port-next = subst (λ (turn : Turn). slice_get turn.left 0 ≡ Some (c, v)) turn-is first
 
       module _ (new : JobValue) (written : new ≡ record job { at = after_mark job.at }) where
-        pub port-goes-on : IsPort p name cells new
-        port-goes-on = subst (IsPort p name cells) (sym written) (record {
+        pub port-goes-on : (still : Bool) → (IsTrue still → IsTrue untrapped) → (IsTrue still → IsTrue (is_number (Some v))) → IsPort p name cells new still
+        port-goes-on still before number = subst (λ (j : JobValue). IsPort p name cells j still) (sym written) (record {
           table = is.table;
           job = ap (λ (j : JobValue). record j { at = after_mark j.at }) is.job;
           few = let there = (known-next p job.at.task job.at.written c v port-next).0 in omega (arith, there);
+          known = λ h. subst HasNoTrap (sym (known-write p job.at.task job.at.written c v port-next)) (written-untrapped (turn_at p job.at) c v (is.known (before h)) (number h));
         })
 
         pub port-writes : port_turn p (port_of new.at.task new.at.written) ≡ after_write (port_turn p self) c v

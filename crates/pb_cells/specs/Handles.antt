@@ -1,10 +1,10 @@
 -- What contracts see of Jobs and Hands.
-use Rattle.std.specs.Prelude.{◌≡◌, max, ℕ, ◌<◌, ◌++◌, List, [], ◌∷◌, length, Option, Some, None, is_some}
+use Rattle.std.specs.Prelude.{◌≡◌, Bool, IsTrue, max, ℕ, ◌<◌, ◌++◌, List, [], ◌∷◌, length, Option, Some, None, is_some}
 use Rattle.atomic_table.specs.Seated.{TableId}
-use Rattle.pb_values.specs.Cells.{Turn}
+use Rattle.pb_values.specs.Cells.{Turn, is_number}
 use Rattle.pb_values.specs.declared.outcome.Outcome.{Outcome}
 use Rattle.pb_taskgraph.specs.Known.{known_turn}
-use Rattle.pb_taskgraph.specs.Plans.{IsPlan, Plan}
+use Rattle.pb_taskgraph.specs.Plans.{IsPlan, Plan, outcome_at}
 use Rattle.pb_cells.specs.declared.view.TaskView.{TaskView}
 use Rattle.pb_cells.specs.Banks.{width}
 use Rattle.pb_cells.specs.Steps.{Me}
@@ -78,8 +78,16 @@ pub record IsTable (p : Plan) (table : TableId) (cell_count task_count : ℕ) : 
   pub cells : cell_count ≡ p.graph.cells
   pub tasks : task_count ≡ length p.graph.tasks
 
--- and there is room for what the run will have told, as many outcomes and numbers
-pub record IsCells (p : Plan) (id : TableId) (cell_count task_count : ℕ) (outcomes : List Outcome) (order : List ℕ) : Type 0 where
+-- each of the first cells has a number; and each input cell
+abbrev pub ArePlain : Plan → ℕ → Type 0
+ArePlain p first = (c : ℕ) → c < first → IsTrue (is_number (Some (outcome_at p.solution c)))
+
+abbrev pub HasPlainInputs : Plan → Type 0
+HasPlainInputs p = ArePlain p p.graph.inputs
+
+-- and there is room for what the run will have told, as many outcomes and numbers; inputs that are known to be plain are
+pub record IsCells (p : Plan) (id : TableId) (cell_count task_count : ℕ) (outcomes : List Outcome) (order : List ℕ) (plain : Bool) : Type 0 where
   pub table : IsTable p id cell_count task_count
   pub outcome_room : length outcomes ≡ cell_count
   pub order_room : length order ≡ task_count
+  pub inputs : IsTrue plain → HasPlainInputs p

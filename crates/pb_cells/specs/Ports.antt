@@ -1,10 +1,10 @@
 -- The port of a Job.
-use Rattle.std.specs.Prelude.{◌≡◌, ℕ, ◌≤◌, length}
+use Rattle.std.specs.Prelude.{◌≡◌, ℕ, ◌≤◌, Bool, IsTrue, length}
 use Rattle.atomic_table.specs.Seated.{TableId}
-use Rattle.pb_values.specs.Cells.{Turn}
+use Rattle.pb_values.specs.Cells.{HasNoTrap, Turn}
 use Rattle.pb_taskgraph.specs.Known.{known_turn}
 use Rattle.pb_taskgraph.specs.Plans.{Plan}
-use Rattle.pb_cells.specs.Handles.{JobValue, new_job}
+use Rattle.pb_cells.specs.Handles.{JobValue, new_job, turn_at}
 use Rattle.pb_cells.specs.Views.{untouched}
 
 -- a task, and how many of its cells are written
@@ -26,8 +26,9 @@ first_written table t k = record (new_job table t) { at = record (untouched t) {
 abbrev pub wholly_written : Plan → TableId → ℕ → JobValue
 wholly_written p table t = first_written table t (length (p.order t))
 
--- its Job is of the table that has the name, and is not further than its cells
-pub record IsPort (p : Plan) (name cells : TableId) (v : JobValue) : Type 0 where
+-- its Job is of the table that has the name, and is not further than its cells; if it knows so, no cell of which it tells is trapped
+pub record IsPort (p : Plan) (name cells : TableId) (v : JobValue) (untrapped : Bool) : Type 0 where
   pub table : cells ≡ name
   pub job : v ≡ first_written name v.at.task v.at.written
   pub few : v.at.written ≤ length (p.order v.at.task)
+  pub known : IsTrue untrapped → HasNoTrap (turn_at p v.at)

@@ -4,12 +4,12 @@ ghost use Rattle.pb_values.specs.declared.outcome.Outcome.TheVariants.{Value};
 ghost use Rattle.std.specs.List.{Contains};
 ghost use Rattle.pb_taskgraph.specs.Graphs.{after_of};
 ghost use Rattle.pb_taskgraph.specs.Plans.{outcome_at};
-ghost use Rattle.pb_cells.specs.Handles.{HasReleased, hand_with, new_hand, new_job, turn_at};
+ghost use Rattle.pb_cells.specs.Handles.{HasPlainInputs, HasReleased, hand_with, new_hand, new_job, turn_at};
 ghost use Rattle.pb_cells.specs.Steps.{AreTasks, IsFiledCount, IsPast, WaitsFor};
 ghost use Rattle.pb_cells.specs.Views.{after_finish, after_mark, hand_view, job_view, ready_tasks, released_view};
 
 use crate::deal::{deal_hands, deal_jobs};
-use crate::first::{first_words, ready_list};
+use crate::first::{first_words, has_plain_inputs, ready_list};
 use crate::seats::{Hand, Job};
 use crate::steps::{
     AddFiled, CellsRule, DrawNumber, FirstTurn, LoadCell, LoadFiled, StoreMark, StoreNumber,
@@ -32,6 +32,8 @@ pub struct Cells<N: NamesWork> {
     pub(crate) tasks: usize,
     pub(crate) outcomes: Outcomes,
     pub(crate) order: Vec<u32>,
+    // Whether no input cell is trapped.
+    pub(crate) plain: bool,
 }
 
 impl<N: NamesWork> Model for Cells<N> {
@@ -42,10 +44,17 @@ impl<N: NamesWork> Model for Cells<N> {
 
     ghost view = { λ c. c.table.shared.table_id };
 
-    ghost invariant = { λ c. IsCells N.plan c.table.shared.table_id c.cells c.tasks c.outcomes c.order.items };
+    ghost invariant = { λ c. IsCells N.plan c.table.shared.table_id c.cells c.tasks c.outcomes c.order.items c.plain };
 }
 
 impl<N: NamesWork> Cells<N> {
+    /// Whether each input cell has a number.
+    pub(crate) fn has_plain_inputs(&self) -> bool
+        ensures { IsTrue result → HasPlainInputs N.plan }
+    {
+        self.plain
+    }
+
     /// The cells of a work before any step, so many Hands, and a Job for each task without predecessors, in order. All are of
     /// one table. It takes all memory that later calls need.
     pub fn new<W: Work>(
@@ -68,6 +77,7 @@ impl<N: NamesWork> Cells<N> {
             tasks,
             outcomes: Outcomes::zeros(alloc, graph.cells())?,
             order: vec![in alloc; 0u32; tasks]?,
+            plain: has_plain_inputs(work, graph.inputs()),
         };
         let jobs = deal_jobs(alloc, &cells, &mut first, &ready)?;
         let dealt = deal_hands(alloc, &cells, &mut first, hands)?;

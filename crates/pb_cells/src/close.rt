@@ -102,6 +102,7 @@ impl<N: NamesWork> Cells<N> {
             tasks,
             outcomes,
             order,
+            plain: _,
         } = self;
         let words = table.close_with(hand.into_seat());
         let outcomes = told_outcomes::<N>(&words, cells, outcomes);

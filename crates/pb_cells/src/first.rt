@@ -1,11 +1,13 @@
-ghost use Rattle.std.specs.Prelude.{◌≡◌, IfOk, length};
+ghost use Rattle.std.specs.Prelude.{◌≡◌, IfOk, IsTrue, length};
 ghost use Rattle.pb_taskgraph.specs.Plans.{IsPlan};
 ghost use Rattle.pb_cells.specs.Banks.{bank_of};
+ghost use Rattle.pb_cells.specs.Handles.{HasPlainInputs};
 ghost use Rattle.pb_cells.specs.Openings.{AreTold, IsFirst};
 ghost use Rattle.pb_cells.specs.Views.{ready_tasks};
 
 use crate::words::pack;
 use pb_taskgraph::Work;
+use pb_values::Outcome;
 use std::alloc::{AllocError, Global};
 
 /// The words of a table in which the input cells are written, and nothing else is set.
@@ -44,6 +46,19 @@ pub(crate) fn first_words<W: Work>(alloc: Global, work: &W) -> Result<Vec<u64>, 
         words[cells + cells + task] = links.before.len() as u64;
     }
     Ok(words)
+}
+
+/// Whether each input cell has a number.
+pub(crate) fn has_plain_inputs<W: Work>(work: &W, inputs: u64) -> bool
+    requires { inputs ≡ (W.plan work.now).graph.inputs }
+    ensures { IsTrue result → HasPlainInputs (W.plan work.now) }
+{
+    for cell in 0..inputs {
+        if let Outcome::Trapped(_) = work.input(cell) {
+            return false;
+        }
+    }
+    true
 }
 
 /// The tasks without predecessors, in order.

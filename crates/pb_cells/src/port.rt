@@ -1,5 +1,7 @@
-ghost use Rattle.std.specs.Prelude.{◌≡◌, ◌<◌, ◌≤◌, length};
-ghost use Rattle.pb_cells.specs.Handles.{new_job};
+ghost use Rattle.std.specs.Prelude.{◌≡◌, ◌<◌, ◌≤◌, IsTrue, Some, [], false, length};
+ghost use Rattle.pb_values.specs.Cells.{is_number};
+ghost use Rattle.pb_taskgraph.specs.Graphs.{before_of};
+ghost use Rattle.pb_cells.specs.Handles.{HasPlainInputs, new_job};
 ghost use Rattle.pb_cells.specs.Ports.{first_written, port_of, wholly_written};
 
 use crate::cells::Cells;
@@ -9,11 +11,13 @@ use pb_taskgraph::{CellPort, NamesWork, Work};
 use pb_values::{CellReader, Outcome, Trap};
 use std::marker::{Brand, Model, PhantomData};
 
-/// The port of a Job: its task reads and writes the words of the table that `B` names. It owns the Job until the task has run.
+/// The port of a Job: its task reads and writes the words of the table that `B` names. It owns the Job until the task has run. It
+/// may know that none of the cells that the task may read is trapped.
 #[derive(Drop)]
 pub struct JobPort<'c, N: NamesWork, B: NamesTable> {
     cells: &'c Cells<N>,
     job: Job<N>,
+    untrapped: bool,
     of: PhantomData<B>,
 }
 
@@ -24,19 +28,44 @@ impl<'c, N: NamesWork, B: NamesTable> Model for JobPort<'c, N, B> {
 
     ghost view = { λ p. record { task = p.job.at.task; written = p.job.at.written } };
 
-    ghost invariant = { λ p. IsPort N.plan B.table p.cells.now p.job };
+    ghost invariant = { λ p. IsPort N.plan B.table p.cells.now p.job p.untrapped };
+}
+
+/// Whether it is known that nothing is trapped that a task may read before it has written any cell: a task that waits for none may
+/// read input cells alone.
+fn begins_untrapped<N: NamesWork>(cells: &Cells<N>, waits: bool) -> bool
+    ensures waits { IsTrue result → waits ≡ false }
+    ensures inputs { IsTrue result → HasPlainInputs N.plan }
+{
+    if waits {
+        return false;
+    }
+    cells.has_plain_inputs()
+}
+
+/// Whether nothing is trapped where nothing was before, after an outcome is written.
+fn stays_untrapped(before: bool, v: Outcome) -> bool
+    ensures before { IsTrue result → IsTrue before }
+    ensures written { IsTrue result → IsTrue (is_number (Some v)) }
+{
+    match v {
+        Outcome::Value(_) => before,
+        Outcome::Trapped(_) => false,
+    }
 }
 
 impl<'c, N: NamesWork, B: NamesTable> JobPort<'c, N, B> {
-    /// The port of a Job of a task of which nothing is done.
-    pub fn new(cells: &'c Cells<N>, job: Job<N>) -> JobPort<'c, N, B>
+    /// The port of a Job of a task of which nothing is done, and which may wait for others.
+    pub fn new(cells: &'c Cells<N>, job: Job<N>, waits: bool) -> JobPort<'c, N, B>
         requires table { cells.now ≡ B.table }
         requires job { job ≡ new_job B.table job.at.task }
+        requires waits { waits ≡ false → before_of N.plan.graph job.at.task ≡ [] }
         ensures { result ≡ port_of job.at.task 0 }
     {
         JobPort {
             cells,
             job,
+            untrapped: begins_untrapped(cells, waits),
             of: PhantomData,
         }
     }
@@ -59,6 +88,10 @@ impl<'c, N: NamesWork, B: NamesTable> CellReader for JobPort<'c, N, B> {
         self.cells.read(&mut self.job, cell)
     }
 
+    fn is_untrapped(&self) -> bool {
+        self.untrapped
+    }
+
     fn trap(&mut self, cell: u64) -> Option<Trap> {
         self.cells.trap(&mut self.job, cell)
     }
@@ -71,7 +104,17 @@ impl<'c, N: NamesWork, B: NamesTable> CellReader for JobPort<'c, N, B> {
 impl<'c, N: NamesWork, B: NamesTable> CellPort for JobPort<'c, N, B> {
     fn write(&mut self, cell: u64, v: Outcome) {
         self.cells.write(&mut self.job, cell, v);
+        self.untrapped = stays_untrapped(self.untrapped, v);
     }
+}
+
+/// Whether a task has predecessors.
+fn waits<W: Work>(work: &W, task: u32) -> bool
+    requires { task < length (W.plan work.now).graph.tasks }
+    ensures { result ≡ false → before_of (W.plan work.now).graph task ≡ [] }
+{
+    let links = &work.graph().tasks()[task as usize];
+    !links.before.is_empty()
 }
 
 /// Runs the task of a Job over a table that has a name.
@@ -90,7 +133,7 @@ fn run_named<W: Work, N: NamesWork, B: NamesTable>(
     ensures job { result ≡ wholly_written N.plan B.table task }
     ensures fits { W.fits work.now scratch.new }
 {
-    let mut port = JobPort::<N, B>::new(cells, job);
+    let mut port = JobPort::<N, B>::new(cells, job, waits(work, task));
     work.run(task, &mut port, scratch);
     port.into_job()
 }
