@@ -1,4 +1,4 @@
-use Rattle.std.proofs.Common.{◌≡◌, ◌∙◌, ◌≤◌, ap, sym, subst, length}
+use Rattle.std.proofs.Common.{◌∙◌, ◌≤◌, ap, sym, subst, length}
 use Rattle.pb_linear.specs.Sizes.{sizes_of}
 use Rattle.pb_eval.specs.Outputs.{numbers_in}
 use Rattle.pb_eval.proofs.OutLemmas.{lone_sides}
