@@ -12,7 +12,7 @@ use Rattle.pb_recursion.specs.Depths.{sides_of_matrix}
 use Rattle.pb_counts.specs.Limits.{AreFew, AreMany}
 use Rattle.pb_runs.specs.Steps.{Step, places_of}
 use Rattle.pb_runs.specs.Unrolled.{unrolled_run}
-use Rattle.pb_run_graph.specs.Linking.{IsTooMany}
+pub use Rattle.pb_run_graph.specs.Linking.{IsTooMany}
 
 -- a run of a transform by its number with some matrices
 module _ (p : List ProgTransform) (found : List AnalysisValue) (config : ConfigValue) (grain depth number : ℕ) (ins : List Outcomes) where

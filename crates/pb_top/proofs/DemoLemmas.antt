@@ -4,7 +4,7 @@ use Rattle.std.proofs.lemmas.Bool.{cases_eq}
 use Rattle.pb_matrix.specs.Value.{MatrixValue}
 use Rattle.pb_gen.specs.Examples.{IsInput, example_of}
 use Rattle.pb_gen.specs.Texts.{text_of}
-use Rattle.pb_run_work.specs.Given.{IsWhole}
+use Rattle.pb_unroll.specs.Handed.{IsWhole}
 use Rattle.pb_top.specs.Demos.{DemoAnswers, DemoRun, HasText, Summarizes, demo_config, demo_name, demo_transform}
 use Rattle.pb_top.specs.Reply.{Reply, done_reply}
 use Rattle.pb_top.specs.Steps.{Then}

@@ -17,10 +17,10 @@ use Rattle.pb_taskgraph.specs.Graphs.{GraphValue}
 use Rattle.pb_recursion.specs.Counts.{Counted}
 use Rattle.pb_run_plan.specs.RunTasks.{plan_of_run}
 use Rattle.pb_runs.specs.Steps.{Step}
-use Rattle.pb_run_work.specs.Given.{given_as}
-use Rattle.pb_run_work.specs.Limits.{IsTooLarge, counted, run_steps}
-use Rattle.pb_run_work.specs.Running.{IsRunning, RunValue, of_sizes, of_transform, run_plan}
-use Rattle.pb_run_work.specs.Unrolled.{IsUnrolled}
+use Rattle.pb_unroll.specs.Handed.{given_as}
+use Rattle.pb_unroll.specs.Handed.{IsTooLarge, counted, run_steps}
+use Rattle.pb_unroll.specs.Handed.{IsRunning, RunValue, of_sizes, of_transform, run_plan}
+use Rattle.pb_unroll.specs.Handed.{IsUnrolled}
 use Rattle.pb_unroll.specs.Answers.{matrices_text, results_in, trapped_in, unless_trapped}
 use Rattle.pb_taskgraph.specs.Trace.{trace_text}
 use Rattle.pb_run_lines.specs.RunLines.{run_line}

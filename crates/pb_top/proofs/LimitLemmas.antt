@@ -12,7 +12,7 @@ use Rattle.pb_recursion.specs.Counts.{Counted}
 use Rattle.pb_counts.specs.Limits.{AreFew, AreMany}
 use Rattle.pb_counts.specs.declared.count.TheConstants.{MOST_CALLS}
 use Rattle.pb_runs.specs.Steps.{Step, places_of}
-use Rattle.pb_run_graph.specs.Linking.{IsTooMany}
+use Rattle.pb_unroll.specs.Handed.{IsTooMany}
 
 -- the counts of a run, and its steps
 module _ (c : Counted) (steps : List Step) where

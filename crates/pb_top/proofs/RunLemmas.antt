@@ -29,8 +29,8 @@ use Rattle.pb_entry.proofs.LawLemmas.{not_both, one_list, one_refusal}
 use Rattle.pb_entry.proofs.NamedLemmas.{enters_or_not, one_number, one_reason}
 use Rattle.pb_entry.proofs.SomeLemmas.{some_answer}
 use Rattle.pb_recursion.specs.Counts.{Counted}
-use Rattle.pb_run_work.specs.Given.{given_as}
-use Rattle.pb_run_work.specs.Limits.{counted}
+use Rattle.pb_unroll.specs.Handed.{given_as}
+use Rattle.pb_unroll.specs.Handed.{counted}
 use Rattle.pb_run_lines.specs.RunLines.{config_line, run_line}
 use Rattle.pb_top.specs.Reply.{Reply, IsFaultyInput, refusal_reply}
 use Rattle.pb_top.specs.Steps.{Each}

@@ -23,8 +23,8 @@ use Rattle.pb_recursion.specs.Depths.{call_at}
 use Rattle.pb_runs.specs.Matrices.{run_matrices}
 use Rattle.pb_runs.specs.Steps.{Step}
 use Rattle.pb_run_plan.specs.RunTasks.{AreTasksOf, run_graph}
-use Rattle.pb_run_work.specs.Given.{given_as}
-use Rattle.pb_run_work.specs.Limits.{IsTooLarge, IsWithin as HasFewCounts, run_steps}
+use Rattle.pb_unroll.specs.Handed.{given_as}
+use Rattle.pb_unroll.specs.Handed.{IsTooLarge, IsWithin as HasFewCounts, run_steps}
 use Rattle.pb_unroll.specs.Answers.{answer_of, matrices_text}
 use Rattle.pb_taskgraph.specs.Trace.{trace_text}
 use Rattle.pb_run_lines.specs.RunLines.{config_line, run_line, trap_line}

@@ -18,8 +18,8 @@ use Rattle.pb_check.specs.Accepting.{AcceptedValue}
 use Rattle.pb_entry.specs.declared.refusal.RunRefusal.{RunRefusal}
 use Rattle.pb_entry.specs.declared.refusal.RunRefusal.TheVariants.{TooLarge}
 use Rattle.pb_run_lines.specs.RunLines.{config_line, run_line, trap_line}
-use Rattle.pb_run_work.specs.Running.{RunValue, of_sizes, of_transform, prog_of}
-use Rattle.pb_run_work.specs.Unrolled.{IsRefused}
+use Rattle.pb_unroll.specs.Handed.{RunValue, of_sizes, of_transform, prog_of}
+use Rattle.pb_unroll.specs.Handed.{IsRefused}
 use Rattle.pb_top.specs.Sinks.{ShelfChange, SinkChange, IsSound, Gains, IsSteady, IsIdle, Breaks}
 use Rattle.pb_top.specs.Texts.{read_fault_line}
 use Rattle.pb_top.specs.Reply.{Reply, status_code, done_reply, refusal_reply}
@@ -30,7 +30,7 @@ use Rattle.pb_top.specs.Runs.{AfterInputs, Fitting, IsTraceOf, RunWrites, trap_s
 use Rattle.pb_top.specs.declared.prepare.Prepared.{Prepared}
 use Rattle.pb_program.specs.Configs.{IsValid}
 use Rattle.pb_region.specs.Dims.{HasTransform}
-use Rattle.pb_run_work.specs.Given.{IsWhole}
+use Rattle.pb_unroll.specs.Handed.{IsWhole}
 use Rattle.std.specs.List.{All}
 use Rattle.pb_top.specs.declared.reply.Status.{Status}
 use Rattle.pb_top.specs.declared.reply.Status.TheVariants.{Config, Input, TooLarge as TooMuch}

@@ -4,7 +4,7 @@ ghost use Rattle.std.specs.List.{All};
 ghost use Rattle.pb_program.specs.Configs.{IsValid};
 ghost use Rattle.pb_program.specs.Trees.{bare_prog};
 ghost use Rattle.pb_region.specs.Dims.{HasTransform};
-ghost use Rattle.pb_run_work.specs.Given.{IsWhole};
+ghost use Rattle.pb_unroll.specs.Handed.{IsWhole};
 ghost use Rattle.pb_syntax.specs.Trees.{bare_text};
 ghost use Rattle.pb_syntax.specs.WithinLimits.{IsWithinLimits};
 ghost use Rattle.pb_top.specs.Demos.{DemoAnswers, DemoRun, Summarizes, demo_config, demo_name, demo_transform};

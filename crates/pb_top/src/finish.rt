@@ -1,7 +1,7 @@
 ghost use Rattle.std.specs.Prelude.{◌≡◌, ◌<◌, IfOk, flat_map, length};
 ghost use Rattle.std.specs.List.{All};
 ghost use Rattle.pb_words.specs.declared.ask.Pool.{Pool};
-ghost use Rattle.pb_run_work.specs.Running.{run_plan};
+ghost use Rattle.pb_unroll.specs.Handed.{run_plan};
 ghost use Rattle.pb_summary.specs.Summary.{summary_text};
 ghost use Rattle.pb_top.specs.Demos.{Summarizes};
 ghost use Rattle.pb_top.specs.Runs.{RunWrites, orders_of, trap_status};

@@ -1,7 +1,7 @@
 //! Who runs the tasks of a run.
 ghost use Rattle.std.specs.Prelude.{◌≡◌, ◌≤◌, IfOk};
 ghost use Rattle.pb_words.specs.declared.ask.Pool.TheVariants.{Serial};
-ghost use Rattle.pb_run_work.specs.Running.{run_plan};
+ghost use Rattle.pb_unroll.specs.Handed.{run_plan};
 ghost use Rattle.pb_top.specs.Runs.{orders_of};
 ghost use Rattle.pb_top.specs.Working.{Continues, IsReady, Writes};
 

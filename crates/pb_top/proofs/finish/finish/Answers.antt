@@ -1,6 +1,6 @@
 use Rattle.std.proofs.Common.{◌∙◌, ◌++◌, ap, subst, sym}
 use Rattle.pb_taskgraph.specs.Runs.{FinishedValue}
-use Rattle.pb_run_work.specs.Running.{run_plan}
+use Rattle.pb_unroll.specs.Handed.{run_plan}
 use Rattle.pb_top.specs.Runs.{orders_of}
 use Rattle.pb_top.proofs.FinishLemmas.{is_done}
 use Rattle.pb_top.proofs.finish.finish.Goals as goal

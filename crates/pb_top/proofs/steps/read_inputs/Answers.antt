@@ -1,6 +1,6 @@
 use Rattle.std.proofs.lemmas.List.Elements.{All-push, All-same}
 use Rattle.std.proofs.lemmas.Result.{err_from_is_err_and}
-use Rattle.pb_run_work.specs.Given.{IsWhole}
+use Rattle.pb_unroll.specs.Handed.{IsWhole}
 use Rattle.pb_top.proofs.InputLemmas.{inputs_done, inputs_next, inputs_stop}
 use Rattle.pb_top.proofs.steps.read_inputs.Goals as goal
 

@@ -1,5 +1,5 @@
 use Rattle.std.specs.List.{All}
-use Rattle.pb_run_work.specs.Given.{IsWhole}
+use Rattle.pb_unroll.specs.Handed.{IsWhole}
 use Rattle.pb_top.specs.Runs.{ReadsInput}
 use Rattle.pb_top.specs.Working.{files_of}
 use Rattle.pb_top.proofs.StepLemmas.{EachAfter}
