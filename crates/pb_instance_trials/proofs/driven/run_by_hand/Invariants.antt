@@ -1,4 +1,4 @@
-use Rattle.pb_run_work.specs.Running.{run_plan}
+use Rattle.pb_unroll.specs.Handed.{run_plan}
 use Rattle.pb_instance_trials.proofs.driven.run_by_hand.Given as goal
 
 abbrev pub ghosts-by_one_hand : goal.ghosts-by_one_hand
