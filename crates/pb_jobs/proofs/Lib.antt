@@ -4,12 +4,14 @@ pub mod ShownLemmas
 pub mod RoomLemmas
 pub mod PlaceLemmas
 pub mod SpanLemmas
+pub mod AdvanceLemmas
 pub mod InstanceLemmas
 pub mod GiveLemmas
 pub mod OutLemmas
 pub mod CellLemmas
 pub mod StepLemmas
 pub mod BlockLemmas
+pub mod LineLemmas
 pub mod OutputLemmas
 pub mod PickLemmas
 pub mod WholeLemmas

@@ -28,12 +28,12 @@ use Rattle.pb_jobs.proofs.ListLemmas.{at_zip, same_flats, same_maps, zip_both}
 below_or_same : (j k : ℕ) → j < k + 1 → (j < k → ⊥) → j ≡ k
 below_or_same j k h n = ⊎_elim (λ (less : j < k). absurd (n less)) (λ (more : k ≤ j). omega (arith, h, more)) (cases_lt j k)
 
-left_of : {A : Type 0} (xs ys : List A) (k : ℕ) → k < length xs → slice_get (xs ++ ys) k ≡ slice_get xs k
+pub left_of : {A : Type 0} (xs ys : List A) (k : ℕ) → k < length xs → slice_get (xs ++ ys) k ≡ slice_get xs k
 left_of [] ys k h = absurd (omega (arith, h))
 left_of (x ∷ xs) ys zero h = refl
 left_of (x ∷ xs) ys (suc k) h = left_of xs ys k (omega (arith, h))
 
-last_of : {A : Type 0} (xs : List A) (x : A) (k : ℕ) (y : A) → length xs ≤ k → slice_get (xs ++ x ∷ []) k ≡ Some y → (k ≡ length xs) × (x ≡ y)
+pub last_of : {A : Type 0} (xs : List A) (x : A) (k : ℕ) (y : A) → length xs ≤ k → slice_get (xs ++ x ∷ []) k ≡ Some y → (k ≡ length xs) × (x ≡ y)
 last_of [] x zero y h e = (refl, some_same x y e)
 last_of [] x (suc k) y h e = absurd (cc)
 last_of (z ∷ xs) x zero y h e = absurd (omega (arith, h))

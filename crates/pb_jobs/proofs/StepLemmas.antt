@@ -25,7 +25,7 @@ pub record IsAmong (stops : List Stop) (start turn : Turn) (ahead : List Stop) :
 pub begun : (stops : List Stop) (start turn : Turn) (ahead : List Stop) → turn ≡ start → ahead ≡ stops → IsAmong stops start turn ahead
 begun stops start turn ahead same e = record { n = 0; left = e; now = same ∙ sym (some-none start) }
 
-next_left : (n : ℕ) (start : Turn) → slice_get (after_some n start).left 0 ≡ slice_get start.left n
+pub next_left : (n : ℕ) (start : Turn) → slice_get (after_some n start).left 0 ≡ slice_get start.left n
 unfolding after_some
 next_left n start = slice_get-drop n 0 start.left ∙ ap (slice_get start.left) (add-zero n)
 

@@ -18,7 +18,8 @@ use Rattle.pb_eval.specs.CanRun.{at_variables}
 use Rattle.pb_eval.specs.Shown.{outcome_of}
 use Rattle.pb_views.specs.Layouts.{HasShortSides}
 use Rattle.pb_views.specs.Windows.{AreLaid, number_in}
-use Rattle.pb_jobs.specs.Shown.{AreRuleWindows, CanRun, WindowsValue}
+use Rattle.pb_views.specs.declared.window.Window.{Window}
+use Rattle.pb_jobs.specs.Shown.{AreRuleWindows, AreShown, AreWindows, CanRun, WindowsValue}
 
 pub record InstanceValue : Type 0 where
   pub program : ProgValue
@@ -60,3 +61,13 @@ told_of v turn cells = map (λ d. outcome_of turn (number_in v.views d)) cells
 abbrev pub given_by : InstanceValue → ℕ → ProgRule → ℕ → ℕ → Turn → Result (List ℤ) Trap
 given_by v k rule x y turn =
     rule_gives (of_transform v).matrices (of_sizes v) (at_variables x y) v.number k rule (told_of v turn (reads (of_transform v).matrices (of_sizes v) (at_variables x y) rule))
+
+-- these views show what a rule reads for these rule variables
+pub record AreShownFor (v : InstanceValue) (rule : ProgRule) (x y : ℕ) (views : List View) : Type 0 where
+  pub windows : List Window
+  pub are : AreWindows (of_sizes v) rule.reads windows
+  pub shown : AreShown v.views x y rule.reads windows (length rule.reads) views
+
+-- and the rule with this number
+abbrev pub AreReadsOf : InstanceValue → ℕ → ℕ → ℕ → List View → Type 0
+AreReadsOf v k x y views = (rule : ProgRule) → slice_get (of_transform v).rules k ≡ Some rule → AreShownFor v rule x y views

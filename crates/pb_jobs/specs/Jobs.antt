@@ -1,5 +1,5 @@
 -- Jobs, and when the cells of one can be made.
-use Rattle.std.specs.Prelude.{◌≡◌, ℕ, List, [], length, Option, Some, None, slice_get}
+use Rattle.std.specs.Prelude.{◌≡◌, ℕ, ◌<◌, List, [], length, Option, Some, None, slice_get}
 use Rattle.pb_linear.specs.declared.boxes.Step.{Step}
 use Rattle.pb_links.specs.declared.places.Spot.{Spot}
 use Rattle.pb_values.specs.Cells.{Turn}
@@ -13,7 +13,9 @@ use Rattle.pb_model.specs.Equations.{own_outcome}
 use Rattle.pb_eval.specs.CanRun.{at_variables}
 use Rattle.pb_taskgraph.specs.Turns.{after_some}
 use Rattle.pb_walk.specs.Walks.{walk_of}
+use Rattle.pb_walk.specs.Stretches.{place_on}
 use Rattle.pb_walk.specs.declared.stop.Stop.{Stop}
+use Rattle.pb_walk.specs.declared.stretch.Stretch.{Stretch}
 use Rattle.pb_jobs.specs.Instances.{InstanceValue, given_by, of_sizes, of_transform}
 use Rattle.pb_jobs.specs.Outputs.{AreOutsWithin}
 use Rattle.pb_jobs.specs.Shown.{CanRun}
@@ -46,6 +48,18 @@ pub record IsMadeAlone (v : InstanceValue) (rules : List ℕ) (start : Turn) (n 
   pub cell : rule.kind ≡ kind.Cell
   pub can : CanRun (of_transform v).matrices (of_sizes v) v.views rule s.x s.y (after_some n start)
   pub next : IsNext v.views start n s (own_outcome (of_transform v).matrices (of_sizes v) (at_variables s.x s.y) rule (given_by v k rule s.x s.y (after_some n start)))
+
+-- the same of the rule with this number
+pub record IsMadeHere (v : InstanceValue) (k : ℕ) (start : Turn) (n : ℕ) (s : Stop) : Type 0 where
+  pub rule : ProgRule
+  pub there : slice_get (of_transform v).rules k ≡ Some rule
+  pub cell : rule.kind ≡ kind.Cell
+  pub can : CanRun (of_transform v).matrices (of_sizes v) v.views rule s.x s.y (after_some n start)
+  pub next : IsNext v.views start n s (own_outcome (of_transform v).matrices (of_sizes v) (at_variables s.x s.y) rule (given_by v k rule s.x s.y (after_some n start)))
+
+-- and of the cells of a stretch, from this turn on
+abbrev pub AreMadeHere : InstanceValue → ℕ → Turn → Stretch → Type 0
+AreMadeHere v k start s = (i : ℕ) → i < s.count → IsMadeHere v k start i (place_on s i)
 
 -- the cells at these stops can be made one by one, by the rules of their rectangles, and are all that is left to be written
 pub record IsBlock (v : InstanceValue) (rules : List ℕ) (stops : List Stop) (start : Turn) : Type 0 where

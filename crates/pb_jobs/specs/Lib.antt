@@ -1,4 +1,6 @@
+pub mod Distances
 pub mod Shown
+pub mod Advances
 pub mod Instances
 pub mod Rooms
 pub mod Outputs

@@ -38,13 +38,10 @@ impl<'a> Instance<'a> {
         ensures written { C.turn port.new ≡ after_all (C.turn port.old) }
         ensures room { rooms_of scratch.new ≡ rooms_of scratch.old }
     {
-        let views = self.views();
         scratch.walk.begin(steps, parts);
-        while let Some(stop) = scratch.walk.next() {
-            let rule = rule_of(rules, stop.piece);
-            let outcome = self.cell(rule, stop.x, stop.y, port, &mut scratch.rule);
-            let cell = views[stop.base as usize].place(stop.x, stop.y);
-            port.write(cell, outcome);
+        while let Some(stretch) = scratch.walk.stretch() {
+            let rule = rule_of(rules, stretch.piece);
+            self.run_stretch(rule, &stretch, port, &mut scratch.rule);
         }
     }
 }

@@ -8,6 +8,7 @@
 //! Only `rule_windows` and `RunScratch::new` take memory.
 #![tactic(auto)]
 
+mod advance;
 mod block;
 mod instance;
 mod job;
@@ -17,6 +18,7 @@ mod outputs;
 mod room;
 mod scratch;
 mod shown;
+mod stretches;
 mod wholes;
 mod windows;
 

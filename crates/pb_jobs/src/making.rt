@@ -5,7 +5,7 @@ ghost use Rattle.pb_model.specs.Equations.{own_outcome, rule_gives};
 ghost use Rattle.pb_eval.specs.CanRun.{AreReads, at_variables};
 ghost use Rattle.pb_eval.specs.Running.{Gives};
 ghost use Rattle.pb_eval.specs.Shown.{seen_by};
-ghost use Rattle.pb_jobs.specs.Instances.{CanRunRule, IsReady, given_by, of_sizes, of_transform};
+ghost use Rattle.pb_jobs.specs.Instances.{AreReadsOf, CanRunRule, IsReady, given_by, of_sizes, of_transform};
 ghost use Rattle.pb_jobs.specs.Rooms.{HasRoomIn, SameRoom};
 
 use crate::instance::Instance;
@@ -73,26 +73,28 @@ impl<'a> Instance<'a> {
         self.run_over(rule, x, y, &shown.views, port, &mut scratch.body)
     }
 
-    /// The outcome of a cell by a rule for single cells.
+    /// The outcome of a cell by a rule for single cells, over views of what it reads.
     pub(crate) fn cell<C: CellReader>(
         &self,
         rule: u32,
         x: u64,
         y: u64,
+        views: &[View],
         port: &mut C,
-        scratch: &mut RuleScratch,
+        scratch: &mut Scratch,
     ) -> Outcome
         requires ready { IsReady self.now }
         requires can { CanRunRule self.now rule x y (C.turn port.old) }
         requires one { (r : ProgRule) → slice_get (of_transform self.now).rules rule ≡ Some r → r.kind ≡ kind.Cell }
-        requires room { HasRoomIn self.now rule scratch.old.body }
+        requires shown { AreReadsOf self.now rule x y views.now }
+        requires room { HasRoomIn self.now rule scratch.old }
         ensures outcome { (r : ProgRule) → slice_get (of_transform self.now).rules rule ≡ Some r
             → result ≡ own_outcome (of_transform self.now).matrices (of_sizes self.now) (at_variables x y) r (given_by self.now rule r x y (C.turn port.old)) }
-        ensures room { SameRoom scratch.old.body scratch.new.body }
+        ensures room { SameRoom scratch.old scratch.new }
         ensures stays { C.turn port.new ≡ C.turn port.old }
     {
-        match self.gives(rule, x, y, port, scratch) {
-            Ok(_) => Outcome::Value(scratch.body.out(0)),
+        match self.run_over(rule, x, y, views, port, scratch) {
+            Ok(_) => Outcome::Value(scratch.out(0)),
             Err(trap) => Outcome::Trapped(trap),
         }
     }

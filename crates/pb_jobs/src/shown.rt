@@ -1,19 +1,28 @@
-ghost use Rattle.std.specs.Prelude.{◌≡◌, ◌≤◌, ◌<◌, ◌^◌, ◌++◌, ◌∷◌, IfOk, [], length};
+ghost use Rattle.std.specs.Prelude.{◌≡◌, ◌+◌, ◌≤◌, ◌<◌, ◌^◌, ◌++◌, ◌∷◌, IfOk, Some, [], length, slice_get};
 ghost use Rattle.std.specs.Vec.{vec_capacity};
 ghost use Rattle.pb_syntax.specs.declared.limits.TheConstants.{MOST_VIEWS};
-ghost use Rattle.pb_jobs.specs.Shown.{AreShown, AreWithin};
+ghost use Rattle.pb_walk.specs.Stretches.{place_on};
+ghost use Rattle.pb_program.specs.declared.view.Read.{Read};
+ghost use Rattle.pb_views.specs.declared.window.Window.{Window};
+ghost use Rattle.pb_jobs.specs.Advances.{AreAdvances, AreWithinAlong, IsShownAt};
+ghost use Rattle.pb_jobs.specs.Distances.{IsOneCell};
+ghost use Rattle.pb_jobs.specs.Shown.{AreShown, AreWithin, IsShownFor};
 
+use crate::advance::{Advance, advance_along};
 use pb_program::Read;
 use pb_syntax::MOST_VIEWS;
 use pb_values::{Shape, View};
 use pb_views::Window;
+use pb_walk::Stretch;
 use std::alloc::{AllocError, Global};
 
-/// Room for the views of a rule's reads.
+/// Room for the views of a rule's reads, and for how they move along a line.
 #[derive(Drop)]
 pub struct Shown {
     pub(crate) views: Vec<View>,
+    pub(crate) advances: Vec<Advance>,
     pub(crate) ghost room: { MOST_VIEWS ≤ vec_capacity views },
+    pub(crate) ghost more_room: { MOST_VIEWS ≤ vec_capacity advances },
 }
 
 /// The same view, copied field by field: a copy as a whole takes the bytes between the fields along, which is slow.
@@ -33,10 +42,28 @@ fn by_fields(view: View) -> View
     }
 }
 
+/// A view of one cell.
+fn one_cell(cell: u64) -> View
+    requires { cell ≤ 2 ^ 63 }
+    ensures { IsOneCell cell result }
+{
+    View {
+        first: cell,
+        step_x: 0,
+        step_y: 0,
+        shape: Shape {
+            dims: 1,
+            w: 1,
+            h: 1,
+        },
+    }
+}
+
 impl Shown {
     pub(crate) fn new(alloc: Global) -> Result<Shown, AllocError> {
         Ok(Shown {
             views: Vec::with_capacity(alloc, MOST_VIEWS)?,
+            advances: Vec::with_capacity(alloc, MOST_VIEWS)?,
         })
     }
 
@@ -45,6 +72,14 @@ impl Shown {
         ensures { self.new.views.items ≡ self.old.views.items ++ view ∷ [] }
     {
         let _ = self.views.push(view);
+    }
+
+    fn put_advance(&mut self, advance: Advance)
+        requires { length self.old.advances.items < MOST_VIEWS }
+        ensures advances { self.new.advances.items ≡ self.old.advances.items ++ advance ∷ [] }
+        ensures views { self.new.views ≡ self.old.views }
+    {
+        let _ = self.advances.push(advance);
     }
 
     /// Shows the views of reads for rule variables at which they lie within their matrices.
@@ -69,4 +104,100 @@ impl Shown {
             self.put(by_fields(windows[k].show(matrix, x, y)));
         }
     }
+
+    /// Shows the views of reads at the first place of a line, and sees how they move from there.
+    pub(crate) fn begin(
+        &mut self,
+        reads: &[Read],
+        windows: &[Window],
+        matrices: &[View],
+        stretch: &Stretch,
+    )
+        requires few { length reads.now ≤ MOST_VIEWS }
+        requires windows { length windows.now ≡ length reads.now }
+        requires some { 0 < stretch.now.count }
+        requires within { AreWithinAlong matrices.now reads.now windows.now stretch.now }
+        ensures shown { AreShown matrices.now (place_on stretch.now 0).x (place_on stretch.now 0).y reads.now windows.now (length reads.now) self.new.views.items }
+        ensures advances { AreAdvances matrices.now stretch.now reads.now windows.now (length reads.now) self.new.advances.items }
+    {
+        let (x, y) = stretch.place(0);
+        self.show(reads, windows, matrices, x, y);
+        self.advances.clear();
+        for k in 0..reads.len() {
+            let matrix = &matrices[reads[k].matrix as usize];
+            self.put_advance(advance_along(&windows[k], matrix, stretch));
+        }
+    }
+
+    /// The view of a read at the place after this one.
+    fn next_view(
+        &self,
+        k: usize,
+        reads: &[Read],
+        windows: &[Window],
+        matrices: &[View],
+        stretch: &Stretch,
+        i: u64,
+    ) -> View
+        requires read { k < length reads.now }
+        requires windows { length windows.now ≡ length reads.now }
+        requires next { i + 1 < stretch.now.count }
+        requires within { AreWithinAlong matrices.now reads.now windows.now stretch.now }
+        requires count { length self.now.views.items ≡ length reads.now }
+        requires shown { IsShownAt matrices.now reads.now windows.now stretch.now i k self.now.views.items }
+        requires advances { AreAdvances matrices.now stretch.now reads.now windows.now (length reads.now) self.now.advances.items }
+        ensures { (r : Read) (w : Window) → slice_get reads.now k ≡ Some r → slice_get windows.now k ≡ Some w → IsShownFor matrices.now (place_on stretch.now (i + 1)).x (place_on stretch.now (i + 1)).y r w result }
+    {
+        match self.advances[k] {
+            Advance::Up(by) => one_cell(self.views[k].first + by),
+            Advance::Down(by) => one_cell(self.views[k].first - by),
+            Advance::Anew => show_next(k, reads, windows, matrices, stretch, i),
+        }
+    }
+
+    /// Shows them at the place after this one, unless it is the last.
+    pub(crate) fn go_on(
+        &mut self,
+        reads: &[Read],
+        windows: &[Window],
+        matrices: &[View],
+        stretch: &Stretch,
+        i: u64,
+    )
+        requires windows { length windows.now ≡ length reads.now }
+        requires here { i < stretch.now.count }
+        requires within { AreWithinAlong matrices.now reads.now windows.now stretch.now }
+        requires shown { AreShown matrices.now (place_on stretch.now i).x (place_on stretch.now i).y reads.now windows.now (length reads.now) self.old.views.items }
+        requires advances { AreAdvances matrices.now stretch.now reads.now windows.now (length reads.now) self.old.advances.items }
+        ensures shown { i + 1 < stretch.now.count → AreShown matrices.now (place_on stretch.now (i + 1)).x (place_on stretch.now (i + 1)).y reads.now windows.now (length reads.now) self.new.views.items }
+        ensures advances { self.new.advances ≡ self.old.advances }
+    {
+        if i + 1 >= stretch.count {
+            return;
+        }
+        for k in 0..reads.len() {
+            let view = self.next_view(k, reads, windows, matrices, stretch, i);
+            self.views[k] = view;
+        }
+    }
+}
+
+/// What the window of a read shows at the place after this one.
+fn show_next(
+    k: usize,
+    reads: &[Read],
+    windows: &[Window],
+    matrices: &[View],
+    stretch: &Stretch,
+    i: u64,
+) -> View
+    requires read { k < length reads.now }
+    requires windows { length windows.now ≡ length reads.now }
+    requires next { i + 1 < stretch.now.count }
+    requires within { AreWithinAlong matrices.now reads.now windows.now stretch.now }
+    ensures { (r : Read) (w : Window) → slice_get reads.now k ≡ Some r → slice_get windows.now k ≡ Some w → IsShownFor matrices.now (place_on stretch.now (i + 1)).x (place_on stretch.now (i + 1)).y r w result }
+{
+    let matrix = &matrices[reads[k].matrix as usize];
+    let (x, y) = stretch.place(i + 1);
+    by_fields(windows[k].show(matrix, x, y))
 }

@@ -49,7 +49,7 @@ below_or_same j k h = by (j == k) refl
     by true e = inl (eqb-true j k e)
     by false e = let differ = eqb-false j k e in inr (omega arith)
 
-same_item : (cs : List Cursor) (j k : ℕ) (c x : Cursor) → j ≡ k → slice_get cs j ≡ Some c → slice_get cs k ≡ Some x → c ≡ x
+pub same_item : (cs : List Cursor) (j k : ℕ) (c x : Cursor) → j ≡ k → slice_get cs j ≡ Some c → slice_get cs k ≡ Some x → c ≡ x
 same_item cs j k c x e f g = let both : Some c ≡ Some x = sym f ∙ ap (slice_get cs) e ∙ g in cc
 
 place_anywhere : (steps : List Step) (j k : ℕ) (x y : Cursor) → by_place steps (head 0 x) (head 0 y) ≡ by_place steps (head j x) (head k y)

@@ -59,12 +59,12 @@ none_left course cs none = filter_none (is_ahead (steps_of course) cs) (whole co
     rw (f.there, none s.piece f.cursor (slice_get_within cs s.piece f.cursor f.there) f.there) refl)
 
 -- ---- and between
-get_set_same : (cs : List Cursor) (k : ℕ) (c x : Cursor) → slice_get cs k ≡ Some c → slice_get (set cs k x) k ≡ Some x
+pub get_set_same : (cs : List Cursor) (k : ℕ) (c x : Cursor) → slice_get cs k ≡ Some c → slice_get (set cs k x) k ≡ Some x
 get_set_same [] k c x e = let wrong : None ≡ Some c = e in absurd (cc)
 get_set_same (y ∷ cs) zero c x e = refl
 get_set_same (y ∷ cs) (suc k) c x e = get_set_same cs k c x e
 
-get_set_other : (cs : List Cursor) (k j : ℕ) (x : Cursor) → (j ≡ k → ⊥) → slice_get (set cs k x) j ≡ slice_get cs j
+pub get_set_other : (cs : List Cursor) (k j : ℕ) (x : Cursor) → (j ≡ k → ⊥) → slice_get (set cs k x) j ≡ slice_get cs j
 get_set_other [] k j x n = refl
 get_set_other (y ∷ cs) zero zero x n = absurd (n refl)
 get_set_other (y ∷ cs) zero (suc j) x n = refl
@@ -156,7 +156,7 @@ module _ (course : Course) (cs : List Cursor) (k : ℕ) (f : IsFirstOf course cs
       ∙ ap (λ all. next ∷ filter (is_ahead steps later) all) (sym same_whole)
 
 -- ---- the same of walks
-abbrev value_of : Course → List Cursor → ℕ → WalkValue
+abbrev pub value_of : Course → List Cursor → ℕ → WalkValue
 value_of course cs room = record { all = whole course cs; left = left_of course cs; room = room }
 
 pub nothing_begun : (cs : List Cursor) (room : ℕ) → cs ≡ [] → value_of Any cs room ≡ record { all = []; left = []; room = room }

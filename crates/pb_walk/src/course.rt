@@ -1,5 +1,6 @@
 ghost use Rattle.std.specs.Prelude.{◌≡◌, ℕ, List};
 ghost use Rattle.pb_links.specs.declared.places.Spot.{Spot};
+ghost use Rattle.pb_values.specs.Views.{HasPlace};
 ghost use Rattle.pb_walk.specs.Cursors.{head, steps_of};
 ghost use Rattle.pb_walk.specs.Orders.{by_cell, by_place, by_step, compare, number_on};
 ghost use Rattle.pb_walk.specs.Sweeps.{by_sweep, sign_across};
@@ -7,6 +8,7 @@ ghost use Rattle.pb_walk.specs.Walks.{stop, walk_of};
 
 use crate::cursor::Cursor;
 use pb_linear::{Sign, Step};
+use pb_values::Rect;
 use std::cmp::Ordering;
 
 /// The first two steps of a list, as far as they are there.
@@ -103,5 +105,30 @@ impl Course {
                 inner: sign_across(first, second),
             },
         }
+    }
+
+    /// The same for one rectangle: a rectangle of one row is gone through along the row, and one of one column down the column.
+    pub(crate) fn sweep_of(self, rect: Rect) -> Sweep
+        ensures { (piece base x y a b : ℕ) → HasPlace rect x y → HasPlace rect a b → compare (steps_of self) (stop piece base x y) (stop piece base a b) ≡ by_sweep result x y a b }
+    {
+        let sweep = self.sweep();
+        if sweep.columns {
+            if rect.y1.saturating_sub(rect.y0) == 1 {
+                return Sweep {
+                    columns: false,
+                    outer: Sign::Plus,
+                    inner: sweep.outer,
+                };
+            }
+        } else {
+            if rect.x1.saturating_sub(rect.x0) == 1 {
+                return Sweep {
+                    columns: true,
+                    outer: Sign::Plus,
+                    inner: sweep.outer,
+                };
+            }
+        }
+        sweep
     }
 }

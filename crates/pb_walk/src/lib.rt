@@ -11,8 +11,10 @@ mod laws;
 mod numbers;
 mod places;
 mod stop;
+mod stretch;
 mod walk;
 
 pub use laws::{a_walk_rises, each_place_is_walked_once, there_is_one_walk};
 pub use stop::Stop;
+pub use stretch::Stretch;
 pub use walk::Walk;

@@ -1,4 +1,5 @@
-ghost use Rattle.std.specs.Prelude.{◌<◌, IfNone, IfSome};
+ghost use Rattle.std.specs.Prelude.{◌<◌, ◌-◌, IfNone, IfSome};
+ghost use Rattle.pb_walk.specs.Axes.{AreThere, moved};
 ghost use Rattle.pb_walk.specs.Sweeps.{IsFirst, IsLast, IsLastPair, IsNext, IsNextPair, IsOf};
 
 use pb_linear::Sign;
@@ -31,6 +32,19 @@ pub(crate) fn first_number(sign: Sign, span: Span) -> u64
     match sign {
         Sign::Plus => span.low,
         Sign::Minus => span.high - 1,
+    }
+}
+
+/// How many numbers of a span there are from this one on, in a direction.
+pub(crate) fn left_from(sign: Sign, span: Span, at: u64) -> u64
+    requires { IsOf span at }
+    ensures there { AreThere sign at result }
+    ensures some { 0 < result }
+    ensures last { IsOf span (moved sign (result - 1) at) }
+{
+    match sign {
+        Sign::Plus => span.high - at,
+        Sign::Minus => at - span.low + 1,
     }
 }
 

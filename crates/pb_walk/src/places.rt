@@ -1,11 +1,13 @@
 ghost use Rattle.std.specs.Prelude.{◌≡◌, ◌<◌, false, IfNone, IfSome};
 ghost use Rattle.pb_values.specs.Views.{HasPlace};
 ghost use Rattle.pb_walk.specs.Cursors.{IsBegun, IsMoved, steps_of};
+ghost use Rattle.pb_walk.specs.Stretches.{IsAtLast, IsLine};
 ghost use Rattle.pb_walk.specs.Sweeps.{IsFirstPlace, IsLastPlace, IsNextPlace};
 
 use crate::course::{Course, Sweep};
 use crate::cursor::Cursor;
-use crate::numbers::{Span, first_number, next_pair};
+use crate::numbers::{Span, first_number, left_from, next_pair};
+use crate::stretch::Stretch;
 use pb_links::Spot;
 use pb_values::Rect;
 
@@ -99,6 +101,50 @@ impl Cursor {
                 y: self.y,
                 done: true,
             },
+        }
+    }
+
+    /// From its next place on to the end of the line.
+    pub(crate) fn line(self, sweep: Sweep, piece: usize) -> Stretch
+        requires { self.done ≡ false }
+        ensures { IsLine sweep piece self result }
+    {
+        let rect = self.spot.rect;
+        let columns = Span {
+            low: rect.x0,
+            high: rect.x1,
+        };
+        let rows = Span {
+            low: rect.y0,
+            high: rect.y1,
+        };
+        let (across, at, span) = if sweep.columns {
+            (self.x, self.y, rows)
+        } else {
+            (self.y, self.x, columns)
+        };
+        Stretch {
+            piece,
+            base: self.spot.base,
+            down: sweep.columns,
+            across,
+            at,
+            sign: sweep.inner,
+            count: left_from(sweep.inner, span, at),
+        }
+    }
+
+    /// The same rectangle before the last place of a stretch along its line.
+    pub(crate) fn at_last(self, sweep: Sweep, piece: usize, stretch: &Stretch) -> Cursor
+        requires { IsLine sweep piece self stretch.now }
+        ensures { IsAtLast self stretch.now result }
+    {
+        let (x, y) = stretch.place(stretch.count - 1);
+        Cursor {
+            spot: self.spot,
+            x,
+            y,
+            done: false,
         }
     }
 }

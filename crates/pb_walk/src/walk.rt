@@ -1,11 +1,15 @@
-ghost use Rattle.std.specs.Prelude.{◌≡◌, ◌+◌, ◌<◌, ◌≤◌, IfOk, [], length, drop, slice_get, vec_capacity};
+ghost use Rattle.std.specs.Prelude.{◌≡◌, ◌≢◌, ◌+◌, ◌<◌, ◌≤◌, false, IfNone, IfOk, IfSome, IsTrue, [], length, drop, slice_get, vec_capacity};
 ghost use Rattle.std.specs.List.{All};
-ghost use Rattle.pb_walk.specs.Cursors.{IsBegun, IsBest, spots, steps_of};
+ghost use Rattle.std.specs.declared.cmp.Ordering.TheVariants.{Less};
+ghost use Rattle.pb_walk.specs.Cursors.{IsBegun, IsBest, head, spots, steps_of};
+ghost use Rattle.pb_walk.specs.Orders.{compare};
+ghost use Rattle.pb_walk.specs.Stretches.{GoesFirst, IsTaken};
 ghost use Rattle.pb_walk.specs.Walks.{walk_of};
 
 use crate::course::Course;
 use crate::cursor::Cursor;
 use crate::stop::Stop;
+use crate::stretch::Stretch;
 use pb_linear::Step;
 use pb_links::Spot;
 use std::alloc::{AllocError, Global};
@@ -62,6 +66,34 @@ fn first_cursor(course: Course, cursors: &[Cursor]) -> Option<usize>
     found
 }
 
+/// Whether this place of the rectangle with the number `k` stands before the next place of the rectangle `j`, if that has one and is
+/// another.
+fn goes_before(course: Course, cursors: &[Cursor], k: usize, j: usize, last: &Cursor) -> bool
+    requires { j < length cursors.now }
+    ensures { IsTrue result → j ≢ k → (c : Cursor) → slice_get cursors.now j ≡ Some c → c.done ≡ false → compare (steps_of course) (head k last.now) (head j c) ≡ Less }
+{
+    let other = cursors[j];
+    if j == k || other.done {
+        return true;
+    }
+    match course.compare(last, &other) {
+        Ordering::Less => true,
+        _ => false,
+    }
+}
+
+/// Whether this place of the rectangle with the number `k` stands before the next places of all others.
+fn goes_first(course: Course, cursors: &[Cursor], k: usize, last: &Cursor) -> bool
+    ensures { IsTrue result → GoesFirst (steps_of course) cursors.now k (length cursors.now) last.now }
+{
+    for j in 0..cursors.len() {
+        if !goes_before(course, cursors, k, j, last) {
+            return false;
+        }
+    }
+    true
+}
+
 /// Puts rectangles before their first places, where there is room for so many.
 fn begin_all(course: Course, cursors: &mut Vec<Cursor>, pieces: &[Spot])
     requires { length pieces.now ≤ vec_capacity cursors.old }
@@ -111,5 +143,24 @@ impl Walk {
             x: cursor.x,
             y: cursor.y,
         })
+    }
+
+    /// The next places in a line, unless there is none: those up to the end of the line, or one, where the next place of another
+    /// rectangle may stand before the last of them. It takes no memory, and two passes over the rectangles.
+    pub fn stretch(&mut self) -> Option<Stretch>
+        ensures none { IfNone result ((self.old.left ≡ []) × (self.new ≡ self.old)) }
+        ensures taken { IfSome result (IsTaken self.old self.new) }
+    {
+        let k = first_cursor(self.course, &self.cursors)?;
+        let cursor = self.cursors[k];
+        let sweep = self.course.sweep_of(cursor.spot.rect);
+        let line = cursor.line(sweep, k);
+        let end = cursor.at_last(sweep, k, &line);
+        if goes_first(self.course, &self.cursors, k, &end) {
+            self.cursors[k] = end.after(self.course);
+            return Some(line);
+        }
+        self.cursors[k] = cursor.after(self.course);
+        Some(line.first())
     }
 }

@@ -1,0 +1,52 @@
+use Rattle.std.proofs.Common.{◌∙◌, ℕ, length, subst, sym}
+use Rattle.pb_program.specs.Trees.{bare_prog}
+use Rattle.pb_taskgraph.proofs.TurnLemmas.{some-none}
+use Rattle.pb_jobs.specs.Advances.{AreAdvances}
+use Rattle.pb_jobs.specs.Instances.{of_sizes}
+use Rattle.pb_jobs.specs.Rooms.{IsEnough}
+use Rattle.pb_jobs.proofs.LineLemmas.{as_many_along, may_here, one_later, place_inside, within_along}
+use Rattle.pb_jobs.proofs.StepLemmas.{itself}
+use Rattle.pb_jobs.proofs.instance.Instance.run_stretch.Goals as goal
+
+pub begin-requires-clause-windows : goal.begin-requires-clause-windows
+begin-requires-clause-windows g c = as_many_along c.args.self.now c.requires.ready c.args.rule _ c.args.stretch.now c.requires.made c.reads-reads.result.now c.reads-reads.ensures c.read_windows-windows.result.now c.read_windows-windows.ensures c.views-matrices.result.now c.views-matrices.ensures c.requires.some
+
+pub begin-requires-clause-within : goal.begin-requires-clause-within
+begin-requires-clause-within g c = within_along c.args.self.now c.requires.ready c.args.rule _ c.args.stretch.now c.requires.made c.reads-reads.result.now c.reads-reads.ensures c.read_windows-windows.result.now c.read_windows-windows.ensures c.views-matrices.result.now c.views-matrices.ensures
+
+pub loop-i-init : goal.loop-i-init
+loop-i-init g c = record {
+  now = sym (some-none (g.C.CellReader.turn c.args.port.now));
+  room = itself c.args.scratch.now.body;
+  shown = λ h. c.begin.ensures.shown;
+  advances = c.begin.ensures.advances;
+}
+
+pub cell-outcome-requires-clause-room : goal.cell-outcome-requires-clause-room
+cell-outcome-requires-clause-room g c =
+    let v = c.args.self.now in
+    let room = c.loop-i.invariant.room in
+    subst (λ (r : ℕ × ℕ). IsEnough (bare_prog v.program) v.number (of_sizes v) r.0 r.1 c.args.rule) (λ j. (sym room.locals j, sym room.outs j)) c.requires.room
+
+pub place-requires : goal.place-requires
+place-requires g c = place_inside c.args.self.now c.requires.ready c.args.rule _ c.args.stretch.now c.requires.made c.loop-i.i c.loop-i-test.true c.place-x.result.0 c.place-x.result.1 c.place-x.ensures.x c.place-x.ensures.y (g.C.CellReader.turn c.loop-i.port) c.loop-i.invariant.now c.views-matrices.result.now c.views-matrices.ensures c.index-matrices-stretch.result c.index-matrices-stretch.is
+
+pub write-requires : goal.write-requires
+write-requires g c =
+    may_here c.args.self.now c.requires.ready c.args.rule _ c.args.stretch.now c.requires.made c.loop-i.i c.loop-i-test.true c.place-x.result.0 c.place-x.result.1 c.place-x.ensures.x c.place-x.ensures.y (g.C.CellReader.turn c.loop-i.port) c.loop-i.invariant.now c.views-matrices.result.now c.views-matrices.ensures c.index-matrices-stretch.result c.index-matrices-stretch.is
+    c.cell-outcome.result c.cell-outcome.ensures.outcome c.place.result c.place.ensures (g.C.CellReader.turn c.cell-outcome.new.port) c.cell-outcome.ensures.stays
+
+pub go_on-requires-clause-windows : goal.go_on-requires-clause-windows
+go_on-requires-clause-windows g c = as_many_along c.args.self.now c.requires.ready c.args.rule _ c.args.stretch.now c.requires.made c.reads-reads.result.now c.reads-reads.ensures c.read_windows-windows.result.now c.read_windows-windows.ensures c.views-matrices.result.now c.views-matrices.ensures c.requires.some
+
+pub go_on-requires-clause-within : goal.go_on-requires-clause-within
+go_on-requires-clause-within g c = within_along c.args.self.now c.requires.ready c.args.rule _ c.args.stretch.now c.requires.made c.reads-reads.result.now c.reads-reads.ensures c.read_windows-windows.result.now c.read_windows-windows.ensures c.views-matrices.result.now c.views-matrices.ensures
+
+pub loop-i-preserved : goal.loop-i-preserved
+loop-i-preserved g c = record {
+  now = one_later c.args.self.now c.requires.ready c.args.rule _ c.args.stretch.now c.requires.made c.loop-i.i c.loop-i-test.true c.place-x.result.0 c.place-x.result.1 c.place-x.ensures.x c.place-x.ensures.y (g.C.CellReader.turn c.loop-i.port) c.loop-i.invariant.now c.views-matrices.result.now c.views-matrices.ensures c.index-matrices-stretch.result c.index-matrices-stretch.is
+      c.cell-outcome.result c.cell-outcome.ensures.outcome c.place.result c.place.ensures (g.C.CellReader.turn c.cell-outcome.new.port) (g.C.CellReader.turn c.write.new.self) c.cell-outcome.ensures.stays c.write.ensures;
+  room = record { locals = c.cell-outcome.ensures.room.locals ∙ c.loop-i.invariant.room.locals; outs = c.cell-outcome.ensures.room.outs ∙ c.loop-i.invariant.room.outs };
+  shown = c.go_on.ensures.shown;
+  advances = subst (λ l. AreAdvances c.views-matrices.result.now c.args.stretch.now c.reads-reads.result.now c.read_windows-windows.result.now (length c.reads-reads.result.now) l.items) (sym c.go_on.ensures.advances) c.loop-i.invariant.advances;
+}

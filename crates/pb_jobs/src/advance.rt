@@ -1,0 +1,51 @@
+ghost use Rattle.std.specs.Prelude.{◌≡◌, ◌≤◌, ◌^◌, ◌<◌, ℕ, pos};
+ghost use Rattle.pb_region.specs.Within.{IsWithin};
+ghost use Rattle.pb_views.specs.Windows.{shown_by};
+ghost use Rattle.pb_walk.specs.Stretches.{place_on};
+ghost use Rattle.pb_jobs.specs.Advances.{IsAdvance, IsWindowOn};
+ghost use Rattle.pb_jobs.specs.Distances.{IsFromTo, IsOneCell};
+
+use pb_program::ReadView;
+use pb_values::{Shape, View};
+use pb_views::Window;
+use pb_walk::Stretch;
+
+/// How the view of one cell moves from one place of a line to the next: up or down, by so many cells of the run. Another view is shown
+/// anew.
+#[derive(Clone, Copy)]
+pub enum Advance {
+    Up(u64),
+    Down(u64),
+    Anew,
+}
+
+/// From one cell to another.
+fn advance_from(here: u64, next: u64) -> Advance
+    ensures { IsFromTo here next result }
+{
+    if here <= next {
+        Advance::Up(next - here)
+    } else {
+        Advance::Down(here - next)
+    }
+}
+
+/// How what a window shows of a matrix moves along a line.
+pub(crate) fn advance_along(window: &Window, matrix: &View, stretch: &Stretch) -> Advance
+    requires { (i : ℕ) → i < stretch.now.count → IsWindowOn window.now matrix.now stretch.now i }
+    ensures { IsAdvance window.now matrix.now stretch.now result }
+{
+    if stretch.count < 2 {
+        return Advance::Anew;
+    }
+    match window.view {
+        ReadView::Cell => {
+            let (x, y) = stretch.place(0);
+            let (a, b) = stretch.place(1);
+            let here = window.show(matrix, x, y);
+            let next = window.show(matrix, a, b);
+            advance_from(here.first, next.first)
+        }
+        _ => Advance::Anew,
+    }
+}
