@@ -30,13 +30,13 @@ use Rattle.pb_counts.specs.Callable.{IsCallable}
 use Rattle.pb_counts.proofs.PlaceLemmas.{all_callable}
 use Rattle.pb_counts.specs.Limits.{AreFew, AreMany, OfRun}
 use Rattle.pb_counts.specs.declared.count.TheConstants.{MOST_CALLS}
-use Rattle.pb_runs.specs.Steps.{Step, places_of}
-use Rattle.pb_runs.specs.Unrolled.{unrolled_run}
-use Rattle.pb_runs.specs.Placed.{total}
-use Rattle.pb_runs.proofs.RunLemmas.{run_tally}
+use Rattle.pb_run_graph.specs.Handed.{Step, places_of}
+use Rattle.pb_run_graph.specs.Handed.{unrolled_run}
+use Rattle.pb_run_graph.specs.Handed.{total}
+use Rattle.pb_run_graph.proofs.Handed.{run_tally}
 use Rattle.pb_run_graph.specs.Linking.{CanBeLinked, IsTooMany}
-use Rattle.pb_steps.specs.Runs.{UnrolledValue}
-use Rattle.pb_steps.specs.Stands.{AreSeated, AreSteps, met_of}
+use Rattle.pb_run_graph.specs.Handed.{UnrolledValue}
+use Rattle.pb_run_graph.specs.Handed.{AreSeated, AreSteps, met_of}
 use Rattle.pb_cost.specs.Costs.{are_few, can_be_linked, cost, cost_at_sizes, cost_of, equal_sizes, given_sides}
 use Rattle.pb_cost.specs.Linked.{CanBeBegun}
 use Rattle.pb_cost.specs.declared.at_size.TheConstants.{COST_DEPTH, COST_GRAIN}

@@ -13,8 +13,8 @@ use Rattle.pb_taskgraph.specs.declared.limits.TheConstants.{MOST_CELLS, MOST_LIN
 use Rattle.pb_recursion.specs.Counts.{Counted, run_count}
 use Rattle.pb_recursion.specs.Shapes.{Sides, are_in_range, sides_of_decl}
 use Rattle.pb_counts.specs.declared.count.TheConstants.{MOST_CALLS}
-use Rattle.pb_runs.specs.Steps.{Step, places_of}
-use Rattle.pb_runs.specs.Unrolled.{unrolled_run}
+use Rattle.pb_run_graph.specs.Handed.{Step, places_of}
+use Rattle.pb_run_graph.specs.Handed.{unrolled_run}
 use Rattle.pb_cost.specs.Calls.{cost_at}
 use Rattle.pb_cost.specs.declared.at_size.TheConstants.{COST_DEPTH, COST_GRAIN}
 

@@ -10,7 +10,7 @@ use Rattle.pb_recursion.specs.Counts.{run_count}
 use Rattle.pb_recursion.specs.Depths.{sides_of_matrix}
 use Rattle.pb_recursion.specs.Shapes.{Sides}
 use Rattle.pb_counts.specs.Limits.{AreFew}
-use Rattle.pb_runs.specs.Laws.{IsEntered}
+use Rattle.pb_run_graph.specs.Handed.{IsEntered}
 use Rattle.pb_cost.specs.declared.at_size.TheConstants.{COST_DEPTH}
 
 -- some matrices have these sides, and a run over them is entered and counts little

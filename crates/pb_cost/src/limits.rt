@@ -4,7 +4,7 @@ ghost use Rattle.pb_program.specs.Configs.{IsValid};
 ghost use Rattle.pb_program.specs.Trees.{bare_prog, bare_transform};
 ghost use Rattle.pb_entry.specs.declared.refusal.RunRefusal.TheVariants.{Memory};
 ghost use Rattle.pb_recursion.specs.Counts.{run_count};
-ghost use Rattle.pb_runs.specs.Unrolled.{unrolled_run};
+ghost use Rattle.pb_run_graph.specs.Handed.{unrolled_run};
 ghost use Rattle.pb_cost.specs.Costs.{are_few, can_be_linked, given_sides};
 ghost use Rattle.pb_cost.specs.Linked.{CanBeBegun};
 
@@ -15,7 +15,7 @@ use pb_entry::RunRefusal;
 use pb_linear::Sizes;
 use pb_program::{Config, Transform};
 use pb_run_graph::run_links;
-use pb_steps::unroll;
+use pb_run_graph::unroll;
 use std::alloc::{AllocError, Global};
 
 /// A run is refused for a limit, or since memory ran out.

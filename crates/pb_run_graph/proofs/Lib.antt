@@ -5,3 +5,4 @@ pub mod ShapeLemmas
 pub mod EndLemmas
 pub mod StepLemmas
 pub mod GraphLemmas
+pub mod Handed

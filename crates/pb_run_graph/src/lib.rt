@@ -13,3 +13,4 @@ mod spots;
 mod tasks;
 
 pub use graph::{graph_of, run_links};
+pub use pb_steps::unroll;

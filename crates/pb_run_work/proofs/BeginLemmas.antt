@@ -42,9 +42,9 @@ use Rattle.pb_views.specs.Layouts.{HasShortSides, cell_count}
 use Rattle.pb_recursion.specs.Counts.{Counted, all_of, both, instance_count, matrix_of, nothing, run_count}
 use Rattle.pb_recursion.specs.Depths.{IsWhole as IsWholeMatrix, sides_of_matrix, sizes_given}
 use Rattle.pb_recursion.specs.Shapes.{can_enter, sides_of_decl}
-use Rattle.pb_counts.specs.Limits.{AreFew, AreMany, OfRun}
-use Rattle.pb_counts.specs.Sized.{counter_at, sized_count}
-use Rattle.pb_counts.proofs.RunLemmas.{counted_run}
+use Rattle.pb_steps.specs.Handed.{AreFew, AreMany, OfRun}
+use Rattle.pb_steps.specs.Handed.{counter_at, sized_count}
+use Rattle.pb_steps.proofs.Handed.{counted_run}
 use Rattle.pb_runs.specs.Laws.{IsEntered}
 use Rattle.pb_runs.specs.Matrices.{matrices_at, run_matrices}
 use Rattle.pb_runs.specs.Placed.{greatest_side, total}
@@ -53,7 +53,7 @@ use Rattle.pb_runs.specs.Unrolled.{Met, unrolled_run}
 use Rattle.pb_runs.proofs.BaseLemmas.{total_append}
 use Rattle.pb_runs.proofs.RunLemmas.{run_tally}
 use Rattle.pb_runs.proofs.TallyLemmas.{greatest_append}
-use Rattle.pb_run_plan.specs.RunTasks.{AreTasksOf}
+use Rattle.pb_run_graph.specs.Handed.{AreTasksOf}
 use Rattle.pb_run_graph.specs.Linking.{CanBeLinked, IsTooMany}
 use Rattle.pb_run_graph.proofs.EndLemmas.{met_cells}
 use Rattle.pb_steps.specs.Runs.{UnrolledValue}

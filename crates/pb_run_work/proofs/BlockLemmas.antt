@@ -32,7 +32,7 @@ use Rattle.pb_runs.specs.Laws.{IsEntered}
 use Rattle.pb_runs.specs.Placed.{outcome_of}
 use Rattle.pb_runs.specs.Steps.{by_job, cells_of, stop_number}
 use Rattle.pb_runs.proofs.RunLemmas.{ms, run}
-use Rattle.pb_run_plan.specs.RunTasks.{AreTasksOf, plan_of_run, step_order}
+use Rattle.pb_run_graph.specs.Handed.{AreTasksOf, plan_of_run, step_order}
 use Rattle.pb_jobs.specs.Instances.{InstanceValue, of_sizes, of_transform}
 use Rattle.pb_jobs.specs.Tasks.{IsBlockTask, IsListed}
 use Rattle.pb_jobs.proofs.ListLemmas.{some_same}

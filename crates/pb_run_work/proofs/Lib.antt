@@ -17,3 +17,4 @@ mod MakeLemmas
 mod PieceLemmas
 mod RunningLemmas
 mod StartLemmas
+pub mod Handed

@@ -20,7 +20,7 @@ use Rattle.pb_steps.specs.Stands.{AreViewsOf, IsStep}
 use Rattle.pb_steps.specs.Values.{CopiedValue, FailedValue, InstanceValue}
 use Rattle.pb_steps.specs.declared.step.Step.{Step as StepValue}
 use Rattle.pb_steps.specs.declared.step.Step.TheVariants as step
-use Rattle.pb_run_plan.specs.RunTasks.{AreTasksOf}
+use Rattle.pb_run_graph.specs.Handed.{AreTasksOf}
 use Rattle.pb_run_graph.specs.Linking.{CanBeLinked}
 use Rattle.pb_run_graph.specs.Ready.{CanMake, IsSeatedPart}
 use Rattle.pb_run_graph.proofs.StepLemmas.{all_can}

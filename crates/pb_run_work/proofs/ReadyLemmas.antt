@@ -31,8 +31,8 @@ use Rattle.pb_runs.proofs.LinkLemmas.{in_steps}
 use Rattle.pb_runs.proofs.RunLemmas.{made, ms, run, run_only, run_right}
 use Rattle.pb_runs.proofs.UseLemmas.{copied_use}
 use Rattle.pb_steps.specs.Stands.{AreViewsOf}
-use Rattle.pb_run_plan.specs.RunTasks.{AreTasksOf, plan_of_run, step_order}
-use Rattle.pb_run_plan.proofs.PlanLemmas.{may_read}
+use Rattle.pb_run_graph.specs.Handed.{AreTasksOf, plan_of_run, step_order}
+use Rattle.pb_run_graph.proofs.Handed.{may_read}
 use Rattle.pb_run_graph.specs.Ready.{IsSeatedPart}
 use Rattle.pb_jobs.specs.Jobs.{IsNext}
 use Rattle.pb_jobs.proofs.ListLemmas.{all_contained}

@@ -33,7 +33,7 @@ use Rattle.pb_steps.specs.Runs.{UnrolledValue}
 use Rattle.pb_steps.specs.Stands.{IsSeatFor, IsSeated, IsStep}
 use Rattle.pb_steps.specs.Values.{InstanceValue}
 use Rattle.pb_steps.specs.declared.step.Step.TheVariants as step
-use Rattle.pb_run_plan.specs.RunTasks.{AreTasksOf}
+use Rattle.pb_run_graph.specs.Handed.{AreTasksOf}
 use Rattle.pb_run_graph.specs.Linking.{CanBeLinked}
 use Rattle.pb_jobs.specs.Instances.{InstanceValue as Seen, IsReady, of_sizes, of_transform}
 use Rattle.pb_jobs.specs.Jobs.{CanBeMade, IsBlock, IsMadeBy, IsWhole}

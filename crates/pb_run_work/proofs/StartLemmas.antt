@@ -21,7 +21,7 @@ use Rattle.pb_entry.specs.declared.refusal.RunRefusal.{RunRefusal}
 use Rattle.pb_plan.proofs.JobLemmas.{at_map}
 use Rattle.pb_recursion.specs.Depths.{sides_of_matrix, sizes_given}
 use Rattle.pb_recursion.specs.Shapes.{can_enter}
-use Rattle.pb_counts.specs.Limits.{AreFew, AreMany, OfRun}
+use Rattle.pb_steps.specs.Handed.{AreFew, AreMany, OfRun}
 use Rattle.pb_run_graph.specs.Linking.{IsTooMany}
 use Rattle.pb_run_work.specs.Given.{IsWhole, given_as}
 use Rattle.pb_run_work.specs.Holding.{AreFitted, CanBegin}

@@ -53,8 +53,8 @@ use Rattle.pb_runs.proofs.OwnLemmas.{side_below}
 use Rattle.pb_runs.proofs.RunLemmas.{ms, run, run_right}
 use Rattle.pb_runs.proofs.UseLemmas.{instance, job_use, of_job, of_made, origin, read_cell}
 use Rattle.pb_steps.specs.Stands.{AreViewsOf, IsSeatFor}
-use Rattle.pb_run_plan.specs.RunTasks.{AreTasksOf, plan_of_run}
-use Rattle.pb_run_plan.proofs.PlanLemmas.{may_read}
+use Rattle.pb_run_graph.specs.Handed.{AreTasksOf, plan_of_run}
+use Rattle.pb_run_graph.proofs.Handed.{may_read}
 use Rattle.pb_jobs.specs.Instances.{InstanceValue, of_sizes, of_transform}
 use Rattle.pb_jobs.specs.Tasks.{MayRun, solved_by}
 use Rattle.pb_jobs.proofs.ListLemmas.{all_at, some_at}

@@ -39,7 +39,7 @@ use Rattle.pb_runs.specs.Laws.{IsEntered}
 use Rattle.pb_runs.specs.Steps.{by_job}
 use Rattle.pb_runs.proofs.OriginLemmas.{IsJobOf}
 use Rattle.pb_runs.proofs.RunLemmas.{ms, run}
-use Rattle.pb_run_plan.specs.RunTasks.{AreTasksOf}
+use Rattle.pb_run_graph.specs.Handed.{AreTasksOf}
 use Rattle.pb_jobs.specs.Instances.{InstanceValue, of_sizes, of_transform}
 use Rattle.pb_jobs.specs.Tasks.{IsWholeTask, solved_by}
 use Rattle.pb_run_work.proofs.BlockLemmas.{listed, order_long}

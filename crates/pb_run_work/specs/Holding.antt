@@ -17,7 +17,7 @@ use Rattle.pb_plan.specs.Boxes.{HasNodes}
 use Rattle.pb_taskgraph.specs.Plans.{IsSmall as IsSmallOutcome}
 use Rattle.pb_views.specs.Layouts.{HasShortSides, cell_count}
 use Rattle.pb_views.specs.Seats.{IsSmall}
-use Rattle.pb_counts.specs.Limits.{AreFew}
+use Rattle.pb_steps.specs.Handed.{AreFew}
 use Rattle.pb_recursion.specs.Depths.{sizes_given}
 use Rattle.pb_runs.specs.Laws.{IsEntered}
 use Rattle.pb_steps.specs.Values.{InstanceValue}

@@ -8,3 +8,4 @@ pub mod Limits
 pub mod Running
 pub mod Unrolled
 pub mod Holding
+pub mod Handed

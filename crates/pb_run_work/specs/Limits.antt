@@ -9,7 +9,7 @@ use Rattle.pb_links.specs.Links.{link_count}
 use Rattle.pb_taskgraph.specs.declared.limits.TheConstants.{MOST_LINKS, MOST_TASKS}
 use Rattle.pb_recursion.specs.Counts.{Counted, run_count}
 use Rattle.pb_recursion.specs.Depths.{sides_of_matrix}
-use Rattle.pb_counts.specs.Limits.{AreFew, AreMany}
+use Rattle.pb_steps.specs.Handed.{AreFew, AreMany}
 use Rattle.pb_runs.specs.Steps.{Step, places_of}
 use Rattle.pb_runs.specs.Unrolled.{unrolled_run}
 pub use Rattle.pb_run_graph.specs.Linking.{IsTooMany}

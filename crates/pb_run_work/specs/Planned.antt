@@ -10,7 +10,7 @@ use Rattle.pb_runs.specs.Matrices.{run_matrices}
 use Rattle.pb_runs.specs.Steps.{Step}
 use Rattle.pb_runs.specs.Unrolled.{unrolled_run}
 use Rattle.pb_steps.specs.Runs.{UnrolledValue}
-use Rattle.pb_run_plan.specs.RunTasks.{plan_of_run}
+use Rattle.pb_run_graph.specs.Handed.{plan_of_run}
 use Rattle.pb_run_graph.specs.Linking.{CanBeLinked}
 
 module _ {a : AcceptedValue} {u : UnrolledValue} {inputs : ℕ} (c : CanBeLinked a u inputs) where

@@ -19,7 +19,7 @@ ghost use Rattle.pb_jobs.specs.Instances.{InstanceValue as Seen, IsReady, of_siz
 ghost use Rattle.pb_jobs.specs.Jobs.{CanBeMade};
 ghost use Rattle.pb_jobs.specs.Shown.{AreRuleWindows};
 ghost use Rattle.pb_run_work.specs.Seen.{IsSeenAs, job_as};
-ghost use Rattle.pb_run_plan.specs.RunTasks.{AreTasksOf};
+ghost use Rattle.pb_run_graph.specs.Handed.{AreTasksOf};
 ghost use Rattle.pb_run_graph.specs.Linking.{CanBeLinked};
 ghost use Rattle.pb_run_work.specs.Copies.{IsCopy};
 ghost use Rattle.pb_run_work.specs.Planned.{plan_for, steps_for};

@@ -18,7 +18,7 @@ use crate::pieces::all_pieces;
 use crate::run::Run;
 use crate::sights::sights_of;
 use pb_check::Accepted;
-use pb_counts::check_counts;
+use pb_steps::check_counts;
 use pb_entry::{RunRefusal, bind_sizes};
 use pb_linear::Sizes;
 use pb_matrix::Matrix;

@@ -9,3 +9,4 @@ pub mod EnterLemmas
 pub mod CallLemmas
 pub mod PlanLemmas
 pub mod AtLemmas
+pub mod Handed

@@ -16,6 +16,7 @@ mod unrolling;
 
 pub use instance::Instance;
 pub use met::Met;
+pub use pb_counts::check_counts;
 pub use seats::views_of;
 pub use step::{Copied, Failed, Step, Target};
 pub use unrolling::{Unrolled, unroll};

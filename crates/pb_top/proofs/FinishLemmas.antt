@@ -15,8 +15,8 @@ use Rattle.pb_entry.specs.declared.refusal.RunRefusal.{RunRefusal}
 use Rattle.pb_entry.specs.declared.refusal.RunRefusal.TheVariants.{BadShape, Memory as NoRoom, SizeOutOfRange, TooLarge, UnknownTransform, WrongCount}
 use Rattle.pb_taskgraph.specs.Graphs.{GraphValue}
 use Rattle.pb_recursion.specs.Counts.{Counted}
-use Rattle.pb_run_plan.specs.RunTasks.{plan_of_run}
-use Rattle.pb_runs.specs.Steps.{Step}
+use Rattle.pb_unroll.specs.Handed.{plan_of_run}
+use Rattle.pb_unroll.specs.Handed.{Step}
 use Rattle.pb_unroll.specs.Handed.{given_as}
 use Rattle.pb_unroll.specs.Handed.{IsTooLarge, counted, run_steps}
 use Rattle.pb_unroll.specs.Handed.{IsRunning, RunValue, of_sizes, of_transform, run_plan}

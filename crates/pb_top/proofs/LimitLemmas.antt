@@ -9,9 +9,9 @@ use Rattle.pb_entry.specs.declared.refusal.RunRefusal.TheVariants.{BadShape, Mem
 use Rattle.pb_links.specs.Links.{link_count}
 use Rattle.pb_taskgraph.specs.declared.limits.TheConstants.{MOST_CELLS, MOST_LINKS, MOST_TASKS}
 use Rattle.pb_recursion.specs.Counts.{Counted}
-use Rattle.pb_counts.specs.Limits.{AreFew, AreMany}
-use Rattle.pb_counts.specs.declared.count.TheConstants.{MOST_CALLS}
-use Rattle.pb_runs.specs.Steps.{Step, places_of}
+use Rattle.pb_unroll.specs.Handed.{AreFew, AreMany}
+use Rattle.pb_unroll.specs.Handed.{MOST_CALLS}
+use Rattle.pb_unroll.specs.Handed.{Step, places_of}
 use Rattle.pb_unroll.specs.Handed.{IsTooMany}
 
 -- the counts of a run, and its steps

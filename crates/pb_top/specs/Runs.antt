@@ -20,9 +20,9 @@ use Rattle.pb_taskgraph.specs.Orders.{IsLawful}
 use Rattle.pb_words.specs.declared.ask.Pool.{Pool}
 use Rattle.pb_words.specs.declared.ask.Pool.TheVariants as pools
 use Rattle.pb_recursion.specs.Depths.{call_at}
-use Rattle.pb_runs.specs.Matrices.{run_matrices}
-use Rattle.pb_runs.specs.Steps.{Step}
-use Rattle.pb_run_plan.specs.RunTasks.{AreTasksOf, run_graph}
+use Rattle.pb_unroll.specs.Handed.{run_matrices}
+use Rattle.pb_unroll.specs.Handed.{Step}
+use Rattle.pb_unroll.specs.Handed.{AreTasksOf, run_graph}
 use Rattle.pb_unroll.specs.Handed.{given_as}
 use Rattle.pb_unroll.specs.Handed.{IsTooLarge, IsWithin as HasFewCounts, run_steps}
 use Rattle.pb_unroll.specs.Answers.{answer_of, matrices_text}

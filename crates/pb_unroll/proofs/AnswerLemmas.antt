@@ -28,8 +28,8 @@ use Rattle.pb_check.proofs.FirstLemmas.{some_at}
 use Rattle.pb_check.proofs.OrderLemmas.{found_length}
 use Rattle.pb_recursion.specs.Depths.{call_at, plans_at, sizes_given}
 use Rattle.pb_recursion.proofs.ShapeLemmas.{map_get}
-use Rattle.pb_runs.proofs.BaseLemmas.{total_is}
-use Rattle.pb_run_plan.specs.RunTasks.{plan_of_run}
+use Rattle.pb_run_work.proofs.Handed.{total_is}
+use Rattle.pb_run_work.specs.Handed.{plan_of_run}
 use Rattle.pb_run_work.specs.Running.{IsRunning, RunValue, all_of, first_call, ins_of, of_sizes, of_transform, prog_of, run_plan}
 use Rattle.pb_taskgraph.specs.Graphs.{GraphValue}
 use Rattle.pb_taskgraph.specs.declared.limits.TheConstants.{MOST_CELLS}

@@ -7,7 +7,7 @@ use Rattle.pb_model.specs.Calls.{Outcomes, call_of}
 use Rattle.pb_check.specs.Orders.{AnalysisValue}
 use Rattle.pb_plan.specs.Made.{jobs_for}
 use Rattle.pb_recursion.specs.Depths.{call_at, made_by_transform, plans_at, sizes_given}
-use Rattle.pb_runs.specs.Matrices.{Below, below_at, jobs_matrices, matrices_at, matrices_by}
+use Rattle.pb_run_work.specs.Handed.{Below, below_at, jobs_matrices, matrices_at, matrices_by}
 
 module _ (p : List ProgTransform) (config : ConfigValue) (number : ℕ) (ins : List Outcomes) (t : ProgTransform) (at : slice_get p number ≡ Some t) where
   -- it makes what its transform makes at the sizes that the matrices bind

@@ -17,7 +17,7 @@ use Rattle.pb_program.proofs.SyncLemmas.{program_sync, transform_sync}
 use Rattle.pb_program.proofs.config.Config.TheSendSync as config
 use Rattle.pb_run_work.proofs.drawn.Pieces.TheSendSync as pieces
 use Rattle.pb_run_work.proofs.drawn.Sight.TheSendSync as sight
-use Rattle.pb_steps.proofs.unrolling.Unrolled.TheSendSync as unrolled
+use Rattle.pb_run_work.proofs.Handed.{unrolled_sync}
 use Rattle.pb_taskgraph.proofs.graph.TaskGraph.TheSendSync as graph
 use Rattle.pb_values.proofs.view.View.TheSendSync as view
 use Rattle.pb_run_work.specs.contracts.run.Run.{the_row}
@@ -47,7 +47,7 @@ run_sync κ = view_sync (inside.the_row κ) _ _ _ _ (declared_sync (inside.the_t
               sizes.the_sync,
               (
                 Vec-sync _ matrix.the_sync,
-                (Vec-sync _ view.the_sync, (unrolled.the_sync, (graph.the_sync, (Vec-sync _ sight.the_sync, (Vec-sync _ pieces.the_sync, (rooms.the_sync, tt)))))),
+                (Vec-sync _ view.the_sync, (unrolled_sync, (graph.the_sync, (Vec-sync _ sight.the_sync, (Vec-sync _ pieces.the_sync, (rooms.the_sync, tt)))))),
               ),
             ),
           ),

@@ -2,7 +2,7 @@ use Rattle.std.proofs.Common.{◌≡◌, ◌⊎◌, inl, inr}
 use Rattle.pb_entry.specs.declared.refusal.RunRefusal.TheVariants.{Memory}
 use Rattle.pb_program.specs.Trees.{bare_prog}
 use Rattle.pb_run_graph.specs.Linking.{IsTooMany}
-use Rattle.pb_runs.specs.Unrolled.{unrolled_run}
+use Rattle.pb_run_graph.specs.Handed.{unrolled_run}
 use Rattle.pb_cost.specs.declared.at_size.TheConstants.{COST_DEPTH, COST_GRAIN}
 use Rattle.pb_cost.proofs.LimitLemmas.{can_link, unlinked_is}
 use Rattle.pb_cost.proofs.limits.has_few_links.Goals as goal
