@@ -85,7 +85,7 @@ ArePlain p first = (c : ℕ) → c < first → IsTrue (is_number (Some (outcome_
 abbrev pub HasPlainInputs : Plan → Type 0
 HasPlainInputs p = ArePlain p p.graph.inputs
 
--- and there is room for what the run will have told, as many outcomes and numbers; inputs that are known to be plain are
+-- and there is room for what the run will have told, as many outcomes and numbers; where `plain` says so, each input cell has a number
 pub record IsCells (p : Plan) (id : TableId) (cell_count task_count : ℕ) (outcomes : List Outcome) (order : List ℕ) (plain : Bool) : Type 0 where
   pub table : IsTable p id cell_count task_count
   pub outcome_room : length outcomes ≡ cell_count

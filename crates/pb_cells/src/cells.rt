@@ -32,7 +32,7 @@ pub struct Cells<N: NamesWork> {
     pub(crate) tasks: usize,
     pub(crate) outcomes: Outcomes,
     pub(crate) order: Vec<u32>,
-    // Whether no input cell is trapped.
+    // Whether it is known that each input cell has a number.
     pub(crate) plain: bool,
 }
 
@@ -48,7 +48,7 @@ impl<N: NamesWork> Model for Cells<N> {
 }
 
 impl<N: NamesWork> Cells<N> {
-    /// Whether each input cell has a number.
+    /// Whether it is known that each input cell has a number.
     pub(crate) fn has_plain_inputs(&self) -> bool
         ensures { IsTrue result → HasPlainInputs N.plan }
     {
@@ -102,7 +102,8 @@ impl<N: NamesWork> Cells<N> {
         unpack(mark, word)
     }
 
-    /// The trap of a cell that the task may read by now; none where it has a number, and then its mark alone is loaded.
+    /// The trap of a cell that the task may read by now; none where it has a number. It loads the mark of the cell,
+    /// and its value where the mark tells of a trap.
     pub fn trap(&self, job: &mut Job<N>, cell: u64) -> Option<Trap>
         requires table { job.old.table ≡ self.now }
         requires known { IsSome ((turn_at N.plan job.old.at).outcomes cell) }
@@ -123,7 +124,7 @@ impl<N: NamesWork> Cells<N> {
         trap_of(unpack(mark, word))
     }
 
-    /// The number of a cell that the task may read by now, and that isn't trapped: its value alone is loaded.
+    /// The number of a cell that the task may read by now, and that isn't trapped. It loads the value of the cell.
     pub fn number(&self, job: &mut Job<N>, cell: u64) -> i64
         requires table { job.old.table ≡ self.now }
         requires number { IsTrue (is_number ((turn_at N.plan job.old.at).outcomes cell)) }

@@ -48,7 +48,7 @@ pub(crate) fn first_words<W: Work>(alloc: Global, work: &W) -> Result<Vec<u64>, 
     Ok(words)
 }
 
-/// Whether each input cell has a number.
+/// Whether it is known that each input cell has a number.
 pub(crate) fn has_plain_inputs<W: Work>(work: &W, inputs: u64) -> bool
     requires { inputs ≡ (W.plan work.now).graph.inputs }
     ensures { IsTrue result → HasPlainInputs (W.plan work.now) }

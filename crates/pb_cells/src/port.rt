@@ -43,7 +43,7 @@ fn begins_untrapped<N: NamesWork>(cells: &Cells<N>, waits: bool) -> bool
     cells.has_plain_inputs()
 }
 
-/// Whether nothing is trapped where nothing was before, after an outcome is written.
+/// Whether it is known that nothing is trapped after an outcome is written, where that was known of what was told before.
 fn stays_untrapped(before: bool, v: Outcome) -> bool
     ensures before { IsTrue result → IsTrue before }
     ensures written { IsTrue result → IsTrue (is_number (Some v)) }
@@ -55,7 +55,7 @@ fn stays_untrapped(before: bool, v: Outcome) -> bool
 }
 
 impl<'c, N: NamesWork, B: NamesTable> JobPort<'c, N, B> {
-    /// The port of a Job of a task of which nothing is done, and which may wait for others.
+    /// The port of a Job of a task of which nothing is done. `waits` is false only where the task has no predecessors.
     pub fn new(cells: &'c Cells<N>, job: Job<N>, waits: bool) -> JobPort<'c, N, B>
         requires table { cells.now ≡ B.table }
         requires job { job ≡ new_job B.table job.at.task }
@@ -108,7 +108,7 @@ impl<'c, N: NamesWork, B: NamesTable> CellPort for JobPort<'c, N, B> {
     }
 }
 
-/// Whether a task has predecessors.
+/// Whether a task may have predecessors; where not, it is known that it has none.
 fn waits<W: Work>(work: &W, task: u32) -> bool
     requires { task < length (W.plan work.now).graph.tasks }
     ensures { result ≡ false → before_of (W.plan work.now).graph task ≡ [] }

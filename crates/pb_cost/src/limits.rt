@@ -14,8 +14,7 @@ use pb_counts::check_counts;
 use pb_entry::RunRefusal;
 use pb_linear::Sizes;
 use pb_program::{Config, Transform};
-use pb_run_graph::run_links;
-use pb_run_graph::unroll;
+use pb_run_graph::{run_links, unroll};
 use std::alloc::{AllocError, Global};
 
 /// A run is refused for a limit, or since memory ran out.

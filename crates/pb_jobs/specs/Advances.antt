@@ -39,12 +39,13 @@ pub record IsWindowOn (w : Window) (m : View) (s : Stretch) (i : ℕ) : Type 0 w
   pub small_y : (place_on s i).y ≤ 2 ^ 23
   pub within : IsWithin (shown_by w m (place_on s i).x (place_on s i).y w.view) (pos m.shape.w) (pos m.shape.h)
 
--- at each place of a stretch the rule variables are small, and what is read lies within its matrices
+-- at a place of a stretch the rule variables are small, and what is read lies within its matrices
 pub record IsWithinOn (matrices : List View) (reads : List Read) (windows : List Window) (s : Stretch) (i : ℕ) : Type 0 where
   pub small_x : (place_on s i).x ≤ 2 ^ 23
   pub small_y : (place_on s i).y ≤ 2 ^ 23
   pub within : AreWithin matrices (place_on s i).x (place_on s i).y reads windows
 
+-- and at each
 abbrev pub AreWithinAlong : List View → List Read → List Window → Stretch → Type 0
 AreWithinAlong matrices reads windows s = (i : ℕ) → i < s.count → IsWithinOn matrices reads windows s i
 

@@ -1,4 +1,4 @@
--- Cells alone: from one to another, and the view of one.
+-- How far it is from one cell to another, and the view of one cell.
 use Rattle.std.specs.Prelude.{◌≡◌, ℕ, ◌+◌}
 use Rattle.pb_values.specs.declared.view.View.{View}
 use Rattle.pb_jobs.specs.declared.advance.Advance.{Advance}

@@ -35,7 +35,7 @@ of_transform v = bare_transform v.transform
 abbrev pub of_sizes : InstanceValue → List ℕ
 of_sizes v = sizes_of v.sizes
 
--- the transform is the program's, and well-formed; the sizes are in range, and no side is above the limit; each matrix is a view
+-- the transform is the program's, and well-formed; no size is above `SIZE_TOP`, and no side above the limit; each matrix is a view
 -- with its sides, whatever its cells are; and the windows are those of the rules
 pub record IsReady (v : InstanceValue) : Type 0 where
   pub there : slice_get (bare_prog v.program) v.number ≡ Some (of_transform v)
@@ -68,6 +68,6 @@ pub record AreShownFor (v : InstanceValue) (rule : ProgRule) (x y : ℕ) (views 
   pub are : AreWindows (of_sizes v) rule.reads windows
   pub shown : AreShown v.views x y rule.reads windows (length rule.reads) views
 
--- and the rule with this number
+-- and of the rule with this number
 abbrev pub AreReadsOf : InstanceValue → ℕ → ℕ → ℕ → List View → Type 0
 AreReadsOf v k x y views = (rule : ProgRule) → slice_get (of_transform v).rules k ≡ Some rule → AreShownFor v rule x y views

@@ -10,8 +10,8 @@ use pb_values::{Shape, View};
 use pb_views::Window;
 use pb_walk::Stretch;
 
-/// How the view of one cell moves from one place of a line to the next: up or down, by so many cells of the run. Another view is shown
-/// anew.
+/// How a view moves from one place of a line to the next: to a greater or to a smaller cell of the run, by so many, which only a view of
+/// one cell does; or it is shown anew.
 #[derive(Clone, Copy)]
 pub enum Advance {
     Up(u64),
@@ -30,7 +30,7 @@ fn advance_from(here: u64, next: u64) -> Advance
     }
 }
 
-/// How what a window shows of a matrix moves along a line.
+/// How what a window shows of a matrix moves along a line: that of one cell by as much as from the first place to the second.
 pub(crate) fn advance_along(window: &Window, matrix: &View, stretch: &Stretch) -> Advance
     requires { (i : ℕ) → i < stretch.now.count → IsWindowOn window.now matrix.now stretch.now i }
     ensures { IsAdvance window.now matrix.now stretch.now result }

@@ -14,7 +14,7 @@ use std::marker::Model;
 
 /// The rectangles that are made together, in matrices of an instance. A rule that makes all cells at once is `rule`. Where there
 /// is none, each rectangle has a rule of its own, which makes its cells one by one, and the cells of all rectangles are made in
-/// the order of `steps`.
+/// the order of `steps`. Where there is one, `rules` and `steps` play no part, and the cells go by their numbers.
 #[derive(Drop)]
 pub struct Job<'a> {
     pub parts: &'a [Spot],

@@ -23,7 +23,7 @@ fn holds(rect: &Rect, x: u64, y: u64) -> bool
     rect.x0 <= x && x < rect.x1 && rect.y0 <= y && y < rect.y1
 }
 
-/// How many places there are in a rectangle, of sides that are small.
+/// How many places there are in a rectangle that has fewer than 2^64.
 fn count(rect: &Rect) -> u64
     requires across { rect.now.x0 ≤ rect.now.x1 }
     requires down { rect.now.y0 ≤ rect.now.y1 }
@@ -58,7 +58,7 @@ impl<'a> Instance<'a> {
         Spot { base, rect }
     }
 
-    /// The number of a cell among those of a rule's outputs, which stand in the scratch.
+    /// What a rule's outputs, which stand in the scratch, have for a cell.
     fn number(&self, rule: u32, stop: Stop, scratch: &RuleScratch) -> i64
         requires ready { IsReady self.now }
         requires can { CanGive self.now rule }

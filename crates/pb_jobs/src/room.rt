@@ -29,7 +29,7 @@ impl Rooms {
         }
     }
 
-    /// The greater of two, of each kind.
+    /// Enough for either of two, of each kind.
     pub fn greater(self, other: Rooms) -> Rooms
         ensures first { Grows self result }
         ensures second { Grows other result }
@@ -42,7 +42,7 @@ impl Rooms {
     }
 }
 
-/// The room of a rule.
+/// Enough room for a rule.
 fn rule_rooms(p: &Prog, t: u32, s: &Sizes, rule: u32) -> Rooms
     requires sizes { All (λ size. size ≤ SIZE_TOP) s.now.of }
     requires need { HasNeed (bare_prog p.now) t (sizes_of s.now) rule }
@@ -55,7 +55,7 @@ fn rule_rooms(p: &Prog, t: u32, s: &Sizes, rule: u32) -> Rooms
     }
 }
 
-/// The most room that any of some rules needs, and as much as is there already.
+/// Enough room for each of some rules, and as much as is there already.
 fn rules_rooms(least: Rooms, p: &Prog, t: u32, s: &Sizes, rules: &[u32]) -> Rooms
     requires sizes { All (λ size. size ≤ SIZE_TOP) s.now.of }
     requires needs { All (HasNeed (bare_prog p.now) t (sizes_of s.now)) rules.now }
@@ -69,7 +69,8 @@ fn rules_rooms(least: Rooms, p: &Prog, t: u32, s: &Sizes, rules: &[u32]) -> Room
     rooms
 }
 
-/// The room that a job of transform `t` needs at sizes of at most `SIZE_TOP`.
+/// Enough room for a job of transform `t` at sizes of at most `SIZE_TOP`. It is what the job's rules and rectangles ask for, which no
+/// clause says.
 pub fn job_rooms(p: &Prog, t: u32, s: &Sizes, job: &Job) -> Rooms
     requires sizes { All (λ size. size ≤ SIZE_TOP) s.now.of }
     requires needs { HaveNeeds (bare_prog p.now) t (sizes_of s.now) job.now }

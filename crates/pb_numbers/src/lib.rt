@@ -1,7 +1,8 @@
 //! The operators of bodies on numbers of 64 bits.
 //!
-//! In: an operator, a relation or a sign, and numbers. Out: the number, or the kind of the trap. The theorem is `operate`: it is
-//! just what the operator gives. A kind is handed on as a word, `KindWord`, beside which a number is passed in registers.
+//! In: an operator, a relation or a sign, and numbers. Out: the number, or the kind of the trap; of `decided`, what `&&` and `||`
+//! are where the left side alone tells. The theorems are `decided` and `operate`: one after the other they give just what the
+//! operator gives. A kind is handed on as a word, `KindWord`.
 #![tactic(auto)]
 
 mod kind_word;

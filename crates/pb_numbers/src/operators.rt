@@ -24,7 +24,8 @@ pub fn plus(left: i64, right: i64) -> Result<i64, KindWord>
     in_words(add(left, right))
 }
 
-/// An operator of a product or a sum, or the kind of its trap; of `&&` and `||` the right side.
+/// What an operator of a product or a sum gives, or the kind of its trap; of `&&` and `||` the right side as a truth, which is what
+/// they give where the left side doesn't decide.
 pub fn operate(operator: Operator, left: i64, right: i64) -> Result<i64, KindWord>
     ensures { result ≡ operated operator left right }
 {

@@ -85,6 +85,7 @@ impl Course {
         listed.then(by_cell(a, b))
     }
 
+    /// The order in which the places of any rectangle are gone through.
     pub(crate) fn sweep(self) -> Sweep
         ensures { (piece base x y a b : ℕ) → compare (steps_of self) (stop piece base x y) (stop piece base a b) ≡ by_sweep result x y a b }
     {
@@ -107,7 +108,8 @@ impl Course {
         }
     }
 
-    /// The same for one rectangle: a rectangle of one row is gone through along the row, and one of one column down the column.
+    /// The order in which the places of one rectangle are gone through. One row is gone through along the row, and one column along the
+    /// column, whichever axis the steps name first.
     pub(crate) fn sweep_of(self, rect: Rect) -> Sweep
         ensures { (piece base x y a b : ℕ) → HasPlace rect x y → HasPlace rect a b → compare (steps_of self) (stop piece base x y) (stop piece base a b) ≡ by_sweep result x y a b }
     {

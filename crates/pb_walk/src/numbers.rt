@@ -35,7 +35,7 @@ pub(crate) fn first_number(sign: Sign, span: Span) -> u64
     }
 }
 
-/// How many numbers of a span there are from this one on, in a direction.
+/// So many numbers of a span there are from this one on, in a direction: as many as there are to its end.
 pub(crate) fn left_from(sign: Sign, span: Span, at: u64) -> u64
     requires { IsOf span at }
     ensures there { AreThere sign at result }

@@ -104,7 +104,7 @@ impl Cursor {
         }
     }
 
-    /// From its next place on to the end of the line.
+    /// From its next place on along the line, inside the rectangle: to the end of the line.
     pub(crate) fn line(self, sweep: Sweep, piece: usize) -> Stretch
         requires { self.done ≡ false }
         ensures { IsLine sweep piece self result }

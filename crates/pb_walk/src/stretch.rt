@@ -3,7 +3,8 @@ ghost use Rattle.pb_walk.specs.Axes.{AreThere};
 use pb_linear::Sign;
 
 /// Places of a rectangle in a line, one after another: the number of the rectangle, the number of its matrix, and `count` places from
-/// the number `at` on, in a direction, down the column `across` or along the row `across`.
+/// the number `at` on, to greater numbers or to smaller ones. They lie in the column with the number `across` where the line goes
+/// `down`, and else in the row with that number.
 #[derive(Clone, Copy)]
 pub struct Stretch {
     pub piece: usize,

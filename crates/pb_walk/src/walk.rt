@@ -66,8 +66,8 @@ fn first_cursor(course: Course, cursors: &[Cursor]) -> Option<usize>
     found
 }
 
-/// Whether this place of the rectangle with the number `k` stands before the next place of the rectangle `j`, if that has one and is
-/// another.
+/// Whether it is known that this place of the rectangle with the number `k` stands before the next place of the rectangle `j`, if that
+/// has one and is another.
 fn goes_before(course: Course, cursors: &[Cursor], k: usize, j: usize, last: &Cursor) -> bool
     requires { j < length cursors.now }
     ensures { IsTrue result → j ≢ k → (c : Cursor) → slice_get cursors.now j ≡ Some c → c.done ≡ false → compare (steps_of course) (head k last.now) (head j c) ≡ Less }
@@ -82,7 +82,7 @@ fn goes_before(course: Course, cursors: &[Cursor], k: usize, j: usize, last: &Cu
     }
 }
 
-/// Whether this place of the rectangle with the number `k` stands before the next places of all others.
+/// Whether it is known that this place of the rectangle with the number `k` stands before the next places of all others.
 fn goes_first(course: Course, cursors: &[Cursor], k: usize, last: &Cursor) -> bool
     ensures { IsTrue result → GoesFirst (steps_of course) cursors.now k (length cursors.now) last.now }
 {
@@ -119,8 +119,8 @@ impl Walk {
         })
     }
 
-    /// Goes to before the first place of these rectangles, in the order of the first two steps, and with none by the numbers of
-    /// their cells. It takes no memory, and one pass over the rectangles.
+    /// Goes to before the first place of these rectangles, in the order of the first two steps, and where places are equal in it by
+    /// the numbers of their cells. It takes no memory, and one pass over the rectangles.
     pub fn begin(&mut self, steps: &[Step], pieces: &[Spot])
         requires room { length pieces.now ≤ self.old.room }
         ensures { self.new ≡ record { all = walk_of steps.now pieces.now; left = walk_of steps.now pieces.now; room = self.old.room } }
@@ -145,8 +145,9 @@ impl Walk {
         })
     }
 
-    /// The next places in a line, unless there is none: those up to the end of the line, or one, where the next place of another
-    /// rectangle may stand before the last of them. It takes no memory, and two passes over the rectangles.
+    /// The next places, at least one, which lie in a line of one rectangle; unless none is left. They are meant to be those up to the
+    /// end of the line where no place of another rectangle stands between; no clause says how many they are. It takes no memory,
+    /// and two passes over the rectangles.
     pub fn stretch(&mut self) -> Option<Stretch>
         ensures none { IfNone result ((self.old.left ≡ []) × (self.new ≡ self.old)) }
         ensures taken { IfSome result (IsTaken self.old self.new) }
