@@ -11,3 +11,4 @@ pub mod DepthLemmas
 pub mod TellLemmas
 pub mod MemoLemmas
 pub mod RunLemmas
+pub mod Handed

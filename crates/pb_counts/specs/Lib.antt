@@ -7,3 +7,4 @@ pub mod Gathered
 pub mod Told
 pub mod Memos
 pub mod Limits
+pub mod Handed

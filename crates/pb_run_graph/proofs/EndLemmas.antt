@@ -8,15 +8,15 @@ use Rattle.pb_check.specs.Orders.{AnalysisValue}
 use Rattle.pb_recursion.specs.Depths.{IsWhole, sides_of_matrix}
 use Rattle.pb_recursion.specs.Shapes.{Sides}
 use Rattle.pb_views.specs.declared.seat.Seat.{Seat}
-use Rattle.pb_runs.specs.Laws.{IsEntered}
-use Rattle.pb_runs.specs.Matrices.{matrices_at, run_matrices}
-use Rattle.pb_runs.specs.Placed.{IsPlaced, before, total}
-use Rattle.pb_runs.specs.Unrolled.{Met, after_matrices, nothing_met, seats_from, unrolled_run}
-use Rattle.pb_runs.proofs.BaseLemmas.{HaveSides, Reaches, Stands, before_first, before_right, reaches_both}
-use Rattle.pb_runs.proofs.CountLemmas.{in_row}
-use Rattle.pb_runs.proofs.FailedLemmas.{seats_placed, seats_reach, seats_within}
-use Rattle.pb_runs.proofs.RunLemmas.{depth_deep}
-use Rattle.pb_runs.proofs.SeatLemmas.{HasCell}
+use Rattle.pb_steps.specs.Handed.{IsEntered}
+use Rattle.pb_steps.specs.Handed.{matrices_at, run_matrices}
+use Rattle.pb_steps.specs.Handed.{IsPlaced, before, total}
+use Rattle.pb_steps.specs.Handed.{Met, after_matrices, nothing_met, seats_from, unrolled_run}
+use Rattle.pb_steps.proofs.Handed.{HaveSides, Reaches, Stands, before_first, before_right, reaches_both}
+use Rattle.pb_steps.proofs.Handed.{in_row}
+use Rattle.pb_steps.proofs.Handed.{seats_placed, seats_reach, seats_within}
+use Rattle.pb_steps.proofs.Handed.{depth_deep}
+use Rattle.pb_steps.proofs.Handed.{HasCell}
 use Rattle.pb_steps.proofs.ListLemmas.{get_left}
 
 have_sides : (gs : List Outcomes) → All IsWhole gs → HaveSides (map sides_of_matrix gs) gs

@@ -10,10 +10,10 @@ use Rattle.pb_links.specs.Links.{LinksValue, all_predecessors, all_successors, l
 use Rattle.pb_links.specs.Spots.{AllWithin, PlacesValue}
 use Rattle.pb_plan.proofs.LinkedLemmas.{zip_at}
 use Rattle.pb_recursion.specs.Depths.{sides_of_matrix}
-use Rattle.pb_runs.specs.Matrices.{run_matrices}
-use Rattle.pb_runs.specs.Placed.{total}
-use Rattle.pb_runs.specs.Steps.{Step, places_of}
-use Rattle.pb_runs.specs.Unrolled.{Met, unrolled_run}
+use Rattle.pb_steps.specs.Handed.{run_matrices}
+use Rattle.pb_steps.specs.Handed.{total}
+use Rattle.pb_steps.specs.Handed.{Step, places_of}
+use Rattle.pb_steps.specs.Handed.{Met, unrolled_run}
 use Rattle.pb_steps.proofs.ListLemmas.{zip_length}
 use Rattle.pb_steps.specs.Runs.{UnrolledValue}
 use Rattle.pb_steps.specs.Stands.{AreSteps, IsStep}

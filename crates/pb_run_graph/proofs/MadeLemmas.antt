@@ -21,7 +21,7 @@ use Rattle.pb_plan.proofs.LinkedLemmas.{at_zip, some_at}
 use Rattle.pb_taskgraph.specs.declared.task.Part.{Part}
 use Rattle.pb_views.specs.Windows.{AreLaid}
 use Rattle.pb_views.specs.declared.seat.Seat.{Seat}
-use Rattle.pb_runs.specs.Steps.{Copied, Failed, Instance, Step, by_copy, by_job, by_trap, places_of, through}
+use Rattle.pb_steps.specs.Handed.{Copied, Failed, Instance, Step, by_copy, by_job, by_trap, places_of, through}
 use Rattle.pb_run_plan.specs.RunTasks.{IsPartOf, piece_of, pieces_of, trapped_piece}
 use Rattle.pb_steps.proofs.ListLemmas.{zip_length}
 use Rattle.pb_steps.specs.Stands.{AreViewsOf, IsInstance, IsSeatFor, IsStep}

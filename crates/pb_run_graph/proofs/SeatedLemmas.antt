@@ -32,8 +32,8 @@ use Rattle.pb_plan.proofs.ReadableLemmas.{are_jobs, have_nodes}
 use Rattle.pb_views.specs.Layouts.{HasShortSides}
 use Rattle.pb_views.specs.Seats.{IsSmall, across, down}
 use Rattle.pb_views.specs.declared.seat.Seat.{Seat}
-use Rattle.pb_runs.specs.Steps.{Instance}
-use Rattle.pb_runs.proofs.BoxLemmas.{IsSituated, box_there, natural_le}
+use Rattle.pb_steps.specs.Handed.{Instance}
+use Rattle.pb_steps.proofs.Handed.{IsSituated, box_there, natural_le}
 use Rattle.pb_steps.specs.Stands.{IsSeatFor, IsSeated}
 use Rattle.pb_steps.specs.Values.{InstanceValue}
 use Rattle.pb_run_graph.specs.Ready.{CanPlace, IsAmong, IsSeatedPart}

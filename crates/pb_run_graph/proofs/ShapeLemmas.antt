@@ -23,8 +23,8 @@ use Rattle.pb_recursion.specs.Plans.{Names, calls_of_rule, fits_call, named, nam
 use Rattle.pb_recursion.specs.Shapes.{Sides, sizes_from}
 use Rattle.pb_views.specs.Seats.{no_seat, sides_of_seat}
 use Rattle.pb_views.specs.declared.seat.Seat.{Seat}
-use Rattle.pb_runs.specs.Steps.{Copied, Failed, Instance, Step, Target, by_copy, by_job, by_trap}
-use Rattle.pb_runs.specs.Unrolled.{Met, Player, Unroll, after_call, after_matrices, copies_of, copy_step, failed, found_for, given_back, job_done, jobs_done, instance_of, no_unrolled, output_parts, output_rect, own_sides, plan_done, plan_played, played, rule_done, seat_has_cells, seats_from, target_of, targets_of, trap_step, unroll, unroll_one, unrolled_by, unrolled_of, view_seat}
+use Rattle.pb_steps.specs.Handed.{Copied, Failed, Instance, Step, Target, by_copy, by_job, by_trap}
+use Rattle.pb_steps.specs.Handed.{Met, Player, Unroll, after_call, after_matrices, copies_of, copy_step, failed, found_for, given_back, job_done, jobs_done, instance_of, no_unrolled, output_parts, output_rect, own_sides, plan_done, plan_played, played, rule_done, seat_has_cells, seats_from, target_of, targets_of, trap_step, unroll, unroll_one, unrolled_by, unrolled_of, view_seat}
 
 module _ (config : ConfigValue) (grain : ℕ) where
   -- a copy of what a job has of an output

@@ -25,15 +25,15 @@ use Rattle.pb_recursion.specs.Depths.{sides_of_matrix}
 use Rattle.pb_recursion.specs.Shapes.{Sides}
 use Rattle.pb_views.specs.Seats.{IsSmall, across, base_x, base_y, cell_at, down, seat_cells}
 use Rattle.pb_views.specs.declared.seat.Seat.{Seat}
-use Rattle.pb_runs.specs.Matrices.{run_matrices}
-use Rattle.pb_runs.specs.Placed.{greatest_side, total}
-use Rattle.pb_runs.specs.Steps.{Copied, Failed, Instance, Step, by_copy, by_job, by_trap, cells_of, parts_of, places_of, seat_in, through}
-use Rattle.pb_runs.specs.Unrolled.{Met, after_call, after_matrices, after_matrix, is_part_of, nothing_met, output_rect, seat_has_cells, seats_from, unrolled_run, whole_seat}
-use Rattle.pb_runs.proofs.BoxLemmas.{inst}
-use Rattle.pb_runs.proofs.LinkLemmas.{in_steps}
-use Rattle.pb_runs.proofs.RunLemmas.{run_laid, run_made, run_only}
-use Rattle.pb_runs.proofs.SoundLemmas.{IsLaid}
-use Rattle.pb_runs.proofs.SpotLemmas.{spot_place}
+use Rattle.pb_steps.specs.Handed.{run_matrices}
+use Rattle.pb_steps.specs.Handed.{greatest_side, total}
+use Rattle.pb_steps.specs.Handed.{Copied, Failed, Instance, Step, by_copy, by_job, by_trap, cells_of, parts_of, places_of, seat_in, through}
+use Rattle.pb_steps.specs.Handed.{Met, after_call, after_matrices, after_matrix, is_part_of, nothing_met, output_rect, seat_has_cells, seats_from, unrolled_run, whole_seat}
+use Rattle.pb_steps.proofs.Handed.{inst}
+use Rattle.pb_steps.proofs.Handed.{in_steps}
+use Rattle.pb_steps.proofs.Handed.{run_laid, run_made, run_only}
+use Rattle.pb_steps.proofs.Handed.{IsLaid}
+use Rattle.pb_steps.proofs.Handed.{spot_place}
 use Rattle.pb_steps.specs.Runs.{UnrolledValue}
 use Rattle.pb_steps.specs.Stands.{IsSeated, IsStep}
 use Rattle.pb_steps.specs.Values.{CopiedValue, FailedValue, InstanceValue}

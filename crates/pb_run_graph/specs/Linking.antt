@@ -13,11 +13,11 @@ use Rattle.pb_links.specs.Links.{link_count}
 use Rattle.pb_taskgraph.specs.Plans.{IsSmall}
 use Rattle.pb_taskgraph.specs.declared.limits.TheConstants.{MOST_CELLS, MOST_LINKS, MOST_TASKS}
 use Rattle.pb_recursion.specs.Depths.{sides_of_matrix}
-use Rattle.pb_runs.specs.Laws.{IsEntered}
-use Rattle.pb_runs.specs.Matrices.{run_matrices}
-use Rattle.pb_runs.specs.Placed.{greatest_side, total}
-use Rattle.pb_runs.specs.Steps.{Step, places_of}
-use Rattle.pb_runs.specs.Unrolled.{unrolled_run}
+use Rattle.pb_steps.specs.Handed.{IsEntered}
+use Rattle.pb_steps.specs.Handed.{run_matrices}
+use Rattle.pb_steps.specs.Handed.{greatest_side, total}
+use Rattle.pb_steps.specs.Handed.{Step, places_of}
+use Rattle.pb_steps.specs.Handed.{unrolled_run}
 use Rattle.pb_steps.specs.Stands.{AreSeated, AreSteps, met_of}
 use Rattle.pb_steps.specs.Runs.{UnrolledValue}
 

@@ -21,8 +21,8 @@ use Rattle.pb_taskgraph.specs.Graphs.{TaskValue}
 use Rattle.pb_taskgraph.specs.declared.task.Part.{Part}
 use Rattle.pb_views.specs.Seats.{IsSmall, LiesWithin, no_seat, spot_at}
 use Rattle.pb_views.specs.declared.seat.Seat.{Seat}
-use Rattle.pb_runs.specs.Steps.{Failed, Step, from_corner}
-use Rattle.pb_runs.specs.Unrolled.{no_target}
+use Rattle.pb_steps.specs.Handed.{Failed, Step, from_corner}
+use Rattle.pb_steps.specs.Handed.{no_target}
 use Rattle.pb_run_plan.specs.RunTasks.{IsPartOf, Piece, call_of, kind_of, pieces_of}
 use Rattle.pb_steps.specs.Stands.{IsSeatFor, IsStep}
 use Rattle.pb_steps.specs.Values.{CopiedValue, FailedValue, InstanceValue}

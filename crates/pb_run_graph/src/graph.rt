@@ -6,7 +6,7 @@ ghost use Rattle.pb_entry.specs.declared.refusal.RunRefusal.TheVariants.{Memory,
 ghost use Rattle.pb_links.specs.Links.{all_predecessors, all_successors, link_count};
 ghost use Rattle.pb_links.specs.Spots.{AllWithin};
 ghost use Rattle.pb_taskgraph.specs.declared.limits.TheConstants.{MOST_LINKS, MOST_TASKS};
-ghost use Rattle.pb_runs.specs.Steps.{Step, places_of};
+ghost use Rattle.pb_steps.specs.Handed.{Step, places_of};
 ghost use Rattle.pb_run_plan.specs.RunTasks.{AreTasksOf};
 ghost use Rattle.pb_steps.specs.Stands.{AreSteps};
 ghost use Rattle.pb_run_graph.specs.Linking.{CanBeLinked, IsTooMany};

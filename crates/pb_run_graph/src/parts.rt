@@ -5,7 +5,7 @@ ghost use Rattle.pb_program.specs.Trees.{bare_prog};
 ghost use Rattle.pb_views.specs.Seats.{IsSmall, LiesWithin, cell_at};
 ghost use Rattle.pb_views.specs.declared.seat.Seat.{Seat};
 ghost use Rattle.pb_taskgraph.specs.declared.task.Part.{Part};
-ghost use Rattle.pb_runs.specs.Steps.{Instance as RunInstance};
+ghost use Rattle.pb_steps.specs.Handed.{Instance as RunInstance};
 ghost use Rattle.pb_run_plan.specs.RunTasks.{IsPartOf, piece_of, pieces_of, trapped_piece};
 ghost use Rattle.pb_steps.specs.Stands.{IsInstance};
 ghost use Rattle.pb_run_graph.specs.Ready.{CanMake, CanPlaceParts, IsMadeFor, IsPartIn, IsSeatedPart, IsTarget, failed_of};

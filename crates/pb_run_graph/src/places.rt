@@ -7,7 +7,7 @@ ghost use Rattle.pb_plan.specs.Boxes.{places_of as job_places};
 ghost use Rattle.pb_links.specs.declared.places.Spot.{Spot};
 ghost use Rattle.pb_views.specs.Windows.{AreLaid};
 ghost use Rattle.pb_views.specs.declared.seat.Seat.{Seat};
-ghost use Rattle.pb_runs.specs.Steps.{Instance as RunInstance, Step as RunStep, by_job, places_of};
+ghost use Rattle.pb_steps.specs.Handed.{Instance as RunInstance, Step as RunStep, by_job, places_of};
 ghost use Rattle.pb_steps.specs.Stands.{IsInstance};
 ghost use Rattle.pb_run_graph.specs.Ready.{AreStanding, CanMake, CanPlace, CanPlaceJob, CanPlaceParts, HasSeat, IsMadeFor, copied_places, seated_places};
 

@@ -1,7 +1,7 @@
 ghost use Rattle.std.specs.Prelude.{◌≡◌, ◌+◌, IfOk, map};
 ghost use Rattle.std.specs.List.{All};
 ghost use Rattle.pb_views.specs.Seats.{spot_at};
-ghost use Rattle.pb_runs.specs.Steps.{from_corner};
+ghost use Rattle.pb_steps.specs.Handed.{from_corner};
 ghost use Rattle.pb_run_graph.specs.Ready.{HasSeat, IsAmong, part_spot, seated, source_spot};
 
 use pb_frame::FramePart;

@@ -3,7 +3,7 @@ ghost use Rattle.std.specs.List.{All};
 ghost use Rattle.pb_program.specs.Trees.{bare_prog};
 ghost use Rattle.pb_frame.specs.Frames.{JobValue};
 ghost use Rattle.pb_plan.specs.Tasks.{kind_for};
-ghost use Rattle.pb_runs.specs.Steps.{Step as RunStep};
+ghost use Rattle.pb_steps.specs.Handed.{Step as RunStep};
 ghost use Rattle.pb_run_plan.specs.RunTasks.{call_of, kind_of};
 ghost use Rattle.pb_run_graph.specs.Ready.{AreMadeWith, CanMake, IsMadeFor, IsTaskWith};
 

@@ -224,3 +224,56 @@ fn a_walk_can_be_begun_again_with_other_rectangles(rt: HostRuntime) -> Result<()
     assert_eq!(rt; said(alloc, &mut walk, 3)?.as_str(), "0700 1710 .");
     Ok(())
 }
+
+// The next places line by line, each line as its rectangle, the first and the last of its places and how many they are; a dot where
+// none is left.
+fn lines(alloc: Global, steps: &[Step], pieces: &[Spot]) -> Result<String, AllocError>
+    requires { length pieces.now ≤ 2 ^ 32 }
+{
+    let mut walk = begun(alloc, steps, pieces)?;
+    let mut text = String::new(alloc);
+    for _ in 0..9 {
+        match walk.stretch() {
+            Some(line) => {
+                let (x, y) = line.place(0);
+                let (a, b) = line.place(line.count - 1);
+                text.push_str(format!(in alloc;
+                    "{}:{}{}-{}{}*{} ",
+                    line.piece, x, y, a, b, line.count
+                )?.as_str())?
+            }
+            None => {
+                text.push_str(".")?;
+                return Ok(text);
+            }
+        }
+    }
+    Ok(text)
+}
+
+#[test]
+fn lines_go_as_far_as_no_other_rectangle_stands_between(rt: HostRuntime) -> Result<(), Fail> {
+    let alloc = rt.alloc();
+    let one = [spot(7, 1, 4, 0, 2)];
+    assert_eq!(rt; lines(alloc, &[], &one)?.as_str(), "0:10-30*3 0:11-31*3 .");
+    assert_eq!(rt;
+        lines(alloc, &[LEFT, UP], &one)?.as_str(),
+        "0:31-30*2 0:21-20*2 0:11-10*2 ."
+    );
+    // One row is a line whichever way the list goes.
+    let row = [spot(7, 1, 4, 5, 6)];
+    assert_eq!(rt; lines(alloc, &[LEFT], &row)?.as_str(), "0:35-15*3 .");
+    assert_eq!(rt; lines(alloc, &[DOWN], &row)?.as_str(), "0:15-35*3 .");
+    // Side by side each has its piece of a row; where two have the same places, they take turns.
+    let two = [spot(7, 1, 3, 0, 2), spot(7, 3, 5, 0, 2)];
+    assert_eq!(rt;
+        lines(alloc, &[DOWN], &two)?.as_str(),
+        "0:10-20*2 1:30-40*2 0:11-21*2 1:31-41*2 ."
+    );
+    let twice = [spot(7, 1, 3, 0, 1), spot(7, 1, 3, 0, 1)];
+    assert_eq!(rt;
+        lines(alloc, &[], &twice)?.as_str(),
+        "0:10-10*1 1:10-10*1 0:20-20*1 1:20-20*1 ."
+    );
+    Ok(())
+}

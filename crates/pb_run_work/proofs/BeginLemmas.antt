@@ -45,14 +45,14 @@ use Rattle.pb_recursion.specs.Shapes.{can_enter, sides_of_decl}
 use Rattle.pb_steps.specs.Handed.{AreFew, AreMany, OfRun}
 use Rattle.pb_steps.specs.Handed.{counter_at, sized_count}
 use Rattle.pb_steps.proofs.Handed.{counted_run}
-use Rattle.pb_runs.specs.Laws.{IsEntered}
-use Rattle.pb_runs.specs.Matrices.{matrices_at, run_matrices}
-use Rattle.pb_runs.specs.Placed.{greatest_side, total}
-use Rattle.pb_runs.specs.Steps.{Step, places_of}
-use Rattle.pb_runs.specs.Unrolled.{Met, unrolled_run}
-use Rattle.pb_runs.proofs.BaseLemmas.{total_append}
-use Rattle.pb_runs.proofs.RunLemmas.{run_tally}
-use Rattle.pb_runs.proofs.TallyLemmas.{greatest_append}
+use Rattle.pb_steps.specs.Handed.{IsEntered}
+use Rattle.pb_steps.specs.Handed.{matrices_at, run_matrices}
+use Rattle.pb_steps.specs.Handed.{greatest_side, total}
+use Rattle.pb_steps.specs.Handed.{Step, places_of}
+use Rattle.pb_steps.specs.Handed.{Met, unrolled_run}
+use Rattle.pb_steps.proofs.Handed.{total_append}
+use Rattle.pb_steps.proofs.Handed.{run_tally}
+use Rattle.pb_steps.proofs.Handed.{greatest_append}
 use Rattle.pb_run_graph.specs.Handed.{AreTasksOf}
 use Rattle.pb_run_graph.specs.Linking.{CanBeLinked, IsTooMany}
 use Rattle.pb_run_graph.proofs.EndLemmas.{met_cells}

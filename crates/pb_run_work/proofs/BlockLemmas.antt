@@ -28,10 +28,10 @@ use Rattle.pb_plan.proofs.LinkedLemmas.{index_is}
 use Rattle.pb_solution.specs.Solutions.{stop_cell}
 use Rattle.pb_views.specs.declared.seat.Seat.{Seat}
 use Rattle.pb_walk.specs.declared.stop.Stop.{Stop}
-use Rattle.pb_runs.specs.Laws.{IsEntered}
-use Rattle.pb_runs.specs.Placed.{outcome_of}
-use Rattle.pb_runs.specs.Steps.{by_job, cells_of, stop_number}
-use Rattle.pb_runs.proofs.RunLemmas.{ms, run}
+use Rattle.pb_steps.specs.Handed.{IsEntered}
+use Rattle.pb_steps.specs.Handed.{outcome_of}
+use Rattle.pb_steps.specs.Handed.{by_job, cells_of, stop_number}
+use Rattle.pb_steps.proofs.Handed.{ms, run}
 use Rattle.pb_run_graph.specs.Handed.{AreTasksOf, plan_of_run, step_order}
 use Rattle.pb_jobs.specs.Instances.{InstanceValue, of_sizes, of_transform}
 use Rattle.pb_jobs.specs.Tasks.{IsBlockTask, IsListed}

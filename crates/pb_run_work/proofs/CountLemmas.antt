@@ -3,7 +3,7 @@ use Rattle.std.proofs.Common.{◌≡◌, ap, ℕ, zero, suc, ◌+◌, ◌<◌, �
 use Rattle.std.proofs.lemmas.List.{length-map}
 use Rattle.pb_values.specs.declared.outcome.Outcome.TheVariants.{Value}
 use Rattle.pb_matrix.specs.Value.{MatrixValue}
-use Rattle.pb_runs.specs.Placed.{total}
+use Rattle.pb_steps.specs.Handed.{total}
 use Rattle.pb_run_work.specs.Given.{given_as}
 
 total_more : (ms : List MatrixValue) (i : ℕ) (m : MatrixValue) → i < length ms → m ≡ get_or ms i m → total (given_as (take (suc i) ms)) ≡ total (given_as (take i ms)) + length m.cells

@@ -10,7 +10,7 @@ use Rattle.pb_matrix.specs.Value.{MatrixValue}
 use Rattle.pb_model.specs.Calls.{Outcomes, no_outcome}
 use Rattle.pb_taskgraph.specs.Plans.{IsSmall, outcome_at}
 use Rattle.pb_solution.specs.Solutions.{outcomes_of}
-use Rattle.pb_runs.specs.Placed.{total}
+use Rattle.pb_steps.specs.Handed.{total}
 use Rattle.pb_run_work.specs.Given.{given_as, outcomes_in}
 
 pub index_left : (xs ys : List Outcome) (k : ℕ) (d : Outcome) → k < length xs → slice_index_or (xs ++ ys) k d ≡ slice_index_or xs k d

@@ -14,7 +14,7 @@ use Rattle.pb_plan.proofs.LinkedLemmas.{at_zip}
 use Rattle.pb_views.specs.Seats.{seat_cells}
 use Rattle.pb_views.specs.declared.seat.Seat.{Seat}
 use Rattle.pb_walk.specs.Walks.{walk_of}
-use Rattle.pb_runs.specs.Steps.{Copied, Failed, Step, by_copy, by_job, by_trap}
+use Rattle.pb_steps.specs.Handed.{Copied, Failed, Step, by_copy, by_job, by_trap}
 use Rattle.pb_steps.specs.Runs.{UnrolledValue}
 use Rattle.pb_steps.specs.Stands.{AreViewsOf, IsStep}
 use Rattle.pb_steps.specs.Values.{CopiedValue, FailedValue, InstanceValue}

@@ -15,7 +15,7 @@ use Rattle.pb_plan.proofs.JobLemmas.{at_map}
 use Rattle.pb_taskgraph.specs.Graphs.{GraphValue}
 use Rattle.pb_views.specs.Layouts.{AreInARow, HasShortSides, cell_count}
 use Rattle.pb_recursion.specs.Depths.{sizes_given}
-use Rattle.pb_runs.specs.Placed.{total}
+use Rattle.pb_steps.specs.Handed.{total}
 use Rattle.pb_steps.specs.Runs.{UnrolledValue}
 use Rattle.pb_run_graph.specs.Linking.{CanBeLinked}
 use Rattle.pb_jobs.specs.declared.room.Rooms.{Rooms}

@@ -17,7 +17,7 @@ use Rattle.pb_views.specs.Seats.{across, cell_at, down, no_seat}
 use Rattle.pb_walk.specs.Walks.{IsIn, walk_of}
 use Rattle.pb_walk.specs.declared.stop.Stop.{Stop}
 use Rattle.pb_walk.proofs.WalkLemmas.{walk_in}
-use Rattle.pb_runs.specs.Steps.{Instance, seat_in, stop_number}
+use Rattle.pb_steps.specs.Handed.{Instance, seat_in, stop_number}
 use Rattle.pb_steps.specs.Stands.{AreViewsOf}
 use Rattle.pb_run_graph.specs.Ready.{IsSeatedPart}
 use Rattle.pb_jobs.proofs.ListLemmas.{all_at, some_at}

@@ -22,14 +22,14 @@ use Rattle.pb_plan.proofs.LinkedLemmas.{index_is}
 use Rattle.pb_solution.proofs.MayLemmas.{map_same}
 use Rattle.pb_views.specs.Seats.{seat_cells}
 use Rattle.pb_walk.specs.declared.stop.Stop.{Stop}
-use Rattle.pb_runs.specs.Laws.{IsEntered, MayUse}
-use Rattle.pb_runs.specs.Placed.{outcome_of, total}
-use Rattle.pb_runs.specs.Right.{source_number}
-use Rattle.pb_runs.specs.Steps.{Copied, Failed, Instance, Step, by_copy, by_trap, cells_of, copied_stops, stop_number}
-use Rattle.pb_runs.proofs.BaseLemmas.{total_append}
-use Rattle.pb_runs.proofs.LinkLemmas.{in_steps}
-use Rattle.pb_runs.proofs.RunLemmas.{made, ms, run, run_only, run_right}
-use Rattle.pb_runs.proofs.UseLemmas.{copied_use}
+use Rattle.pb_steps.specs.Handed.{IsEntered, MayUse}
+use Rattle.pb_steps.specs.Handed.{outcome_of, total}
+use Rattle.pb_steps.specs.Handed.{source_number}
+use Rattle.pb_steps.specs.Handed.{Copied, Failed, Instance, Step, by_copy, by_trap, cells_of, copied_stops, stop_number}
+use Rattle.pb_steps.proofs.Handed.{total_append}
+use Rattle.pb_steps.proofs.Handed.{in_steps}
+use Rattle.pb_steps.proofs.Handed.{made, ms, run, run_only, run_right}
+use Rattle.pb_steps.proofs.Handed.{copied_use}
 use Rattle.pb_steps.specs.Stands.{AreViewsOf}
 use Rattle.pb_run_graph.specs.Handed.{AreTasksOf, plan_of_run, step_order}
 use Rattle.pb_run_graph.proofs.Handed.{may_read}

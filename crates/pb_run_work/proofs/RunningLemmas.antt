@@ -20,8 +20,8 @@ use Rattle.pb_taskgraph.specs.Plans.{IsPlan, outcome_at}
 use Rattle.pb_taskgraph.specs.Turns.{Begins}
 use Rattle.pb_solution.specs.Solutions.{outcomes_of}
 use Rattle.pb_walk.specs.Walks.{walk_of}
-use Rattle.pb_runs.specs.Matrices.{matrices_at}
-use Rattle.pb_runs.specs.Placed.{total}
+use Rattle.pb_steps.specs.Handed.{matrices_at}
+use Rattle.pb_steps.specs.Handed.{total}
 use Rattle.pb_run_graph.specs.Handed.{plan_of_run}
 use Rattle.pb_run_graph.proofs.Handed.{is_plan}
 use Rattle.pb_run_graph.specs.Linking.{CanBeLinked}

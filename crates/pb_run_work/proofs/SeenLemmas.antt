@@ -28,7 +28,7 @@ use Rattle.pb_taskgraph.specs.Turns.{Begins}
 use Rattle.pb_plan.specs.Boxes.{spot_of}
 use Rattle.pb_solution.specs.Solutions.{steps_by}
 use Rattle.pb_walk.specs.Walks.{walk_of}
-use Rattle.pb_runs.specs.Steps.{Step, by_copy, by_job, by_trap}
+use Rattle.pb_steps.specs.Handed.{Step, by_copy, by_job, by_trap}
 use Rattle.pb_steps.specs.Runs.{UnrolledValue}
 use Rattle.pb_steps.specs.Stands.{IsSeatFor, IsSeated, IsStep}
 use Rattle.pb_steps.specs.Values.{InstanceValue}

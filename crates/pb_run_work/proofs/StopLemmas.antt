@@ -44,14 +44,14 @@ use Rattle.pb_views.specs.Seats.{IsSmall, across, cell_at, down, no_seat}
 use Rattle.pb_views.specs.Windows.{number_in}
 use Rattle.pb_views.specs.declared.seat.Seat.{Seat}
 use Rattle.pb_walk.specs.declared.stop.Stop.{Stop}
-use Rattle.pb_runs.specs.Laws.{IsEntered}
-use Rattle.pb_runs.specs.Placed.{outcome_of}
-use Rattle.pb_runs.specs.Right.{no_plans}
-use Rattle.pb_runs.specs.Steps.{Instance, by_job, number_at, stop_number}
-use Rattle.pb_runs.proofs.OriginLemmas.{IsJobOf}
-use Rattle.pb_runs.proofs.OwnLemmas.{side_below}
-use Rattle.pb_runs.proofs.RunLemmas.{ms, run, run_right}
-use Rattle.pb_runs.proofs.UseLemmas.{instance, job_use, of_job, of_made, origin, read_cell}
+use Rattle.pb_steps.specs.Handed.{IsEntered}
+use Rattle.pb_steps.specs.Handed.{outcome_of}
+use Rattle.pb_steps.specs.Handed.{no_plans}
+use Rattle.pb_steps.specs.Handed.{Instance, by_job, number_at, stop_number}
+use Rattle.pb_steps.proofs.Handed.{IsJobOf}
+use Rattle.pb_steps.proofs.Handed.{side_below}
+use Rattle.pb_steps.proofs.Handed.{ms, run, run_right}
+use Rattle.pb_steps.proofs.Handed.{instance, job_use, of_job, of_made, origin, read_cell}
 use Rattle.pb_steps.specs.Stands.{AreViewsOf, IsSeatFor}
 use Rattle.pb_run_graph.specs.Handed.{AreTasksOf, plan_of_run}
 use Rattle.pb_run_graph.proofs.Handed.{may_read}

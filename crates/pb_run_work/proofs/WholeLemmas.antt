@@ -35,10 +35,10 @@ use Rattle.pb_solution.proofs.OrderLemmas.{made_stop}
 use Rattle.pb_views.specs.Windows.{number_in}
 use Rattle.pb_views.specs.declared.seat.Seat.{Seat}
 use Rattle.pb_walk.specs.declared.stop.Stop.{Stop}
-use Rattle.pb_runs.specs.Laws.{IsEntered}
-use Rattle.pb_runs.specs.Steps.{by_job}
-use Rattle.pb_runs.proofs.OriginLemmas.{IsJobOf}
-use Rattle.pb_runs.proofs.RunLemmas.{ms, run}
+use Rattle.pb_steps.specs.Handed.{IsEntered}
+use Rattle.pb_steps.specs.Handed.{by_job}
+use Rattle.pb_steps.proofs.Handed.{IsJobOf}
+use Rattle.pb_steps.proofs.Handed.{ms, run}
 use Rattle.pb_run_graph.specs.Handed.{AreTasksOf}
 use Rattle.pb_jobs.specs.Instances.{InstanceValue, of_sizes, of_transform}
 use Rattle.pb_jobs.specs.Tasks.{IsWholeTask, solved_by}

@@ -19,7 +19,7 @@ use Rattle.pb_views.specs.Layouts.{HasShortSides, cell_count}
 use Rattle.pb_views.specs.Seats.{IsSmall}
 use Rattle.pb_steps.specs.Handed.{AreFew}
 use Rattle.pb_recursion.specs.Depths.{sizes_given}
-use Rattle.pb_runs.specs.Laws.{IsEntered}
+use Rattle.pb_steps.specs.Handed.{IsEntered}
 use Rattle.pb_steps.specs.Values.{InstanceValue}
 use Rattle.pb_steps.specs.declared.step.Step.{Step}
 use Rattle.pb_steps.specs.declared.step.Step.TheVariants as step

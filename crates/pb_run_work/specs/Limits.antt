@@ -10,8 +10,8 @@ use Rattle.pb_taskgraph.specs.declared.limits.TheConstants.{MOST_LINKS, MOST_TAS
 use Rattle.pb_recursion.specs.Counts.{Counted, run_count}
 use Rattle.pb_recursion.specs.Depths.{sides_of_matrix}
 use Rattle.pb_steps.specs.Handed.{AreFew, AreMany}
-use Rattle.pb_runs.specs.Steps.{Step, places_of}
-use Rattle.pb_runs.specs.Unrolled.{unrolled_run}
+use Rattle.pb_steps.specs.Handed.{Step, places_of}
+use Rattle.pb_steps.specs.Handed.{unrolled_run}
 pub use Rattle.pb_run_graph.specs.Linking.{IsTooMany}
 
 -- a run of a transform by its number with some matrices

@@ -6,9 +6,9 @@ use Rattle.pb_check.specs.Accepting.{AcceptedValue}
 use Rattle.pb_taskgraph.specs.Graphs.{TaskValue}
 use Rattle.pb_taskgraph.specs.Plans.{Plan}
 use Rattle.pb_recursion.specs.Depths.{sides_of_matrix}
-use Rattle.pb_runs.specs.Matrices.{run_matrices}
-use Rattle.pb_runs.specs.Steps.{Step}
-use Rattle.pb_runs.specs.Unrolled.{unrolled_run}
+use Rattle.pb_steps.specs.Handed.{run_matrices}
+use Rattle.pb_steps.specs.Handed.{Step}
+use Rattle.pb_steps.specs.Handed.{unrolled_run}
 use Rattle.pb_steps.specs.Runs.{UnrolledValue}
 use Rattle.pb_run_graph.specs.Handed.{plan_of_run}
 use Rattle.pb_run_graph.specs.Linking.{CanBeLinked}

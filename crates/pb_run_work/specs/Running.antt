@@ -21,10 +21,10 @@ use Rattle.pb_taskgraph.specs.Plans.{IsSmall, Plan}
 use Rattle.pb_views.specs.Layouts.{AreInARow, HasShortSides}
 use Rattle.pb_steps.specs.Handed.{AreFew}
 use Rattle.pb_recursion.specs.Depths.{call_at, sides_of_matrix, sizes_given}
-use Rattle.pb_runs.specs.Laws.{IsEntered}
-use Rattle.pb_runs.specs.Matrices.{run_matrices}
-use Rattle.pb_runs.specs.Steps.{Step}
-use Rattle.pb_runs.specs.Unrolled.{unrolled_run}
+use Rattle.pb_steps.specs.Handed.{IsEntered}
+use Rattle.pb_steps.specs.Handed.{run_matrices}
+use Rattle.pb_steps.specs.Handed.{Step}
+use Rattle.pb_steps.specs.Handed.{unrolled_run}
 use Rattle.pb_run_graph.specs.Handed.{AreTasksOf, IsWithinLimits, plan_of_run, run_graph}
 use Rattle.pb_steps.specs.Runs.{UnrolledValue}
 use Rattle.pb_steps.specs.Stands.{AreSeated, AreSteps, AreViewsOf, met_of}

@@ -5,7 +5,7 @@ ghost use Rattle.pb_program.specs.Trees.{bare_prog};
 ghost use Rattle.pb_region.specs.Dims.{HasTransform};
 ghost use Rattle.pb_entry.specs.declared.refusal.RunRefusal.TheVariants.{Memory};
 ghost use Rattle.pb_recursion.specs.Depths.{sides_of_matrix};
-ghost use Rattle.pb_runs.specs.Placed.{total};
+ghost use Rattle.pb_steps.specs.Handed.{total};
 ghost use Rattle.pb_run_graph.specs.Linking.{IsTooMany};
 ghost use Rattle.pb_taskgraph.specs.declared.limits.TheConstants.{MOST_CELLS};
 ghost use Rattle.pb_run_work.specs.Given.{IsWhole, given_as};

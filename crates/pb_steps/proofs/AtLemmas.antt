@@ -32,8 +32,8 @@ use Rattle.pb_recursion.specs.Plans.{Names, argument_sides, calls_of_rule, fits_
 use Rattle.pb_recursion.specs.Depths.{trapped_by}
 use Rattle.pb_recursion.specs.Shapes.{fits, sizes_from}
 use Rattle.pb_views.specs.declared.seat.Seat.{Seat}
-use Rattle.pb_runs.specs.Steps.{Instance, by_job}
-use Rattle.pb_runs.specs.Unrolled.{Met, Unroll, Unrolled, copies_of, deeper_unroll, failed, given_back, job_done, plan_done, played, targets_of, unroll, unrolled_by, view_seat}
+use Rattle.pb_counts.specs.Handed.{Instance, by_job}
+use Rattle.pb_counts.specs.Handed.{Met, Unroll, Unrolled, copies_of, deeper_unroll, failed, given_back, job_done, plan_done, played, targets_of, unroll, unrolled_by, view_seat}
 use Rattle.pb_steps.specs.Runs.{UnrolledValue}
 use Rattle.pb_steps.specs.Rules.{IsOf, IsPlanAt, IsPlanRule, IsStepAlone}
 use Rattle.pb_steps.specs.Stands.{Appends, AreSeated, Goes, GoesBy, GoesByCall, GoesByPlay, IsInstance, IsJobAt, IsSeated, IsShowing, met_of, shown_seat}

@@ -13,8 +13,8 @@ use Rattle.pb_recursion.specs.Plans.{Names, named}
 use Rattle.pb_recursion.specs.Shapes.{sizes_from}
 use Rattle.pb_views.specs.Seats.{no_seat, sides_of_seat}
 use Rattle.pb_views.specs.declared.seat.Seat.{Seat}
-use Rattle.pb_runs.specs.Steps.{Instance}
-use Rattle.pb_runs.specs.Unrolled.{Met, Played, Player, Unroll, Unrolled, deeper_unroll, instance_of, job_done, jobs_done, played, unroll, unrolled_at}
+use Rattle.pb_counts.specs.Handed.{Instance}
+use Rattle.pb_counts.specs.Handed.{Met, Played, Player, Unroll, Unrolled, deeper_unroll, instance_of, job_done, jobs_done, played, unroll, unrolled_at}
 use Rattle.pb_steps.specs.Runs.{UnrolledValue}
 use Rattle.pb_steps.specs.Stands.{Goes, GoesBy, GoesByCall, GoesByPlay, IsEnteredAs, IsInstance, IsSeated, met_of}
 use Rattle.pb_steps.specs.Values.{InstanceValue}

@@ -14,8 +14,8 @@ use Rattle.pb_plan.proofs.JobLemmas.{map_at}
 use Rattle.pb_recursion.specs.Plans.{Names, named}
 use Rattle.pb_views.specs.Seats.{no_seat}
 use Rattle.pb_views.specs.declared.seat.Seat.{Seat}
-use Rattle.pb_runs.specs.Steps.{Instance, by_copy, by_trap}
-use Rattle.pb_runs.specs.Unrolled.{copies_of, copy_step, output_parts, output_rect, trap_step}
+use Rattle.pb_counts.specs.Handed.{Instance, by_copy, by_trap}
+use Rattle.pb_counts.specs.Handed.{copies_of, copy_step, output_parts, output_rect, trap_step}
 use Rattle.pb_steps.specs.Stands.{Appends, IsJobAt, common_parts}
 use Rattle.pb_steps.specs.Values.{CopiedValue, FailedValue, InstanceValue}
 use Rattle.pb_steps.specs.declared.step.Step.{Step as StepValue}

@@ -30,7 +30,7 @@ use Rattle.pb_recursion.specs.Shapes.{all_same_sides, are_in_range, can_enter, s
 use Rattle.pb_recursion.proofs.ShapeLemmas.{range_is, same_is}
 use Rattle.pb_views.specs.Seats.{IsSmall, sides_of_seat}
 use Rattle.pb_views.specs.declared.seat.Seat.{Seat}
-use Rattle.pb_runs.specs.Unrolled.{Met, after_call, after_matrices, after_matrix, own_sides, seats_from}
+use Rattle.pb_counts.specs.Handed.{Met, after_call, after_matrices, after_matrix, own_sides, seats_from}
 use Rattle.pb_steps.specs.Runs.{UnrolledValue}
 use Rattle.pb_steps.specs.Stands.{AreSeated, Grows, IsEnteredAs, IsSeated, IsSeatFor, met_of}
 use Rattle.pb_steps.specs.Values.{InstanceValue}

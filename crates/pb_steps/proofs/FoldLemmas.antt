@@ -10,8 +10,8 @@ use Rattle.pb_recursion.specs.Plans.{Names, named}
 use Rattle.pb_recursion.specs.Shapes.{sizes_from}
 use Rattle.pb_views.specs.Seats.{no_seat, sides_of_seat}
 use Rattle.pb_views.specs.declared.seat.Seat.{Seat}
-use Rattle.pb_runs.specs.Steps.{Instance}
-use Rattle.pb_runs.specs.Unrolled.{Done, Met, Played, Player, Unroll, Unrolled, deeper_unroll, job_done, jobs_done, played, unroll, unroll_one, unrolled_at}
+use Rattle.pb_counts.specs.Handed.{Instance}
+use Rattle.pb_counts.specs.Handed.{Done, Met, Played, Player, Unroll, Unrolled, deeper_unroll, job_done, jobs_done, played, unroll, unroll_one, unrolled_at}
 
 -- ---- jobs
 module _ (p : List ProgTransform) (deeper : Option Unroll) (i : Instance) where

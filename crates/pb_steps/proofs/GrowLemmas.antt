@@ -6,8 +6,8 @@ use Rattle.pb_program.specs.Trees.{ProgTransform, bare_prog}
 use Rattle.pb_check.specs.Accepting.{AcceptedValue}
 use Rattle.pb_check.specs.Orders.{AnalysisValue}
 use Rattle.pb_frame.specs.Frames.{JobValue}
-use Rattle.pb_runs.specs.Steps.{Instance, Step, by_copy, by_job, by_trap}
-use Rattle.pb_runs.specs.Unrolled.{Met}
+use Rattle.pb_counts.specs.Handed.{Instance, Step, by_copy, by_job, by_trap}
+use Rattle.pb_counts.specs.Handed.{Met}
 use Rattle.pb_steps.specs.Stands.{Appends, AreSteps, Goes, Grows, IsJobAt, IsStep, met_of}
 use Rattle.pb_steps.specs.Values.{InstanceValue}
 use Rattle.pb_steps.specs.Runs.{UnrolledValue}

@@ -2,7 +2,7 @@
 use Rattle.std.proofs.Common.{◌≡◌, ◌∙◌, refl, sym, ap, ℕ, ◌<◌, List, [], ◌∷◌, ◌++◌, get_or, length, take, ◌+◌}
 use Rattle.pb_recursion.specs.Shapes.{Sides}
 use Rattle.pb_views.specs.declared.seat.Seat.{Seat}
-use Rattle.pb_runs.specs.Unrolled.{Met, after_matrices, after_matrix, seats_from, whole_seat}
+use Rattle.pb_counts.specs.Handed.{Met, after_matrices, after_matrix, seats_from, whole_seat}
 use Rattle.pb_steps.proofs.ListLemmas.{take_at}
 
 one_more : (n : Met) (ss : List Sides) (s : Sides) → seats_from n (ss ++ s ∷ []) ≡ seats_from n ss ++ whole_seat (after_matrices n ss) s ∷ []

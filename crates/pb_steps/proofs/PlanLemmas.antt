@@ -31,7 +31,7 @@ use Rattle.pb_plan.proofs.ReadableLemmas.{have_nodes}
 use Rattle.pb_views.specs.Seats.{IsSmall, across, down}
 use Rattle.pb_views.specs.Layouts.{HasShortSides}
 use Rattle.pb_views.specs.declared.seat.Seat.{Seat}
-use Rattle.pb_runs.proofs.BoxLemmas.{IsSituated, whole_applies}
+use Rattle.pb_counts.proofs.Handed.{IsSituated, whole_applies}
 use Rattle.pb_steps.specs.Stands.{CanShow, IsSeated, IsSeatFor, IsShowing}
 use Rattle.pb_steps.specs.Values.{InstanceValue}
 use Rattle.pb_steps.proofs.CallLemmas.{instance_for}

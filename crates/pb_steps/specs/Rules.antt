@@ -9,8 +9,8 @@ use Rattle.pb_program.specs.Rules.{RuleValue}
 use Rattle.pb_program.specs.Transforms.{TransformValue}
 use Rattle.pb_program.specs.Trees.{ProgTransform, bare_transform}
 use Rattle.pb_program.specs.declared.rule.RuleKind.TheVariants as kind
-use Rattle.pb_runs.specs.Steps.{Instance, by_job}
-use Rattle.pb_runs.specs.Unrolled.{Met, Unroll, job_done}
+use Rattle.pb_counts.specs.Handed.{Instance, by_job}
+use Rattle.pb_counts.specs.Handed.{Met, Unroll, job_done}
 use Rattle.pb_steps.specs.Values.{InstanceValue}
 
 -- the instance with this number has a job with this number

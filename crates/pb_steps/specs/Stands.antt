@@ -24,9 +24,9 @@ use Rattle.pb_plan.specs.Made.{jobs_for}
 use Rattle.pb_region.specs.Small.{IsSmallRead}
 use Rattle.pb_views.specs.Seats.{IsSmall, across, cell_at, down, no_seat, part_seat, sides_of_seat}
 use Rattle.pb_views.specs.declared.seat.Seat.{Seat}
-use Rattle.pb_runs.specs.Steps.{Copied, Instance, Step, by_copy, by_job, by_trap}
+use Rattle.pb_counts.specs.Handed.{Copied, Instance, Step, by_copy, by_job, by_trap}
 use Rattle.pb_recursion.specs.Shapes.{sizes_from}
-use Rattle.pb_runs.specs.Unrolled.{Done, Met, Played, Unrolled, after_call, after_matrices, instance_of, own_sides, seats_from}
+use Rattle.pb_counts.specs.Handed.{Done, Met, Played, Unrolled, after_call, after_matrices, instance_of, own_sides, seats_from}
 use Rattle.pb_steps.specs.Values.{CopiedValue, InstanceValue}
 use Rattle.pb_steps.specs.Runs.{UnrolledValue}
 use Rattle.pb_steps.specs.declared.met.Met.{Met as MetValue}

@@ -6,7 +6,7 @@ use Rattle.pb_frame.specs.Frames.{JobValue}
 use Rattle.pb_frame.specs.declared.part.FramePart.{FramePart}
 use Rattle.pb_program.specs.declared.plan.Slot.{Slot}
 use Rattle.pb_views.specs.declared.seat.Seat.{Seat}
-use Rattle.pb_runs.specs.Steps.{Target}
+use Rattle.pb_counts.specs.Handed.{Target}
 
 pub record InstanceValue : Type 0 where
   pub call : ℕ

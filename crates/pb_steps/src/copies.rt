@@ -4,8 +4,8 @@ ghost use Rattle.pb_frame.specs.Frames.{JobValue};
 ghost use Rattle.pb_plan.specs.Boxes.{HasNodes, whole_box};
 ghost use Rattle.pb_program.specs.Trees.{ProgTransform};
 ghost use Rattle.pb_program.specs.declared.view.Read.{Read};
-ghost use Rattle.pb_runs.specs.Steps.{Instance as RunInstance};
-ghost use Rattle.pb_runs.specs.Unrolled.{copies_of, copy_step};
+ghost use Rattle.pb_counts.specs.Handed.{Instance as RunInstance};
+ghost use Rattle.pb_counts.specs.Handed.{copies_of, copy_step};
 ghost use Rattle.pb_steps.specs.Stands.{Appends, IsJobAt, common_parts, is_common};
 ghost use Rattle.pb_steps.specs.Values.{InstanceValue};
 

@@ -9,7 +9,7 @@ ghost use Rattle.pb_values.specs.declared.outcome.Outcome.TheVariants.{Trapped};
 ghost use Rattle.pb_check.specs.Orders.{AnalysisValue};
 ghost use Rattle.pb_recursion.specs.Plans.{target_sides};
 ghost use Rattle.pb_views.specs.Seats.{IsSmall};
-ghost use Rattle.pb_runs.specs.Unrolled.{failed, no_target, seat_has_cells, target_of, targets_of, trap_step};
+ghost use Rattle.pb_counts.specs.Handed.{failed, no_target, seat_has_cells, target_of, targets_of, trap_step};
 ghost use Rattle.pb_steps.specs.Stands.{Appends, met_of};
 ghost use Rattle.pb_steps.specs.Values.{InstanceValue};
 

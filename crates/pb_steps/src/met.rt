@@ -2,7 +2,7 @@ ghost use Rattle.std.specs.Prelude.{◌≡◌, ◌+◌, ◌<◌, ◌^◌, IfOk, 
 ghost use Rattle.std.specs.List.{All};
 ghost use Rattle.pb_model.specs.Cells.{natural};
 ghost use Rattle.pb_views.specs.Seats.{IsSmall};
-ghost use Rattle.pb_runs.specs.Unrolled.{after_call, after_matrices, after_matrix, nothing_met, seats_from, whole_seat};
+ghost use Rattle.pb_counts.specs.Handed.{after_call, after_matrices, after_matrix, nothing_met, seats_from, whole_seat};
 ghost use Rattle.pb_steps.specs.Stands.{met_of};
 
 use pb_taskgraph::MOST_CELLS;

@@ -36,7 +36,7 @@ pub struct Target {
 }
 
 impl Model for Target {
-    ghost use Rattle.pb_runs.specs.Steps.{Target};
+    ghost use Rattle.pb_counts.specs.Handed.{Target};
 
     ghost Value = { Target };
 

@@ -7,7 +7,7 @@ use Rattle.pb_entry.specs.declared.refusal.RunRefusal.TheVariants.{Memory, TooLa
 use Rattle.pb_links.specs.Links.{all_predecessors, all_successors, link_count}
 use Rattle.pb_links.specs.Spots.{AllWithin, PlacesValue}
 use Rattle.pb_taskgraph.specs.declared.limits.TheConstants.{MOST_LINKS, MOST_TASKS}
-use Rattle.pb_runs.specs.Steps.{Step, places_of}
+use Rattle.pb_steps.specs.Handed.{Step, places_of}
 use Rattle.pb_steps.specs.Runs.{UnrolledValue}
 use Rattle.pb_steps.specs.Stands.{AreSteps}
 use Rattle.pb_run_graph.specs.Linking.{IsTooMany}

@@ -2,7 +2,7 @@ use Rattle.std.proofs.Common.{◌≡◌, ◌∙◌, List, ap, arith, get_or, len
 use Rattle.pb_program.specs.Trees.{bare_prog}
 use Rattle.pb_links.specs.Spots.{PlacesValue}
 use Rattle.pb_plan.proofs.TaskLemmas.{zip_next}
-use Rattle.pb_runs.specs.Steps.{places_of}
+use Rattle.pb_steps.specs.Handed.{places_of}
 use Rattle.pb_steps.specs.Runs.{UnrolledValue}
 use Rattle.pb_steps.specs.declared.step.Step.{Step as StepValue}
 use Rattle.pb_run_graph.specs.Ready.{IsMadeFor}

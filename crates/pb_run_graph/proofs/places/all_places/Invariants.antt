@@ -1,7 +1,7 @@
 use Rattle.std.proofs.Common.{◌≡◌, take}
 use Rattle.std.specs.List.{AllZip}
 use Rattle.pb_program.specs.Trees.{bare_prog}
-use Rattle.pb_runs.specs.Steps.{places_of}
+use Rattle.pb_steps.specs.Handed.{places_of}
 use Rattle.pb_run_graph.specs.Ready.{IsMadeFor}
 use Rattle.pb_run_graph.proofs.places.all_places.Given as goal
 

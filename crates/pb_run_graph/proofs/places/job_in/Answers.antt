@@ -3,7 +3,7 @@ use Rattle.pb_linear.specs.Sizes.{sizes_of}
 use Rattle.pb_program.specs.Trees.{bare_prog, bare_transform}
 use Rattle.pb_frame.specs.Frames.{JobValue}
 use Rattle.pb_frame.proofs.FoundLemmas.{if_ok}
-use Rattle.pb_runs.specs.Steps.{by_job, places_of}
+use Rattle.pb_steps.specs.Handed.{by_job, places_of}
 use Rattle.pb_steps.specs.Values.{InstanceValue}
 use Rattle.pb_run_graph.proofs.MadeLemmas.{job_same, same_item}
 use Rattle.pb_run_graph.proofs.places.job_in.Goals as goal

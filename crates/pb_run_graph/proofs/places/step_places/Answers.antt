@@ -1,7 +1,7 @@
 use Rattle.std.proofs.Common.{◌≡◌, ◌∙◌, ap, get_or, subst, sym}
 use Rattle.pb_program.specs.Trees.{bare_prog}
 use Rattle.pb_frame.proofs.FoundLemmas.{if_ok}
-use Rattle.pb_runs.specs.Steps.{places_of}
+use Rattle.pb_steps.specs.Handed.{places_of}
 use Rattle.pb_steps.specs.Values.{CopiedValue}
 use Rattle.pb_run_graph.specs.Ready.{IsMadeFor}
 use Rattle.pb_run_graph.proofs.MadeLemmas.{copy_made, job_made}

@@ -3,7 +3,7 @@ use Rattle.std.proofs.lemmas.Option.{slice_get_within}
 use Rattle.pb_program.specs.Trees.{bare_prog}
 use Rattle.pb_entry.specs.declared.refusal.RunRefusal.TheVariants.{Memory}
 use Rattle.pb_recursion.specs.Shapes.{Sides}
-use Rattle.pb_runs.specs.Unrolled.{unrolled_run}
+use Rattle.pb_steps.specs.Handed.{unrolled_run}
 use Rattle.pb_run_graph.specs.Linking.{IsTooMany}
 use Rattle.pb_steps.specs.Stands.{AreSteps, met_of}
 use Rattle.pb_run_work.specs.Given.{given_as}

@@ -1,6 +1,6 @@
 use Rattle.std.proofs.Common.{◌≡◌, ◌+◌, ap, arith, length, take}
 use Rattle.pb_matrix.specs.Value.{MatrixValue}
-use Rattle.pb_runs.specs.Placed.{total}
+use Rattle.pb_steps.specs.Handed.{total}
 use Rattle.pb_run_work.specs.Given.{given_as}
 use Rattle.pb_run_work.proofs.CountLemmas.{total_next, total_part}
 use Rattle.pb_run_work.proofs.unrolled.count_cells.Goals as goal

@@ -1,5 +1,5 @@
 use Rattle.std.proofs.Common.{◌≡◌, take}
-use Rattle.pb_runs.specs.Placed.{total}
+use Rattle.pb_steps.specs.Handed.{total}
 use Rattle.pb_run_work.specs.Given.{given_as}
 use Rattle.pb_run_work.proofs.unrolled.count_cells.Given as goal
 

@@ -1,7 +1,7 @@
 use Rattle.std.proofs.Common.{refl, ap, subst, length, arith}
 use Rattle.std.proofs.lemmas.List.{length-map}
 use Rattle.pb_plan.specs.Boxes.{whole_box}
-use Rattle.pb_runs.specs.Unrolled.{copies_of}
+use Rattle.pb_counts.specs.Handed.{copies_of}
 use Rattle.pb_steps.specs.Stands.{Appends}
 use Rattle.pb_steps.proofs.CopyLemmas.{next_copy}
 use Rattle.pb_steps.proofs.ListLemmas.{take_end}

@@ -4,8 +4,8 @@ use Rattle.pb_frame.specs.Frames.{JobValue}
 use Rattle.pb_plan.specs.Boxes.{whole_box}
 use Rattle.pb_program.specs.Trees.{ProgTransform}
 use Rattle.pb_program.specs.declared.view.Read.{Read}
-use Rattle.pb_runs.specs.Steps.{Instance}
-use Rattle.pb_runs.specs.Unrolled.{copies_of}
+use Rattle.pb_counts.specs.Handed.{Instance}
+use Rattle.pb_counts.specs.Handed.{copies_of}
 use Rattle.pb_steps.specs.Stands.{Appends, IsJobAt}
 use Rattle.pb_steps.specs.Values.{InstanceValue}
 use Rattle.pb_steps.proofs.copies.add_copies.Given as goal

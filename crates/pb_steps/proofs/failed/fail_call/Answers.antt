@@ -5,7 +5,7 @@ use Rattle.pb_program.specs.Plans.{PlanCallValue}
 use Rattle.pb_program.specs.Trees.{bare_rule}
 use Rattle.pb_values.specs.declared.outcome.Outcome.TheVariants.{Trapped}
 use Rattle.pb_recursion.specs.Plans.{sides_of_slot, target_sides}
-use Rattle.pb_runs.specs.Unrolled.{after_call, seat_has_cells, seats_from, target_of, targets_of, trap_step}
+use Rattle.pb_counts.specs.Handed.{after_call, seat_has_cells, seats_from, target_of, targets_of, trap_step}
 use Rattle.pb_steps.specs.Stands.{Appends, met_of}
 use Rattle.pb_steps.proofs.failed.fail_call.Goals as goal
 

@@ -1,7 +1,7 @@
 use Rattle.std.proofs.Common.{◌≡◌, ◌∙◌, sym, ap, subst, []}
 use Rattle.std.specs.List.{AllZip}
 use Rattle.pb_program.specs.Trees.{bare_prog}
-use Rattle.pb_runs.specs.Unrolled.{after_matrices, nothing_met, seats_from, unroll}
+use Rattle.pb_counts.specs.Handed.{after_matrices, nothing_met, seats_from, unroll}
 use Rattle.pb_steps.specs.Runs.{UnrolledValue}
 use Rattle.pb_steps.specs.Stands.{AreSteps, IsStep, met_of}
 use Rattle.pb_steps.proofs.unrolling.unroll.Goals as goal

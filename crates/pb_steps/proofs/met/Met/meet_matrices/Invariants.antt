@@ -1,6 +1,6 @@
 use Rattle.std.proofs.Common.{◌≡◌, take}
 use Rattle.std.specs.List.{All}
-use Rattle.pb_runs.specs.Unrolled.{after_matrices, seats_from}
+use Rattle.pb_counts.specs.Handed.{after_matrices, seats_from}
 use Rattle.pb_views.specs.Seats.{IsSmall}
 use Rattle.pb_steps.specs.Stands.{met_of}
 use Rattle.pb_steps.proofs.met.Met.meet_matrices.Given as goal

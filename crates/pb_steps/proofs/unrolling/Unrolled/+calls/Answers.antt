@@ -20,8 +20,8 @@ use Rattle.pb_program.specs.Trees.{ProgTransform, bare_prog, bare_rule, bare_tra
 use Rattle.pb_recursion.specs.Plans.{Names, calls_of_rule, named, names_of_reads}
 use Rattle.pb_views.specs.Seats.{IsSmall, no_seat}
 use Rattle.pb_views.specs.declared.seat.Seat.{Seat}
-use Rattle.pb_runs.specs.Steps.{Instance}
-use Rattle.pb_runs.specs.Unrolled.{Unrolled, copies_of, deeper_unroll, job_done, jobs_done, plan_done, played, unroll, unrolled_by}
+use Rattle.pb_counts.specs.Handed.{Instance}
+use Rattle.pb_counts.specs.Handed.{Unrolled, copies_of, deeper_unroll, job_done, jobs_done, plan_done, played, unroll, unrolled_by}
 use Rattle.pb_steps.specs.Rules.{HasJob, IsOf, IsPlanAt}
 use Rattle.pb_steps.specs.Runs.{UnrolledValue}
 use Rattle.pb_steps.specs.Stands.{Appends, AreSeated, GoesBy, GoesByCall, GoesByPlay, IsInstance, IsSeated, IsShowing, met_of, shown_seat}

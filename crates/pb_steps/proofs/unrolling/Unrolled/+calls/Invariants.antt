@@ -1,8 +1,8 @@
 use Rattle.std.proofs.Common.{◌≡◌, ◌+◌, ◌*◌, Some, slice_get, take}
 use Rattle.pb_program.specs.Trees.{bare_prog, bare_rule}
 use Rattle.pb_recursion.specs.Plans.{calls_of_rule}
-use Rattle.pb_runs.specs.Steps.{Instance}
-use Rattle.pb_runs.specs.Unrolled.{deeper_unroll, jobs_done, played, unrolled_by}
+use Rattle.pb_counts.specs.Handed.{Instance}
+use Rattle.pb_counts.specs.Handed.{deeper_unroll, jobs_done, played, unrolled_by}
 use Rattle.pb_steps.specs.Rules.{IsOf}
 use Rattle.pb_steps.specs.Stands.{AreSeated, AreSmall, GoesBy, GoesByPlay, IsInstance, met_of}
 use Rattle.pb_steps.specs.Values.{InstanceValue}

@@ -6,7 +6,7 @@ use Rattle.pb_frame.specs.Frames.{FrameValue}
 use Rattle.pb_recursion.specs.Shapes.{can_enter, sizes_from}
 use Rattle.pb_views.specs.Seats.{sides_of_seat}
 use Rattle.pb_views.specs.declared.seat.Seat.{Seat}
-use Rattle.pb_runs.specs.Unrolled.{after_call, after_matrices, own_sides, seats_from}
+use Rattle.pb_counts.specs.Handed.{after_call, after_matrices, own_sides, seats_from}
 use Rattle.pb_steps.specs.Runs.{UnrolledValue}
 use Rattle.pb_steps.specs.Stands.{AreSeated, IsEnteredAs, met_of}
 use Rattle.pb_steps.specs.Values.{InstanceValue}
