@@ -177,7 +177,7 @@ impl Shown {
         }
         for k in 0..reads.len() {
             let view = self.next_view(k, reads, windows, matrices, stretch, i);
-            self.views[k] = view;
+            self.views[k] = by_fields(view);
         }
     }
 }
@@ -199,5 +199,5 @@ fn show_next(
 {
     let matrix = &matrices[reads[k].matrix as usize];
     let (x, y) = stretch.place(i + 1);
-    by_fields(windows[k].show(matrix, x, y))
+    windows[k].show(matrix, x, y)
 }

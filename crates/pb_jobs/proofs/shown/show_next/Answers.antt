@@ -45,5 +45,5 @@ returns c = λ q z on_r on_w.
     let there : r.matrix < length c.args.matrices.now = matrix_there c.args.matrices.now p.x p.y c.args.reads.now c.args.windows.now along c.args.k r w at_r at_w in
     let at_m : slice_get c.args.matrices.now r.matrix ≡ Some m = slice_get-get_or c.args.matrices.now r.matrix m there ∙ ap Some (sym (c.index-matrices-reads.is ∙ ap (λ (q : Read). slice_index_or c.args.matrices.now q.matrix m) (sym c.index-reads-k.is))) in
     let at_place : IsShown m w.view (shown_by w m p.x p.y w.view) c.show.result = subst (λ (q : ℕ × ℕ). IsShown m w.view (shown_by w m q.0 q.1 w.view) c.show.result) (λ j. (c.place-x.ensures.x j, c.place-x.ensures.y j)) c.show.ensures in
-    let mine : IsShownFor c.args.matrices.now p.x p.y r w c.by_fields.result = record { matrix = m; at = at_m; is = subst (IsShown m w.view (shown_by w m p.x p.y w.view)) (sym c.by_fields.ensures) at_place } in
-    subst (λ (u : Read × Window). IsShownFor c.args.matrices.now p.x p.y u.0 u.1 c.by_fields.result) (λ j. (some_same r q (sym at_r ∙ on_r) j, some_same w z (sym at_w ∙ on_w) j)) mine
+    let mine : IsShownFor c.args.matrices.now p.x p.y r w c.show.result = record { matrix = m; at = at_m; is = at_place } in
+    subst (λ (u : Read × Window). IsShownFor c.args.matrices.now p.x p.y u.0 u.1 c.show.result) (λ j. (some_same r q (sym at_r ∙ on_r) j, some_same w z (sym at_w ∙ on_w) j)) mine

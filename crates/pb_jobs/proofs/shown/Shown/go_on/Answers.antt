@@ -1,4 +1,5 @@
-use Rattle.std.proofs.Common.{refl, arith}
+use Rattle.std.proofs.Common.{ap, refl, set, arith}
+use Rattle.pb_values.specs.declared.view.View.{View}
 use Rattle.pb_jobs.proofs.AdvanceLemmas.{half_begun, half_done, half_more}
 use Rattle.pb_jobs.proofs.shown.Shown.go_on.Goals as goal
 
@@ -13,7 +14,8 @@ next_view-view-requires-clause-shown c = c.loop-k.invariant.views.still c.loop-k
 
 pub loop-k-preserved : goal.loop-k-preserved
 loop-k-preserved c = record {
-  views = half_more c.args.matrices.now c.args.reads.now c.args.windows.now c.args.stretch.now c.args.i c.loop-k.k c.loop-k.self.views.items _ c.next_view-view.result c.loop-k.invariant.views c.next_view-view.ensures refl;
+  views = half_more c.args.matrices.now c.args.reads.now c.args.windows.now c.args.stretch.now c.args.i c.loop-k.k c.loop-k.self.views.items _ c.next_view-view.result c.loop-k.invariant.views c.next_view-view.ensures
+      (ap (λ (v : View). set c.loop-k.self.views.items c.loop-k.k v) c.by_fields.ensures);
   advances = c.loop-k.invariant.advances;
 }
 
