@@ -20,3 +20,4 @@ pub mod PlacedLemmas
 pub mod SameLemmas
 pub mod RegionLemmas
 pub mod RoomLemmas
+pub mod FormulaLemmas

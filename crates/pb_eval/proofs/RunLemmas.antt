@@ -27,7 +27,7 @@ pub runs_err : (o : Option Trap) (sides : List (ℕ × ℕ)) (body : Result Stor
 runs_err o sides body k s e b = subst (λ (o : Option Trap). Runs o sides body (Err (Body k)) s) e (subst (λ (r : Result Store Kind). Runs None sides r (Err (Body k)) s) (sym b) refl)
 
 module _ (turn : Turn) (sizes : Sizes) (x y : ℕ) (views : List View) (sides : List (ℕ × ℕ)) where
-  bound_names : (s : Scratch) → map sides_of s.spots.items ≡ sides → bound (around_of turn sizes x y views) s ≡ names_of turn sizes x y views sides
+  pub bound_names : (s : Scratch) → map sides_of s.spots.items ≡ sides → bound (around_of turn sizes x y views) s ≡ names_of turn sizes x y views sides
   unfolding bound around_of names_of
   bound_names s e = ap (λ l. record { sizes = (around_of turn sizes x y views).sizes; x = (around_of turn sizes x y views).x; y = (around_of turn sizes x y views).y; reads = (around_of turn sizes x y views).reads; outs = l }) e
 

@@ -9,3 +9,4 @@ pub mod Outputs
 pub mod Traps
 pub mod Running
 pub mod CanRun
+pub mod Formulas

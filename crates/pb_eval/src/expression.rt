@@ -15,14 +15,17 @@ use pb_values::{CellReader, Kind, abs};
 impl<'a, N: NamesTurn> Scene<'a, N> {
     /// The value of a name, or of a number of 64 bits, which needs no recursion; none for another expression.
     #[inline(always)]
-    #[tactic(auto, unfolding(crate::specs::Working::value_in, pb_model::specs::Bodies::value))]
+    #[tactic(auto, unfolding(crate::specs::Working::value_in, pb_model::specs::Bodies::number_of, pb_model::specs::Bodies::value))]
     fn leaf<C: CellReader>(&self, e: &Expr, scratch: &Scratch, port: &mut Port<C, N>) -> Option<i64>
         ensures value { IfSome result (λ n. value_in (bound self.now scratch.now) (store_of scratch.now) e.now ≡ Ok n) }
         ensures same_reference { port.new.reader.ghost_name ≡ port.old.reader.ghost_name }
     {
         match e {
             Expr::Number { value, .. } => number(*value).ok(),
-            Expr::Name(name) => Some(self.named(name.what, scratch, port)),
+            Expr::Name(name) => match name.what {
+                Meaning::Number(k) => Some(scratch.local(k)),
+                _ => Some(self.named(name.what, scratch, port)),
+            },
             _ => None,
         }
     }
@@ -53,10 +56,10 @@ impl<'a, N: NamesTurn> Scene<'a, N> {
                 negated(*sign, self.value(operand, scratch, port)?)
             }
             Expr::Chain { first, rest, .. } => {
-                if let Some(total) = self.leaf(first, scratch, port) {
-                    return self.values(rest, total, scratch, port);
-                }
-                let total = self.value(first, scratch, port)?;
+                let total = match self.leaf(first, scratch, port) {
+                    Some(total) => total,
+                    None => self.value(first, scratch, port)?,
+                };
                 self.values(rest, total, scratch, port)
             }
             Expr::Compare {

@@ -3,7 +3,9 @@ ghost use Rattle.std.specs.List.{All};
 ghost use Rattle.pb_linear.specs.Sizes.{sizes_of};
 ghost use Rattle.pb_syntax.specs.declared.limits.TheConstants.{MOST_VIEWS};
 ghost use Rattle.pb_model.specs.Bodies.{at_first};
+ghost use Rattle.pb_eval.specs.Formulas.{IsBlank};
 ghost use Rattle.pb_eval.specs.Outputs.{end_of, free_sides, numbers_in};
+ghost use Rattle.pb_eval.specs.Running.{locals_of, outs_of};
 ghost use Rattle.pb_eval.specs.Stored.{SameRoom, sides_of, store_of};
 
 use crate::scratch::Scratch;
@@ -97,6 +99,18 @@ impl Scratch {
             total += sides.height * sides.width;
         }
         total
+    }
+
+    /// Lays one output, of one cell, and puts 0 in each place, as before the first statement of a rule for single cells.
+    pub fn begin_cell(&mut self)
+        requires room { 1 ≤ outs_of self.old }
+        ensures blank { IsBlank self.new }
+        ensures locals { locals_of self.new ≡ locals_of self.old }
+        ensures numbers { outs_of self.new ≡ outs_of self.old }
+    {
+        self.spots.clear();
+        self.lay_one(0, 1, 1);
+        self.clear(1);
     }
 
     /// Puts 0 in each local and in each place of the outputs.

@@ -8,6 +8,7 @@
 mod body;
 mod cell;
 mod expression;
+mod formula;
 mod laws;
 mod laying;
 mod place;
@@ -26,6 +27,7 @@ mod traps;
 mod turns;
 
 pub use body::run_body;
+pub use formula::{formula_of, run_formula};
 pub use laws::{a_computing_rule_can_be_run, a_rule_for_regions_means_the_same_at_each_cell};
 pub use room::{locals_room, outs_room};
 pub use scratch::Scratch;

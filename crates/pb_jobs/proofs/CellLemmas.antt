@@ -1,10 +1,11 @@
 -- A rule for single cells gives one number.
-use Rattle.std.proofs.Common.{◌≡◌, ◌∙◌, refl, sym, ap, subst, ℕ, ◌+◌, ◌*◌, ◌<◌, ℤ, pos, ◌+ℤ◌, ◌-ℤ◌, Bool, true, false, List, [], ◌∷◌, length, map, slice_get, Some, arith}
+use Rattle.std.proofs.Common.{◌≡◌, ◌∙◌, refl, sym, ap, subst, ℕ, ◌+◌, ◌*◌, ◌<◌, ◌≤◌, ℤ, pos, ◌+ℤ◌, ◌-ℤ◌, Bool, true, false, List, [], ◌∷◌, length, map, slice_get, Some, arith}
 use Rattle.std.specs.Prelude.{◌==◌, Result, Ok, Err, slice_index_or}
 use Rattle.std.specs.List.{Contains}
 use Rattle.std.specs.Option.{option_map_or}
 use Rattle.std.proofs.Math.Bool.{cond}
 use Rattle.std.proofs.lemmas.Int.{ints}
+use Rattle.std.proofs.lemmas.List.{length-map}
 use Rattle.pb_values.specs.Cells.{Turn}
 use Rattle.pb_values.specs.declared.outcome.Outcome.{Outcome}
 use Rattle.pb_values.specs.declared.outcome.Outcome.TheVariants.{Value, Trapped}
@@ -12,7 +13,7 @@ use Rattle.pb_values.specs.declared.outcome.Trap.{Trap}
 use Rattle.pb_base.proofs.ListLemmas.{in_head}
 use Rattle.pb_program.specs.Areas.{area_by, area_of, from_start, one_place}
 use Rattle.pb_program.specs.Forms.{DeclValue, coordinate_at}
-use Rattle.pb_program.specs.Trees.{ProgRule, ProgTransform}
+use Rattle.pb_program.specs.Trees.{ProgRule, ProgTransform, bare_rule}
 use Rattle.pb_program.specs.WellFormed.{KindFits}
 use Rattle.pb_program.specs.declared.rule.RuleKind.{RuleKind}
 use Rattle.pb_program.specs.declared.rule.RuleKind.TheVariants as kind
@@ -21,7 +22,8 @@ use Rattle.pb_program.specs.declared.view.ReadView.{ReadView}
 use Rattle.pb_program.specs.declared.view.ReadView.TheVariants as view
 use Rattle.pb_model.specs.Cells.{Cell, natural, reads}
 use Rattle.pb_model.specs.Equations.{extent, own_number, own_outcome, shown_area, sides_by, view_sides}
-use Rattle.pb_jobs.proofs.ListLemmas.{some_same}
+use Rattle.pb_jobs.specs.Rooms.{HasRoomIn}
+use Rattle.pb_jobs.proofs.ListLemmas.{some_at, some_same}
 use Rattle.pb_eval.specs.CanRun.{at_variables, outs_needed}
 use Rattle.pb_eval.specs.Outputs.{numbers_in}
 use Rattle.pb_eval.specs.Running.{Gives, numbers_of, outs_of}
@@ -63,6 +65,12 @@ module _ (v : InstanceValue) (is : IsReady v) (k x y : ℕ) (rule : ProgRule) (t
 
   pub one_needed : outs_needed matrices at (at_variables x y) rule ≡ 1
   one_needed = by_outs rule.outs (out_declared v is k rule there) (subst (λ g. KindFits g rule.outs) single (rule_fits v is k rule there).kind)
+
+-- so there is room for one
+pub least_room : (v : InstanceValue) → IsReady v → (k : ℕ) → k < length v.transform.rules → ((r : ProgRule) → slice_get (of_transform v).rules k ≡ Some r → r.kind ≡ kind.Cell) → (z : Scratch) → HasRoomIn v k z → 1 ≤ outs_of z
+least_room v is k below single z room =
+    let r = some_at (of_transform v).rules k (omega (arith, below, length-map v.transform.rules bare_rule)) in
+    omega (arith, one_needed v is k 0 0 r.0 r.1 (single r.0 r.1), (room (of_transform v) r.0 is.there r.1).1 0 0)
 
 module _ (v : InstanceValue) (is : IsReady v) (k x y : ℕ) (turn : Turn) (can : CanRunRule v k x y turn) (single : (r : ProgRule) → slice_get (of_transform v).rules k ≡ Some r → r.kind ≡ kind.Cell) (z : Scratch) where
   abbrev t : ProgTransform

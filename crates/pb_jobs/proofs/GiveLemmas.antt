@@ -12,6 +12,7 @@ use Rattle.pb_linear.specs.declared.sizes.TheConstants.{SIZE_TOP}
 use Rattle.pb_syntax.specs.declared.limits.TheConstants.{MOST_VIEWS}
 use Rattle.pb_values.specs.Cells.{Turn}
 use Rattle.pb_values.specs.Views.{view_cells}
+use Rattle.pb_values.specs.declared.outcome.Outcome.{Outcome}
 use Rattle.pb_values.specs.declared.outcome.Trap.{Trap}
 use Rattle.pb_values.specs.declared.shape.TheConstants.{MOST_SIDE}
 use Rattle.pb_values.specs.declared.view.View.{View}
@@ -21,7 +22,7 @@ use Rattle.pb_program.specs.Transforms.{ProgValue}
 use Rattle.pb_program.specs.Trees.{ProgRule, ProgTransform, bare_prog, bare_rule}
 use Rattle.pb_program.specs.declared.view.Read.{Read}
 use Rattle.pb_model.specs.Cells.{reads as cells_read}
-use Rattle.pb_model.specs.Equations.{rule_gives, shown_area, sides_by}
+use Rattle.pb_model.specs.Equations.{own_outcome, rule_gives, shown_area, sides_by}
 use Rattle.pb_eval.specs.CanRun.{AreReads, IsRunnable, OfRule, at_variables, locals_needed, outs_needed}
 use Rattle.pb_eval.specs.Running.{Gives, locals_of, outs_of}
 use Rattle.pb_eval.specs.Shown.{outcome_of, seen_by}
@@ -100,6 +101,13 @@ module _ (v : InstanceValue) (is : IsReady v) (k x y : ℕ) (turn : Turn) (can :
           subst (λ u. Gives (given_by v k u x y turn) result z) (some_same rule r (sym can.there ∙ at))
           (subst (λ os. Gives (rule_gives t.matrices sizes (at_variables x y) v.number k rule os) result z) seen_are (h rule can.there))
 
+      -- an outcome over the views is one of what is told
+      pub outcome_told : (o : Outcome) → ((r : ProgRule) → slice_get t.rules k ≡ Some r → o ≡ own_outcome t.matrices sizes (at_variables x y) r (rule_gives t.matrices sizes (at_variables x y) v.number k r (seen_by turn shown)))
+          → (r : ProgRule) → slice_get t.rules k ≡ Some r → o ≡ own_outcome t.matrices sizes (at_variables x y) r (given_by v k r x y turn)
+      outcome_told o h r at =
+          subst (λ u. o ≡ own_outcome t.matrices sizes (at_variables x y) u (given_by v k u x y turn)) (some_same rule r (sym can.there ∙ at))
+          (subst (λ os. o ≡ own_outcome t.matrices sizes (at_variables x y) rule (rule_gives t.matrices sizes (at_variables x y) v.number k rule os)) seen_are (h rule can.there))
+
   -- ---- what is asked of the rule of a program
   module _ (p : ProgValue) (p_is : p ≡ v.program) (n : ℕ) (n_is : n ≡ v.number) (s : Sizes) (s_is : s ≡ v.sizes) where
     there_in : slice_get (bare_prog p) n ≡ Some t
@@ -134,3 +142,13 @@ module _ (v : InstanceValue) (is : IsReady v) (k x y : ℕ) (turn : Turn) (can :
     gives_over views result z h r at =
         subst (λ m. Gives (rule_gives t.matrices sizes (at_variables x y) m k r (seen_by turn views)) result z) n_is
         (subst (λ (q : Sizes). Gives (rule_gives t.matrices (sizes_of q) (at_variables x y) n k r (seen_by turn views)) result z) s_is (h t r there_in at))
+
+    -- and so an outcome
+    pub outcome_over : (views : List View) (o : Outcome) → ((r : ProgRule) → slice_get t.rules k ≡ Some r → o ≡ own_outcome t.matrices (sizes_of s) (at_variables x y) r (rule_gives t.matrices (sizes_of s) (at_variables x y) n k r (seen_by turn views)))
+        → (r : ProgRule) → slice_get t.rules k ≡ Some r → o ≡ own_outcome t.matrices sizes (at_variables x y) r (rule_gives t.matrices sizes (at_variables x y) v.number k r (seen_by turn views))
+    outcome_over views o h r at =
+        subst (λ m. o ≡ own_outcome t.matrices sizes (at_variables x y) r (rule_gives t.matrices sizes (at_variables x y) m k r (seen_by turn views))) n_is
+        (subst (λ (q : Sizes). o ≡ own_outcome t.matrices (sizes_of q) (at_variables x y) r (rule_gives t.matrices (sizes_of q) (at_variables x y) n k r (seen_by turn views))) s_is (h r at))
+
+    pub reads_over : (views : List View) → ((r : ProgRule) → slice_get t.rules k ≡ Some r → AreReads t.matrices sizes (at_variables x y) r views turn) → (r : ProgRule) → slice_get t.rules k ≡ Some r → AreReads t.matrices (sizes_of s) (at_variables x y) r views turn
+    reads_over views h r at = subst (λ (q : Sizes). AreReads t.matrices (sizes_of q) (at_variables x y) r views turn) (sym s_is) (h r at)

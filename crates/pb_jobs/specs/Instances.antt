@@ -11,10 +11,12 @@ use Rattle.pb_values.specs.declared.view.View.{View}
 use Rattle.pb_program.specs.Transforms.{ProgValue, TransformValue}
 use Rattle.pb_program.specs.Trees.{ProgRule, ProgTransform, bare_prog, bare_transform}
 use Rattle.pb_program.specs.WellFormed.{IsTransform}
+use Rattle.pb_program.specs.declared.expression.Expr.{Expr}
 use Rattle.pb_program.specs.declared.rule.RuleKind.TheVariants as kind
 use Rattle.pb_model.specs.Cells.{Cell, reads}
 use Rattle.pb_model.specs.Equations.{rule_gives}
 use Rattle.pb_eval.specs.CanRun.{at_variables}
+use Rattle.pb_eval.specs.Formulas.{IsFormula}
 use Rattle.pb_eval.specs.Shown.{outcome_of}
 use Rattle.pb_views.specs.Layouts.{HasShortSides}
 use Rattle.pb_views.specs.Windows.{AreLaid, number_in}
@@ -71,3 +73,7 @@ pub record AreShownFor (v : InstanceValue) (rule : ProgRule) (x y : ℕ) (views 
 -- and of the rule with this number
 abbrev pub AreReadsOf : InstanceValue → ℕ → ℕ → ℕ → List View → Type 0
 AreReadsOf v k x y views = (rule : ProgRule) → slice_get (of_transform v).rules k ≡ Some rule → AreShownFor v rule x y views
+
+-- the body of the rule with this number only assigns the value of this expression to its output
+abbrev pub HasFormula : InstanceValue → ℕ → Expr → Type 0
+HasFormula v k e = (rule : ProgRule) → slice_get (of_transform v).rules k ≡ Some rule → IsFormula rule e

@@ -10,6 +10,7 @@
 
 mod advance;
 mod block;
+mod formulas;
 mod instance;
 mod job;
 mod laws;

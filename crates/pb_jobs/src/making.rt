@@ -73,8 +73,8 @@ impl<'a> Instance<'a> {
         self.run_over(rule, x, y, &shown.views, port, &mut scratch.body)
     }
 
-    /// The outcome of a cell by a rule for single cells, over views of what it reads.
-    pub(crate) fn cell<C: CellReader>(
+    /// The outcome of a cell by the body of a rule for single cells, over views of what it reads.
+    pub(crate) fn by_body<C: CellReader>(
         &self,
         rule: u32,
         x: u64,

@@ -30,10 +30,11 @@ impl<'a> Instance<'a> {
         let matrices = self.views();
         let view = matrices[stretch.base as usize];
         scratch.shown.begin(reads, windows, matrices, stretch);
+        let formula = self.begin_formula(rule, &mut scratch.body);
         for i in 0..stretch.count {
             let (x, y) = stretch.place(i);
             let shown = &mut scratch.shown;
-            let outcome = self.cell(rule, x, y, &shown.views, port, &mut scratch.body);
+            let outcome = self.cell(formula, rule, x, y, &shown.views, port, &mut scratch.body);
             port.write(view.place(x, y), outcome);
             shown.go_on(reads, windows, matrices, stretch, i);
         }

@@ -5,7 +5,6 @@ use Rattle.pb_jobs.specs.Advances.{AreAdvances}
 use Rattle.pb_jobs.specs.Instances.{of_sizes}
 use Rattle.pb_jobs.specs.Rooms.{IsEnough}
 use Rattle.pb_jobs.proofs.LineLemmas.{as_many_along, may_here, one_later, place_inside, within_along}
-use Rattle.pb_jobs.proofs.StepLemmas.{itself}
 use Rattle.pb_jobs.proofs.instance.Instance.run_stretch.Goals as goal
 
 pub begin-requires-clause-windows : goal.begin-requires-clause-windows
@@ -17,7 +16,8 @@ begin-requires-clause-within g c = within_along c.args.self.now c.requires.ready
 pub loop-i-init : goal.loop-i-init
 loop-i-init g c = record {
   now = sym (some-none (g.C.CellReader.turn c.args.port.now));
-  room = itself c.args.scratch.now.body;
+  room = c.begin_formula-formula.ensures.room;
+  blank = c.begin_formula-formula.ensures.blank;
   shown = λ h. c.begin.ensures.shown;
   advances = c.begin.ensures.advances;
 }
@@ -47,6 +47,7 @@ loop-i-preserved g c = record {
   now = one_later c.args.self.now c.requires.ready c.args.rule _ c.args.stretch.now c.requires.made c.loop-i.i c.loop-i-test.true c.place-x.result.0 c.place-x.result.1 c.place-x.ensures.x c.place-x.ensures.y (g.C.CellReader.turn c.loop-i.port) c.loop-i.invariant.now c.views-matrices.result.now c.views-matrices.ensures c.index-matrices-stretch.result c.index-matrices-stretch.is
       c.cell-outcome.result c.cell-outcome.ensures.outcome c.place.result c.place.ensures (g.C.CellReader.turn c.cell-outcome.new.port) (g.C.CellReader.turn c.write.new.self) c.cell-outcome.ensures.stays c.write.ensures;
   room = record { locals = c.cell-outcome.ensures.room.locals ∙ c.loop-i.invariant.room.locals; outs = c.cell-outcome.ensures.room.outs ∙ c.loop-i.invariant.room.outs };
+  blank = c.cell-outcome.ensures.blank;
   shown = c.go_on.ensures.shown;
   advances = subst (λ l. AreAdvances c.views-matrices.result.now c.args.stretch.now c.reads-reads.result.now c.read_windows-windows.result.now (length c.reads-reads.result.now) l.items) (sym c.go_on.ensures.advances) c.loop-i.invariant.advances;
 }

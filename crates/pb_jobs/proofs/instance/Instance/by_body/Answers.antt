@@ -5,7 +5,7 @@ use Rattle.pb_eval.specs.Running.{Gives}
 use Rattle.pb_jobs.specs.Instances.{given_by}
 use Rattle.pb_jobs.proofs.CellLemmas.{one_number, one_room, one_trap}
 use Rattle.pb_jobs.proofs.GiveLemmas.{gives_told, reads_told}
-use Rattle.pb_jobs.proofs.instance.Instance.cell.Goals as goal
+use Rattle.pb_jobs.proofs.instance.Instance.by_body.Goals as goal
 
 pub run_over-requires-clause-reads : goal.run_over-requires-clause-reads
 run_over-requires-clause-reads g c =
