@@ -8,9 +8,9 @@ use crate::port::{NamesTurn, Port};
 use crate::scene::Scene;
 use crate::scratch::Scratch;
 use crate::shown::Shown;
-use pb_numbers::{KindWord, in_words, plus};
+use pb_numbers::{KindWord, plus, times};
 use pb_program::Meaning;
-use pb_values::{CellReader, Kind, View, mul};
+use pb_values::{CellReader, Kind, View};
 
 impl Shown {
     /// How many cells there are.
@@ -125,7 +125,7 @@ fn dot_rows<C: CellReader, N: NamesTurn>(
 fn with_product(total: i64, left: i64, right: i64) -> Result<i64, KindWord>
     ensures { result ≡ plus_product total left right }
 {
-    let product = in_words(mul(left, right))?;
+    let product = times(left, right)?;
     plus(total, product)
 }
 

@@ -9,4 +9,6 @@ mod kind_word;
 mod operators;
 
 pub use kind_word::{KindWord, in_words};
-pub use operators::{compare, decided, greater, is_true, lesser, negated, number, operate, plus};
+pub use operators::{
+    compare, decided, greater, is_true, lesser, negated, number, operate, plus, times,
+};

@@ -1,11 +1,11 @@
-ghost use Rattle.std.specs.Prelude.{◌≡◌, ◌+ℤ◌, not, pos};
+ghost use Rattle.std.specs.Prelude.{◌≡◌, ◌+ℤ◌, ◌*ℤ◌, not, pos};
 ghost use Rattle.pb_values.specs.Checked.{checked_result};
 ghost use Rattle.pb_model.specs.Bodies.{greater, is_zero, lesser, operated, related, signed_by, truth};
 ghost use Rattle.pb_numbers.specs.Deciding.{decided};
 
 use crate::kind_word::{KindWord, in_words};
 use pb_syntax::{Operator, Relation, UnarySign};
-use pb_values::{Kind, add, div, mul, neg, rem, sub};
+use pb_values::{Kind, add, div, neg, rem, sub};
 
 /// A number that is written; `Kind::Overflow` where it is greater than the greatest of 64 bits with a sign.
 pub fn number(value: u64) -> Result<i64, KindWord>
@@ -24,13 +24,23 @@ pub fn plus(left: i64, right: i64) -> Result<i64, KindWord>
     in_words(add(left, right))
 }
 
+/// The product of two numbers; `Kind::Overflow` where it is outside `i64`. It is made in 128 bits, which a processor does at once.
+pub fn times(left: i64, right: i64) -> Result<i64, KindWord>
+    ensures { result ≡ checked_result (left *ℤ right) }
+{
+    match i64::try_from(left as i128 * right as i128) {
+        Ok(product) => Ok(product),
+        Err(_) => Err(KindWord::of(Kind::Overflow)),
+    }
+}
+
 /// What an operator of a product or a sum gives, or the kind of its trap; of `&&` and `||` the right side as a truth, which is what
 /// they give where the left side doesn't decide.
 pub fn operate(operator: Operator, left: i64, right: i64) -> Result<i64, KindWord>
     ensures { result ≡ operated operator left right }
 {
     match operator {
-        Operator::Times => in_words(mul(left, right)),
+        Operator::Times => times(left, right),
         Operator::Over => in_words(div(left, right)),
         Operator::Modulo => in_words(rem(left, right)),
         Operator::Plus => plus(left, right),
