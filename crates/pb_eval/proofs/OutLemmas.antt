@@ -1,5 +1,5 @@
 -- The sides of outputs, output by output.
-use Rattle.std.proofs.Common.{◌≡◌, ◌∙◌, sym, ap, ℕ, suc, ◌+◌, ◌*◌, ◌<◌, ◌≤◌, List, [], ◌∷◌, ◌++◌, length, drop, take, get_or, map, Some, subst, drop-cons, add-one, arith}
+use Rattle.std.proofs.Common.{◌≡◌, ◌∙◌, sym, ap, ℕ, suc, ◌+◌, ◌*◌, ◌<◌, List, [], ◌∷◌, ◌++◌, length, drop, take, get_or, map, Some, subst, drop-cons, add-one, arith}
 use Rattle.std.specs.List.{All}
 use Rattle.std.specs.Option.{option_map_or}
 use Rattle.std.proofs.Math.Seq.{take-suc}
@@ -21,12 +21,6 @@ lone_cell (d ∷ ds) sizes r cell below = ap (λ o. option_map_or (free_by r.vie
 
 pub at_matrix : (matrices : List DeclValue) (outs : List Read) (i : ℕ) (out : Read) → i < length outs → out ≡ get_or outs i out → All (λ o. o.matrix < length matrices) outs → out.matrix < length matrices
 at_matrix matrices outs i out below is all = subst (λ (o : Read). o.matrix < length matrices) (sym is) (all i out below)
-
--- the sides of the one output of a rule for single cells
-pub lone_sides : (matrices : List DeclValue) (sizes : List ℕ) (outs : List Read) (out : Read) → 1 ≤ length outs → length outs < 2 → out ≡ get_or outs 0 out → out.view ≡ view.Cell → All (λ o. o.matrix < length matrices) outs → map (free_sides matrices sizes) outs ≡ (1, 1) ∷ []
-lone_sides matrices sizes [] out least most is cell all = absurd (omega arith)
-lone_sides matrices sizes (x ∷ []) out least most is cell all = ap (λ z. z ∷ []) (ap (free_sides matrices sizes) (sym is) ∙ lone_cell matrices sizes out cell (at_matrix matrices (x ∷ []) 0 out (omega arith) is all))
-lone_sides matrices sizes (x ∷ y ∷ l) out least most is cell all = absurd (omega arith)
 
 module _ (F : Read → ℕ × ℕ) (outs : List Read) (i : ℕ) (out : Read) (below : i < length outs) (is : out ≡ get_or outs i out) where
   next : drop i outs ≡ out ∷ drop (i + 1) outs

@@ -119,22 +119,6 @@ impl<'a, N: NamesTurn> Scene<'a, N> {
         Ok(total)
     }
 
-    /// The value of an expression that a chain begins with.
-    fn start<C: CellReader>(
-        &self,
-        e: &Expr,
-        scratch: &Scratch,
-        port: &mut Port<C, N>,
-    ) -> Result<i64, KindWord>
-        ensures value { result ≡ value_in (bound self.now scratch.now) (store_of scratch.now) e.now }
-        ensures same_reference { port.new.reader.ghost_name ≡ port.old.reader.ghost_name }
-    {
-        if let Some(value) = self.plain(e, port) {
-            return Ok(value);
-        }
-        self.value(e, scratch, port)
-    }
-
     /// The value of an expression. A chain of numbers and of reads of single cells, which most formulas are, has a loop of its own.
     #[tactic(auto, using(crate::proofs::ExprLemmas::chain_in))]
     fn formula_value<C: CellReader>(
@@ -149,10 +133,11 @@ impl<'a, N: NamesTurn> Scene<'a, N> {
         let Expr::Chain { first, rest, .. } = e else {
             return self.value(e, scratch, port);
         };
-        match self.start(first, scratch, port) {
-            Ok(total) => self.steps(rest, total, scratch, port),
-            Err(kind) => Err(kind),
-        }
+        let total = match self.plain(first, port) {
+            Some(total) => total,
+            None => self.value(first, scratch, port)?,
+        };
+        self.steps(rest, total, scratch, port)
     }
 }
 

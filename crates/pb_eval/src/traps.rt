@@ -57,21 +57,6 @@ fn view_trap<C: CellReader, N: NamesTurn>(view: &View, port: &mut Port<C, N>) ->
     None
 }
 
-/// The first trap among the cells of views, each of which is looked at.
-fn views_trap<C: CellReader, N: NamesTurn>(views: &[View], port: &mut Port<C, N>) -> Option<Trap>
-    requires { All (IsTold N.turn) views.now }
-    ensures trap { result ≡ first_trap (views_seen N.turn views.now) }
-    ensures same_reference { port.new.reader.ghost_name ≡ port.old.reader.ghost_name }
-{
-    for view in views {
-        match view_trap(view, port) {
-            None => (),
-            Some(trap) => return Some(trap),
-        }
-    }
-    None
-}
-
 /// The first trap among the cells of views.
 pub(crate) fn first_trap<C: CellReader, N: NamesTurn>(
     views: &[View],
@@ -84,5 +69,11 @@ pub(crate) fn first_trap<C: CellReader, N: NamesTurn>(
     if port.is_untrapped() {
         return None;
     }
-    views_trap(views, port)
+    for view in views {
+        match view_trap(view, port) {
+            None => (),
+            Some(trap) => return Some(trap),
+        }
+    }
+    None
 }

@@ -2,7 +2,7 @@ use Rattle.std.proofs.Common.{◌≡◌, ◌+◌, drop, map, take}
 use Rattle.pb_linear.specs.Sizes.{sizes_of}
 use Rattle.pb_eval.specs.Outputs.{end_of, free_sides, numbers_in}
 use Rattle.pb_eval.specs.Stored.{sides_of}
-use Rattle.pb_eval.proofs.scratch.Scratch.lay_all.Given as goal
+use Rattle.pb_eval.proofs.scratch.Scratch.lay.Given as goal
 
 abbrev pub invariant-loop-out : goal.invariant-loop-out
 invariant-loop-out l = record {
