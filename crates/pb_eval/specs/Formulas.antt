@@ -1,4 +1,4 @@
--- Rules for single cells whose bodies only give a value to their output.
+-- Bodies that only give a value to the first output, and a scratch in which such a body of a rule for single cells begins.
 use Rattle.std.specs.Prelude.{◌≡◌, ℕ, List, [], ◌∷◌, map}
 use Rattle.pb_program.specs.Exprs.{bare}
 use Rattle.pb_program.specs.Stmts.{assign}

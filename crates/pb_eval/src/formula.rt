@@ -26,7 +26,7 @@ use pb_syntax::Operator;
 use pb_values::{CellReader, Outcome, Trap, View};
 use std::marker::{Brand, PhantomData};
 
-/// The expression whose value is the cell that a rule makes, where the rule's body only assigns it to the first output.
+/// The expression that a rule's body assigns to the first output, by its name, if it is found that the body does only that.
 pub fn formula_of(rule: &Rule) -> Option<&Expr>
     ensures { IfSome result (λ e. IsFormula (bare_rule rule.now) e.now) }
 {
@@ -190,9 +190,9 @@ fn outcome_by<C: CellReader, N: NamesTurn>(
     }
 }
 
-/// The outcome of a cell by rule `r` of transform `t`, whose formula is `e`, over its reads. Sizes are at most `SIZE_TOP`, the rule
-/// variables below 2^63; there is one view for each read, and the reader tells each of its cells; the scratch is as
-/// `begin_cell` leaves it.
+/// The outcome of a cell by rule `r` of transform `t`, a rule for single cells with the formula `e`, over a view for each of its
+/// reads. Sizes are at most `SIZE_TOP`, the rule variables below 2^63; the views have sides of at most `MOST_SIDE`, and the reader
+/// tells each of their cells; the scratch is as `begin_cell` leaves it.
 pub fn run_formula<C: CellReader>(
     e: &Expr,
     t: u32,

@@ -13,7 +13,7 @@ use pb_program::Expr;
 use pb_values::{CellReader, Outcome, View};
 
 impl<'a> Instance<'a> {
-    /// The formula of the rule with this number, if it has one.
+    /// The formula of the rule with this number, if one is found.
     fn formula(&self, rule: u32) -> Option<&Expr>
         requires { rule < length self.now.transform.rules }
         ensures { IfSome result (λ e. HasFormula self.now rule e.now) }
@@ -22,7 +22,7 @@ impl<'a> Instance<'a> {
         formula_of(&transform.rules[rule as usize])
     }
 
-    /// The formula of a rule for single cells, if it has one, for which the scratch then is ready.
+    /// The formula of a rule for single cells, if one is found, for which the scratch then is ready.
     pub(crate) fn begin_formula(&self, rule: u32, scratch: &mut Scratch) -> Option<&Expr>
         requires ready { IsReady self.now }
         requires below { rule < length self.now.transform.rules }
@@ -73,7 +73,7 @@ impl<'a> Instance<'a> {
         )
     }
 
-    /// The outcome of a cell by a rule for single cells, by its formula where it has one, over views of what it reads.
+    /// The outcome of a cell by a rule for single cells, by its formula where that is given, over views of what it reads.
     pub(crate) fn cell<C: CellReader>(
         &self,
         formula: Option<&Expr>,

@@ -24,17 +24,18 @@ pub fn plus(left: i64, right: i64) -> Result<i64, KindWord>
     in_words(add(left, right))
 }
 
-/// The product of two numbers; `Kind::Overflow` where it is outside `i64`. It is made in 128 bits, which a processor does at once.
+/// The product of two numbers; `Kind::Overflow` where it is outside `i64`.
 pub fn times(left: i64, right: i64) -> Result<i64, KindWord>
     ensures { result ≡ checked_result (left *ℤ right) }
 {
+    // One multiplication, which `checked_mul` makes two of.
     match i64::try_from(left as i128 * right as i128) {
         Ok(product) => Ok(product),
         Err(_) => Err(KindWord::of(Kind::Overflow)),
     }
 }
 
-/// What an operator of a product or a sum gives, or the kind of its trap; of `&&` and `||` the right side as a truth, which is what
+/// What an operator of a product or a sum gives, or the kind of its trap; of `&&` and `||` the right side as it is, which is what
 /// they give where the left side doesn't decide.
 pub fn operate(operator: Operator, left: i64, right: i64) -> Result<i64, KindWord>
     ensures { result ≡ operated operator left right }
