@@ -1,8 +1,9 @@
-ghost use Rattle.std.specs.Prelude.{◌≡◌, ◌<◌, ◌^◌, ◌≤◌, IfSome, List, Ok};
+ghost use Rattle.std.specs.Prelude.{◌≡◌, ◌<◌, ◌^◌, ◌≤◌, IfNone, IfSome, List, Ok};
 ghost use Rattle.std.specs.List.{All};
 ghost use Rattle.pb_linear.specs.Sizes.{sizes_of};
 ghost use Rattle.pb_program.specs.Forms.{DeclValue};
 ghost use Rattle.pb_program.specs.Trees.{ProgRule, bare_rule};
+ghost use Rattle.pb_program.specs.declared.expression.Expr.{Expr as Held};
 ghost use Rattle.pb_program.specs.declared.meaning.Meaning.TheVariants.{Read};
 ghost use Rattle.pb_program.specs.declared.rule.RuleKind.TheVariants as kind;
 ghost use Rattle.pb_model.specs.Bodies.{number_of};
@@ -26,15 +27,19 @@ use pb_syntax::Operator;
 use pb_values::{CellReader, Outcome, Trap, View};
 use std::marker::{Brand, PhantomData};
 
-/// The expression that a rule's body assigns to the first output, by its name, if it is found that the body does only that.
+/// The expression that a rule's body assigns to the first output, by its name, where the body does only that; none for any other body.
 pub fn formula_of(rule: &Rule) -> Option<&Expr>
-    ensures { IfSome result (λ e. IsFormula (bare_rule rule.now) e.now) }
+    ensures found { IfSome result (λ e. IsFormula (bare_rule rule.now) e.now) }
+    ensures none { IfNone result ((e : Held) → IsFormula (bare_rule rule.now) e → ⊥) }
 {
-    match body_of_rule(rule) {
-        [Stmt::Assign { target, value }] => match target.what {
-            Meaning::Output(0) => Some(value),
-            _ => None,
-        },
+    let [only] = body_of_rule(rule) else {
+        return None;
+    };
+    let Stmt::Assign { target, value } = only else {
+        return None;
+    };
+    match target.what {
+        Meaning::Output(0) => Some(value),
         _ => None,
     }
 }
