@@ -1,5 +1,5 @@
 -- Reading the words of a body from left to right is what the body says.
-use Rattle.std.proofs.Common.{◌≡◌, ℕ, ◌+◌, ◌-◌, ◌<◌, ◌≤◌, Bool, true, false, List, [], ◌∷◌, ◌++◌, length, take, filter_map, ℤ, Option, Some, None, suc, zero-le, Result, Ok, Err, nat_lt, ◌==◌, if◌then◌else◌, refl, sym, ap, ◌∙◌, arith}
+use Rattle.std.proofs.Common.{◌≡◌, ℕ, ◌+◌, ◌-◌, ◌<◌, ◌≤◌, Bool, true, false, List, [], ◌∷◌, ◌++◌, length, take, map, filter_map, ℤ, Option, Some, None, suc, zero-le, Result, Ok, Err, nat_lt, ◌==◌, if◌then◌else◌, refl, sym, ap, ◌∙◌, arith}
 use Rattle.std.specs.List.{position_from}
 use Rattle.std.specs.Option.{option_map_or}
 use Rattle.std.proofs.lemmas.List.{append-nil, append_assoc, take_all, take_at, length-append, length-map, map_push}
@@ -14,13 +14,13 @@ use Rattle.pb_matrix.specs.Reading.{body_read}
 use Rattle.pb_matrix.specs.declared.matrix.MatrixRefusal.{MatrixRefusal}
 use Rattle.pb_matrix.specs.declared.matrix.MatrixRefusal.TheVariants.{BadNumber, TooFew, TooMany}
 
--- what words say after the cells that were read
-abbrev pub read_on : Shape → List ℤ → List (List ℕ) → Result MatrixValue MatrixRefusal
+-- what the numbers of words say after the cells that were read; a faulty word has none
+abbrev pub read_on : Shape → List ℤ → List (Option ℤ) → Result MatrixValue MatrixRefusal
 read_on s cells [] =
     if nat_lt (length cells) (cell_count s) then Err (TooFew (cell_count s) (length cells)) else Ok (record { shape = s; cells = cells })
-read_on s cells (w ∷ ws) =
+read_on s cells (number ∷ numbers) =
     if length cells == cell_count s then Err (TooMany (cell_count s))
-    else option_map_or (λ z. read_on s (cells ++ z ∷ []) ws) (cell_number w) (Err (BadNumber (length cells)))
+    else option_map_or (λ z. read_on s (cells ++ z ∷ []) numbers) number (Err (BadNumber (length cells)))
 
 -- among words that spell cells none is faulty
 past_cells : (done rest : List (List ℕ)) (cells : List ℤ) (i : ℕ) → SpellsCells done cells
@@ -76,24 +76,24 @@ module _ (s : Shape) where
 
   -- after these words, whatever cells they spell, reading goes on to what the whole says
   abbrev ReadsOn : List (List ℕ) → List (List ℕ) → Type 0
-  ReadsOn done ws = (cells : List ℤ) → SpellsCells done cells → length cells ≤ cell_count s → read_on s cells ws ≡ body_read s (done ++ ws)
+  ReadsOn done ws = (cells : List ℤ) → SpellsCells done cells → length cells ≤ cell_count s → read_on s cells (map cell_number ws) ≡ body_read s (done ++ ws)
 
   reads_on : (ws done : List (List ℕ)) → ReadsOn done ws
   reads_on [] done cells e fits = rw append-nil (at_end done cells e fits)
   reads_on (w ∷ ws) done cells e fits = by_count (length cells == cell_count s) refl (reads_on ws (done ++ w ∷ []))
     where
       by_word : (o : Option ℤ) → cell_number w ≡ o → length cells < cell_count s → ReadsOn (done ++ w ∷ []) ws
-          → option_map_or (λ z. read_on s (cells ++ z ∷ []) ws) (cell_number w) (Err (BadNumber (length cells))) ≡ body_read s (done ++ w ∷ ws)
+          → option_map_or (λ z. read_on s (cells ++ z ∷ []) (map cell_number ws)) (cell_number w) (Err (BadNumber (length cells))) ≡ body_read s (done ++ w ∷ ws)
       by_word None none short rest = rw none (one_faulty done cells w ws e short none)
       by_word (Some z) number short rest =
           rw number (rest (cells ++ z ∷ []) (next_number done cells w z e number) (omega (arith, length-append cells (z ∷ []))) ∙ ap (body_read s) (append_assoc done (w ∷ []) ws))
 
-      by_count : (b : Bool) → (length cells == cell_count s) ≡ b → ReadsOn (done ++ w ∷ []) ws → read_on s cells (w ∷ ws) ≡ body_read s (done ++ w ∷ ws)
+      by_count : (b : Bool) → (length cells == cell_count s) ≡ b → ReadsOn (done ++ w ∷ []) ws → read_on s cells (map cell_number (w ∷ ws)) ≡ body_read s (done ++ w ∷ ws)
       by_count true full rest = rw full (one_more done cells w ws e (eqb-true (length cells) (cell_count s) full))
       by_count false other rest =
           let apart = eqb-false (length cells) (cell_count s) other in
           let short : length cells < cell_count s = omega arith in
           rw other (by_word (cell_number w) refl short rest)
 
-  pub read_whole : (ws : List (List ℕ)) → read_on s [] ws ≡ body_read s ws
+  pub read_whole : (ws : List (List ℕ)) → read_on s [] (map cell_number ws) ≡ body_read s ws
   read_whole ws = reads_on ws [] [] refl zero-le

@@ -3,6 +3,7 @@ pub mod DigitLemmas
 pub mod HeaderLemmas
 pub mod LawLemmas
 pub mod LineLemmas
+pub mod QuickLemmas
 pub mod SpellLemmas
 pub mod TextLemmas
 pub mod WordLemmas

@@ -8,6 +8,7 @@ mod header;
 mod laws;
 mod matrix;
 mod numbers;
+mod quick;
 mod read;
 mod words;
 mod write;

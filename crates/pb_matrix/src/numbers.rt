@@ -3,7 +3,7 @@ ghost use Rattle.pb_matrix.specs.Words.{cell_number};
 ghost use Rattle.pb_matrix.specs.Digits.{magnitude};
 
 // Another digit after a larger number would pass 2^63.
-const MOST_BEFORE_DIGIT: u64 = 922_337_203_685_477_580;
+pub(crate) const MOST_BEFORE_DIGIT: u64 = 922_337_203_685_477_580;
 
 const MOST: u64 = 1 << 63;
 
@@ -31,7 +31,7 @@ pub(crate) fn read_digits(word: &[u8]) -> Option<u64>
 }
 
 #[inline]
-fn negated(value: u64) -> i64
+pub(crate) fn negated(value: u64) -> i64
     requires { value ≤ 2 ^ 63 }
     ensures { result ≡ neg_ℤ (pos value) }
 {

@@ -1,7 +1,7 @@
-ghost use Rattle.std.specs.Prelude.{◌≡◌, ◌*◌, ◌≤◌, Ok, Err, IfOk, IsTrue, length, All};
+ghost use Rattle.std.specs.Prelude.{◌≡◌, ◌*◌, ◌≤◌, ◌<◌, [], ◌∷◌, Ok, Err, IfOk, IfSome, MatchOption, IsTrue, length, map, All};
 ghost use Rattle.pb_values.specs.Checked.{fits_i64};
 ghost use Rattle.pb_matrix.specs.Value.{MatrixValue};
-ghost use Rattle.pb_matrix.specs.Words.{is_gap, words};
+ghost use Rattle.pb_matrix.specs.Words.{is_gap, words, cell_number};
 ghost use Rattle.pb_matrix.specs.Header.{IsMatrixShape, cell_count};
 ghost use Rattle.pb_matrix.specs.Reading.{matrix_read, body_read, Reads};
 ghost use Rattle.pb_matrix.specs.Spelling.{Spells};
@@ -9,9 +9,24 @@ ghost use Rattle.pb_matrix.specs.Spelling.{Spells};
 use crate::header::{read_header, split_header};
 use crate::matrix::{Matrix, MatrixRefusal};
 use crate::numbers::read_number;
+use crate::quick::quick_number;
 use crate::words::{Cut, next_word};
 use pb_values::Shape;
 use std::alloc::Global;
+
+// What the first word of a text says as a number, and what stands after it, if there is a word.
+#[inline]
+fn next_number(text: &[u8]) -> Option<(Option<i64>, &[u8])>
+    ensures numbers { MatchOption result (words is_gap text.now ≡ [])
+        (λ found. map cell_number (words is_gap text.now) ≡ found.0 ∷ map cell_number (words is_gap found.1.now)) }
+    ensures shorter { IfSome result (λ found. length found.1.now < length text.now) }
+{
+    if let Some((number, after)) = quick_number(text) {
+        return Some((Some(number), after));
+    }
+    let (word, after) = next_word(Cut::AtGaps, text)?;
+    Some((read_number(word), after))
+}
 
 // Reads the cells; takes memory for no more than can stand in the text.
 #[tactic(auto, using(crate::proofs::BodyLemmas::read_whole))]
@@ -24,12 +39,12 @@ fn read_body(alloc: Global, shape: Shape, text: &[u8]) -> Result<Matrix, MatrixR
     let wanted = shape.w * shape.h;
     let mut cells = Vec::with_capacity(alloc, (text.len() / 2 + 1).min(wanted as usize))?;
     let mut rest = text;
-    while let Some((word, after)) = next_word(Cut::AtGaps, rest) {
+    while let Some((number, after)) = next_number(rest) {
         let place = cells.len() as u64;
         if place == wanted {
             return Err(MatrixRefusal::TooMany { wanted });
         }
-        let Some(cell) = read_number(word) else {
+        let Some(cell) = number else {
             return Err(MatrixRefusal::BadNumber { word: place });
         };
         cells.push(cell)?;
