@@ -3,7 +3,7 @@ ghost use Rattle.pb_matrix.specs.Words.{cell_number};
 ghost use Rattle.pb_matrix.specs.Digits.{magnitude};
 
 // Another digit after a larger number would pass 2^63.
-pub(crate) const MOST_BEFORE_DIGIT: u64 = 922_337_203_685_477_580;
+const MOST_BEFORE_DIGIT: u64 = 922_337_203_685_477_580;
 
 const MOST: u64 = 1 << 63;
 

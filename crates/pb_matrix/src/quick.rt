@@ -3,8 +3,11 @@ ghost use Rattle.std.specs.List.{before_first, after_first};
 ghost use Rattle.pb_matrix.specs.Digits.{magnitude};
 ghost use Rattle.pb_matrix.specs.Words.{is_gap, cell_number};
 
-use crate::numbers::{MOST_BEFORE_DIGIT, negated};
+use crate::numbers::negated;
 use crate::words::{Cut, cuts};
+
+// Another digit after a smaller number keeps it below 2^63.
+const ROOM_FOR_DIGIT: u64 = 1 << 59;
 
 // The digits with which a text begins, up to a gap, and what stands after it, told in one pass. None where the text
 // begins otherwise, where no gap follows, and for some of the largest numbers.
@@ -27,7 +30,7 @@ fn quick_digits(text: &[u8]) -> Option<(u64, &[u8])>
             }
             return Some((value, &text[i + 1..]));
         }
-        if value >= MOST_BEFORE_DIGIT {
+        if value >= ROOM_FOR_DIGIT {
             return None;
         }
         value = value * 10 + (*byte - b'0') as u64;
@@ -38,7 +41,6 @@ fn quick_digits(text: &[u8]) -> Option<(u64, &[u8])>
 /// The number with which a text begins, up to a gap, and what stands after it, told in one pass. None where the text
 /// begins otherwise, where no gap follows, and for some of the largest numbers.
 #[inline]
-#[tactic(auto, using(crate::proofs::QuickLemmas::minus_number))]
 pub(crate) fn quick_number(text: &[u8]) -> Option<(i64, &[u8])>
     ensures number { IfSome result (λ found. cell_number (before_first is_gap text.now) ≡ Some found.0) }
     ensures after { IfSome result (λ found. found.1.now ≡ after_first is_gap text.now) }
