@@ -11,7 +11,7 @@ use Rattle.pb_program.specs.declared.meaning.Meaning.TheVariants.{RuleX}
 use Rattle.pb_program.specs.declared.meaning.Named.{Named}
 use Rattle.pb_program.specs.Exprs.{bare}
 use Rattle.pb_program.specs.Exprs as e
-use Rattle.pb_model.specs.Bodies.{Bindings, Store, called, cell_at, cell_in, dot_product, greater, if_ok, is_zero, lesser, named_view, operated, put_at, summed, view_of}
+use Rattle.pb_model.specs.Bodies.{Bindings, Store, by_operator, called, cell_at, cell_in, dot_product, greater, if_ok, is_zero, lesser, named_view, operated, put_at, summed, view_of}
 use Rattle.pb_model.specs.Grids.{no_grid}
 use Rattle.pb_syntax.specs.declared.tree.expression.Operator.{Operator}
 use Rattle.pb_syntax.specs.declared.tree.expression.Operator.TheVariants as operator
@@ -28,6 +28,45 @@ two_items [] x y some few ix iy = absurd (omega arith)
 two_items (a ∷ []) x y some few ix iy = absurd (omega arith)
 two_items (a ∷ b ∷ []) x y some few ix iy = ap (λ z. z ∷ b ∷ []) (sym ix) ∙ ap (λ z. x ∷ z ∷ []) (sym iy)
 two_items (a ∷ b ∷ c ∷ l) x y some few ix iy = absurd (omega arith)
+
+kept : (r : Result ℤ Kind) → r ≡ if_ok r (λ a. Ok a)
+kept (Ok a) = refl
+kept (Err k) = refl
+
+-- ---- where the left side decides, and where it doesn't
+pub by_decided : (o : Operator) (a n : ℤ) (r : Result ℤ Kind) → decided o a ≡ Some n → Ok n ≡ by_operator o a r
+by_decided operator.And a n r h = by (is_zero a) h
+  where
+    by : (z : Bool) → (if z then Some (pos 0) else None) ≡ Some n → Ok n ≡ (if z then Ok (pos 0) else r)
+    by true h = cc
+    by false h = absurd (cc)
+by_decided operator.Or a n r h = by (is_zero a) h
+  where
+    by : (z : Bool) → (if z then None else Some (pos 1)) ≡ Some n → Ok n ≡ (if z then r else Ok (pos 1))
+    by true h = absurd (cc)
+    by false h = cc
+by_decided operator.Times a n r h = absurd (cc)
+by_decided operator.Over a n r h = absurd (cc)
+by_decided operator.Modulo a n r h = absurd (cc)
+by_decided operator.Plus a n r h = absurd (cc)
+by_decided operator.Minus a n r h = absurd (cc)
+
+pub by_open : (o : Operator) (a : ℤ) (r : Result ℤ Kind) → decided o a ≡ None → by_operator o a r ≡ if_ok r (operated o a)
+by_open operator.And a r h = by (is_zero a) h
+  where
+    by : (z : Bool) → (if z then Some (pos 0) else None) ≡ None → (if z then Ok (pos 0) else r) ≡ if_ok r (λ v. Ok v)
+    by true h = absurd (cc)
+    by false h = kept r
+by_open operator.Or a r h = by (is_zero a) h
+  where
+    by : (z : Bool) → (if z then None else Some (pos 1)) ≡ None → (if z then r else Ok (pos 1)) ≡ if_ok r (λ v. Ok v)
+    by true h = kept r
+    by false h = absurd (cc)
+by_open operator.Times a r h = refl
+by_open operator.Over a r h = refl
+by_open operator.Modulo a r h = refl
+by_open operator.Plus a r h = refl
+by_open operator.Minus a r h = refl
 
 module _ (b : Bindings) (st : Store) where
   pub single_there : (xs : List Expr) (x : Expr) → 1 ≤ length xs → length xs < 2 → x ≡ get_or xs 0 x → value_in b st x ≡ single_in b st xs
@@ -175,45 +214,13 @@ module _ (b : Bindings) (st : Store) where
   dot_more (x ∷ y ∷ []) h = absurd (omega arith)
   dot_more (x ∷ y ∷ z ∷ xs) h = refl
 
-  kept : (r : Result ℤ Kind) → r ≡ if_ok r (λ a. Ok a)
-  kept (Ok a) = refl
-  kept (Err k) = refl
-
   pub operand_decided : (o : Operator) (a n : ℤ) (x : Expr) → decided o a ≡ Some n → Ok n ≡ operand_in b st a o x
   unfolding operand_in
-  operand_decided operator.And a n x h = by (is_zero a) h
-    where
-      by : (z : Bool) → (if z then Some (pos 0) else None) ≡ Some n → Ok n ≡ (if z then Ok (pos 0) else value_in b st x)
-      by true h = cc
-      by false h = absurd (cc)
-  operand_decided operator.Or a n x h = by (is_zero a) h
-    where
-      by : (z : Bool) → (if z then None else Some (pos 1)) ≡ Some n → Ok n ≡ (if z then value_in b st x else Ok (pos 1))
-      by true h = absurd (cc)
-      by false h = cc
-  operand_decided operator.Times a n x h = absurd (cc)
-  operand_decided operator.Over a n x h = absurd (cc)
-  operand_decided operator.Modulo a n x h = absurd (cc)
-  operand_decided operator.Plus a n x h = absurd (cc)
-  operand_decided operator.Minus a n x h = absurd (cc)
+  operand_decided o a n x = by_decided o a n (value_in b st x)
 
   pub operand_open : (o : Operator) (a : ℤ) (x : Expr) → decided o a ≡ None → operand_in b st a o x ≡ if_ok (value_in b st x) (operated o a)
   unfolding operand_in
-  operand_open operator.And a x h = by (is_zero a) h
-    where
-      by : (z : Bool) → (if z then Some (pos 0) else None) ≡ None → (if z then Ok (pos 0) else value_in b st x) ≡ if_ok (value_in b st x) (λ v. Ok v)
-      by true h = absurd (cc)
-      by false h = kept (value_in b st x)
-  operand_open operator.Or a x h = by (is_zero a) h
-    where
-      by : (z : Bool) → (if z then None else Some (pos 1)) ≡ None → (if z then value_in b st x else Ok (pos 1)) ≡ if_ok (value_in b st x) (λ v. Ok v)
-      by true h = kept (value_in b st x)
-      by false h = absurd (cc)
-  operand_open operator.Times a x h = refl
-  operand_open operator.Over a x h = refl
-  operand_open operator.Modulo a x h = refl
-  operand_open operator.Plus a x h = refl
-  operand_open operator.Minus a x h = refl
+  operand_open o a x = by_open o a (value_in b st x)
 
   pub named_is : (x : Expr) (n : Named) → lone_name (bare x) ≡ Some n → view_of b st n.what ≡ view_in b st x
   unfolding view_in

@@ -21,3 +21,4 @@ pub mod SameLemmas
 pub mod RegionLemmas
 pub mod RoomLemmas
 pub mod FormulaLemmas
+pub mod TermLemmas

@@ -10,3 +10,4 @@ pub mod Traps
 pub mod Running
 pub mod CanRun
 pub mod Formulas
+pub mod Terms

@@ -287,7 +287,7 @@ fn lone_name(e: &Expr) -> Option<Named>
 }
 
 /// The name of a view that an argument is; another argument names no view.
-fn named_view(e: &Expr) -> Meaning
+pub(crate) fn named_view(e: &Expr) -> Meaning
     ensures { (b : Bindings) (st : Store) → view_of b st result ≡ view_in b st e.now }
 {
     match lone_name(e) {

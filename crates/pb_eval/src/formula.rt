@@ -1,29 +1,27 @@
-ghost use Rattle.std.specs.Prelude.{◌≡◌, ◌<◌, ◌^◌, ◌≤◌, IfNone, IfSome, List, Ok};
+ghost use Rattle.std.specs.Prelude.{◌≡◌, ◌<◌, ◌^◌, ◌≤◌, IfNone, IfSome, List};
 ghost use Rattle.std.specs.List.{All};
 ghost use Rattle.pb_linear.specs.Sizes.{sizes_of};
 ghost use Rattle.pb_program.specs.Forms.{DeclValue};
 ghost use Rattle.pb_program.specs.Trees.{ProgRule, bare_rule};
 ghost use Rattle.pb_program.specs.declared.expression.Expr.{Expr as Held};
-ghost use Rattle.pb_program.specs.declared.meaning.Meaning.TheVariants.{Read};
 ghost use Rattle.pb_program.specs.declared.rule.RuleKind.TheVariants as kind;
-ghost use Rattle.pb_model.specs.Bodies.{number_of};
 ghost use Rattle.pb_model.specs.Equations.{own_outcome, rule_gives};
 ghost use Rattle.pb_eval.specs.CanRun.{AreReads, IsRunnable, at_variables};
 ghost use Rattle.pb_eval.specs.Formulas.{IsBlank, IsFormula};
 ghost use Rattle.pb_eval.specs.Shown.{IsTold, seen_by};
 ghost use Rattle.pb_eval.specs.Stored.{bound, store_of};
-ghost use Rattle.pb_eval.specs.Working.{operand_in, value_in, values_in};
-ghost use Rattle.pb_eval.specs.declared.scratch.Scratch.{Scratch as Scratched};
+ghost use Rattle.pb_eval.specs.Terms.{StandFor};
+ghost use Rattle.pb_eval.specs.Working.{value_in};
 
 use crate::place::body_of_rule;
 use crate::port::{NamesTurn, Port};
 use crate::scene::Scene;
 use crate::scratch::Scratch;
+use crate::terms::Terms;
 use crate::traps::first_trap;
 use pb_linear::{SIZE_TOP, Sizes};
-use pb_numbers::{KindWord, decided, number, operate};
+use pb_numbers::KindWord;
 use pb_program::{Expr, Meaning, Rule, Stmt};
-use pb_syntax::Operator;
 use pb_values::{CellReader, Outcome, Trap, View};
 use std::marker::{Brand, PhantomData};
 
@@ -45,110 +43,29 @@ pub fn formula_of(rule: &Rule) -> Option<&Expr>
 }
 
 impl<'a, N: NamesTurn> Scene<'a, N> {
-    /// The number of the first cell of a read that has one.
-    #[tactic(auto, using(crate::proofs::FormulaLemmas::first_read))]
-    fn first_of_read<C: CellReader>(&self, k: u32, port: &mut Port<C, N>) -> Option<i64>
-        ensures number { IfSome result (λ n. (s : Scratched) → number_of (bound self.now s) (store_of s) (Read k) ≡ n) }
-        ensures same_reference { port.new.reader.ghost_name ≡ port.old.reader.ghost_name }
-    {
-        if k as usize >= self.views.len() {
-            return None;
-        }
-        let view = &self.views[k as usize];
-        if view.shape.w == 0 {
-            return None;
-        }
-        if view.shape.h == 0 {
-            return None;
-        }
-        Some(port.number(view.place(0, 0)))
-    }
-
-    /// The value of a number of 64 bits, or of the name of a read, which needs no scratch; none for another expression.
-    #[tactic(auto, unfolding(crate::specs::Working::value_in, pb_model::specs::Bodies::value))]
-    fn plain<C: CellReader>(&self, e: &Expr, port: &mut Port<C, N>) -> Option<i64>
-        ensures value { IfSome result (λ n. (s : Scratched) → value_in (bound self.now s) (store_of s) e.now ≡ Ok n) }
-        ensures same_reference { port.new.reader.ghost_name ≡ port.old.reader.ghost_name }
-    {
-        match e {
-            Expr::Number { value, .. } => number(*value).ok(),
-            Expr::Name(name) => match name.what {
-                Meaning::Read(k) => self.first_of_read(k, port),
-                _ => None,
-            },
-            _ => None,
-        }
-    }
-
-    /// An operator's operand on the right of a value.
-    #[tactic(auto, using(crate::proofs::ArgumentLemmas::operand_decided, crate::proofs::ArgumentLemmas::operand_open))]
-    fn step<C: CellReader>(
-        &self,
-        e: &Expr,
-        operator: Operator,
-        left: i64,
-        scratch: &Scratch,
-        port: &mut Port<C, N>,
-    ) -> Result<i64, KindWord>
-        ensures value { result ≡ operand_in (bound self.now scratch.now) (store_of scratch.now) left operator e.now }
-        ensures same_reference { port.new.reader.ghost_name ≡ port.old.reader.ghost_name }
-    {
-        if let Some(value) = decided(operator, left) {
-            return Ok(value);
-        }
-        if let Some(right) = self.plain(e, port) {
-            return operate(operator, left, right);
-        }
-        operate(operator, left, self.value(e, scratch, port)?)
-    }
-
-    /// Operands, from left to right, after a value.
-    #[tactic(auto, using(crate::proofs::ExprLemmas::values_end))]
-    fn steps<C: CellReader>(
-        &self,
-        rest: &[(Operator, Expr)],
-        first: i64,
-        scratch: &Scratch,
-        port: &mut Port<C, N>,
-    ) -> Result<i64, KindWord>
-        ensures value { result ≡ values_in (bound self.now scratch.now) (store_of scratch.now) first rest.now }
-        ensures same_reference { port.new.reader.ghost_name ≡ port.old.reader.ghost_name }
-    {
-        let mut total = first;
-        for next in rest {
-            match self.step(&next.1, next.0, total, scratch, port) {
-                Ok(value) => total = value,
-                Err(kind) => return Err(kind),
-            }
-        }
-        Ok(total)
-    }
-
-    /// The value of an expression. A chain of numbers and of reads of single cells, which most formulas are, has a loop of its own.
-    #[tactic(auto, using(crate::proofs::ExprLemmas::chain_in))]
+    /// The value of a formula, by its terms where they are whole.
     fn formula_value<C: CellReader>(
         &self,
         e: &Expr,
+        terms: &Terms,
         scratch: &Scratch,
         port: &mut Port<C, N>,
     ) -> Result<i64, KindWord>
+        requires terms { StandFor e.now terms.now }
         ensures value { result ≡ value_in (bound self.now scratch.now) (store_of scratch.now) e.now }
         ensures same_reference { port.new.reader.ghost_name ≡ port.old.reader.ghost_name }
     {
-        let Expr::Chain { first, rest, .. } = e else {
-            return self.value(e, scratch, port);
-        };
-        let total = match self.plain(first, port) {
-            Some(total) => total,
-            None => self.value(first, scratch, port)?,
-        };
-        self.steps(rest, total, scratch, port)
+        if terms.is_whole {
+            return self.terms(terms, scratch, port);
+        }
+        self.value(e, scratch, port)
     }
 }
 
 /// The outcome of a cell by a formula, for a reader that tells just that.
 fn outcome_by<C: CellReader, N: NamesTurn>(
     e: &Expr,
+    terms: &Terms,
     t: u32,
     r: u32,
     s: &Sizes,
@@ -164,6 +81,7 @@ fn outcome_by<C: CellReader, N: NamesTurn>(
     requires y { y < 2 ^ 63 }
     requires told { All (IsTold N.turn) views.now }
     requires blank { IsBlank scratch.now }
+    requires terms { StandFor e.now terms.now }
     ensures outcome { (matrices : List DeclValue) (rule : ProgRule) → IsRunnable matrices rule → rule.kind ≡ kind.Cell → IsFormula rule e.now
         → AreReads matrices (sizes_of s.now) (at_variables x y) rule views.now N.turn
         → result ≡ own_outcome matrices (sizes_of s.now) (at_variables x y) rule (rule_gives matrices (sizes_of s.now) (at_variables x y) t r rule (seen_by N.turn views.now)) }
@@ -183,7 +101,7 @@ fn outcome_by<C: CellReader, N: NamesTurn>(
         views,
         of: PhantomData,
     };
-    match scene.formula_value(e, scratch, &mut told) {
+    match scene.formula_value(e, terms, scratch, &mut told) {
         Ok(n) => Outcome::Value(n),
         Err(kind) => Outcome::Trapped(Trap {
             kind: kind.kind(),
@@ -197,9 +115,11 @@ fn outcome_by<C: CellReader, N: NamesTurn>(
 
 /// The outcome of a cell by rule `r` of transform `t`, a rule for single cells with the formula `e`, over a view for each of its
 /// reads. Sizes are at most `SIZE_TOP`, the rule variables below 2^63; the views have sides of at most `MOST_SIDE`, and the reader
-/// tells each of their cells; the scratch is as `begin_cell` leaves it.
+/// tells each of their cells; the scratch is as `begin_cell` leaves it, and `terms` has
+/// taken the formula.
 pub fn run_formula<C: CellReader>(
     e: &Expr,
+    terms: &Terms,
     t: u32,
     r: u32,
     s: &Sizes,
@@ -214,10 +134,11 @@ pub fn run_formula<C: CellReader>(
     requires y { y < 2 ^ 63 }
     requires told { All (IsTold (C.turn port.old)) views.now }
     requires blank { IsBlank scratch.now }
+    requires terms { StandFor e.now terms.now }
     ensures outcome { (matrices : List DeclValue) (rule : ProgRule) → IsRunnable matrices rule → rule.kind ≡ kind.Cell → IsFormula rule e.now
         → AreReads matrices (sizes_of s.now) (at_variables x y) rule views.now (C.turn port.old)
         → result ≡ own_outcome matrices (sizes_of s.now) (at_variables x y) rule (rule_gives matrices (sizes_of s.now) (at_variables x y) t r rule (seen_by (C.turn port.old) views.now)) }
     ensures stays { C.turn port.new ≡ C.turn port.old }
 {
-    outcome_by::<C, Brand>(e, t, r, s, x, y, views, port, scratch)
+    outcome_by::<C, Brand>(e, terms, t, r, s, x, y, views, port, scratch)
 }

@@ -7,6 +7,7 @@
 
 mod body;
 mod cell;
+mod chain;
 mod expression;
 mod formula;
 mod laws;
@@ -23,6 +24,7 @@ mod sides;
 mod spot;
 mod statement;
 mod sums;
+mod terms;
 mod traps;
 mod turns;
 
@@ -31,3 +33,4 @@ pub use formula::{formula_of, run_formula};
 pub use laws::{a_computing_rule_can_be_run, a_rule_for_regions_means_the_same_at_each_cell};
 pub use room::{locals_room, outs_room};
 pub use scratch::Scratch;
+pub use terms::Terms;

@@ -57,7 +57,23 @@ fn view_trap<C: CellReader, N: NamesTurn>(view: &View, port: &mut Port<C, N>) ->
     None
 }
 
+/// The first trap among the cells of views, each of which is looked at.
+fn trap_among<C: CellReader, N: NamesTurn>(views: &[View], port: &mut Port<C, N>) -> Option<Trap>
+    requires { All (IsTold N.turn) views.now }
+    ensures trap { result ≡ first_trap (views_seen N.turn views.now) }
+    ensures same_reference { port.new.reader.ghost_name ≡ port.old.reader.ghost_name }
+{
+    for view in views {
+        match view_trap(view, port) {
+            None => (),
+            Some(trap) => return Some(trap),
+        }
+    }
+    None
+}
+
 /// The first trap among the cells of views.
+#[inline(always)]
 pub(crate) fn first_trap<C: CellReader, N: NamesTurn>(
     views: &[View],
     port: &mut Port<C, N>,
@@ -69,11 +85,5 @@ pub(crate) fn first_trap<C: CellReader, N: NamesTurn>(
     if port.is_untrapped() {
         return None;
     }
-    for view in views {
-        match view_trap(view, port) {
-            None => (),
-            Some(trap) => return Some(trap),
-        }
-    }
-    None
+    trap_among(views, port)
 }

@@ -29,7 +29,7 @@ use Rattle.pb_jobs.specs.Advances.{AreAdvances, AreWithinAlong, IsAdvance, IsSho
 use Rattle.pb_jobs.specs.Distances.{IsFromTo, IsOneCell}
 use Rattle.pb_jobs.specs.Shown.{AreShown, IsShownFor, LiesWithin}
 use Rattle.pb_jobs.specs.declared.advance.Advance.{Advance}
-use Rattle.pb_jobs.specs.declared.advance.Advance.TheVariants.{Up, Down, Anew}
+use Rattle.pb_jobs.specs.declared.advance.Advance.TheVariants.{Up, Down}
 use Rattle.pb_jobs.proofs.ListLemmas.{some_at, some_same}
 use Rattle.pb_jobs.proofs.ShownLemmas.{last_of, left_of, lies_within}
 
@@ -83,7 +83,6 @@ module _ (w : Window) (m : View) (s : Stretch) where
   pub advances : 1 < s.count → w.view ≡ view.Cell → (here next : ℕ) → pos here ≡ cell_shown w m (place_on s 0) → pos next ≡ cell_shown w m (place_on s 1) → (a : Advance) → IsFromTo here next a → IsAdvance w m s a
   advances some single here next from to (Up by) is = (single, λ i below. let first = cell_next 0 (omega (arith, some)) in omega (arith, ints, cell_next i below, first, from, to, is))
   advances some single here next from to (Down by) is = (single, λ i below. let first = cell_next 0 (omega (arith, some)) in omega (arith, ints, cell_next i below, first, from, to, is))
-  advances some single here next from to Anew is = absurd is
 
 -- ---- the view of one cell
 one_extent : (z : ℤ) → extent (one_place z) ≡ 1

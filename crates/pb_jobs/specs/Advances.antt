@@ -1,5 +1,5 @@
 -- How what a rule reads moves from one place of a line to the next.
-use Rattle.std.specs.Prelude.{◌≡◌, ℕ, ◌+◌, ◌<◌, ◌≤◌, ◌^◌, ℤ, pos, ◌+ℤ◌, ◌*ℤ◌, List, length, Some, slice_get, ⊤}
+use Rattle.std.specs.Prelude.{◌≡◌, ℕ, ◌+◌, ◌<◌, ◌≤◌, ◌^◌, ℤ, pos, ◌+ℤ◌, ◌*ℤ◌, List, length, Some, slice_get}
 use Rattle.pb_values.specs.declared.view.View.{View}
 use Rattle.pb_program.specs.Areas.{Area}
 use Rattle.pb_program.specs.declared.view.Read.{Read}
@@ -11,7 +11,7 @@ use Rattle.pb_walk.specs.declared.stop.Stop.{Stop}
 use Rattle.pb_walk.specs.declared.stretch.Stretch.{Stretch}
 use Rattle.pb_walk.specs.Stretches.{place_on}
 use Rattle.pb_jobs.specs.declared.advance.Advance.{Advance}
-use Rattle.pb_jobs.specs.declared.advance.Advance.TheVariants.{Up, Down, Anew}
+use Rattle.pb_jobs.specs.declared.advance.Advance.TheVariants.{Up, Down}
 use Rattle.pb_jobs.specs.Shown.{AreWithin, IsShownFor}
 
 -- the cell of a matrix at the low corner of an area
@@ -22,11 +22,10 @@ corner_cell m a = pos m.first +ℤ (a.x.low *ℤ pos m.step_x +ℤ a.y.low *ℤ 
 abbrev pub cell_shown : Window → View → Stop → ℤ
 cell_shown w m s = corner_cell m (shown_by w m s.x s.y view.Cell)
 
--- from each place of a stretch to the next, a view moves so
+-- from each place of a stretch to the next, a view of one cell moves so
 abbrev pub IsAdvance : Window → View → Stretch → Advance → Type 0
 IsAdvance w m s (Up by) = (w.view ≡ view.Cell) × ((i : ℕ) → i + 1 < s.count → cell_shown w m (place_on s (i + 1)) ≡ cell_shown w m (place_on s i) +ℤ pos by)
 IsAdvance w m s (Down by) = (w.view ≡ view.Cell) × ((i : ℕ) → i + 1 < s.count → cell_shown w m (place_on s (i + 1)) +ℤ pos by ≡ cell_shown w m (place_on s i))
-IsAdvance w m s Anew = ⊤
 
 -- and so those of the first reads do
 pub record AreAdvances (matrices : List View) (s : Stretch) (reads : List Read) (windows : List Window) (n : ℕ) (advances : List Advance) : Type 0 where

@@ -1,4 +1,4 @@
-ghost use Rattle.std.specs.Prelude.{◌≡◌, ◌≤◌, ◌^◌, ◌<◌, ℕ, pos};
+ghost use Rattle.std.specs.Prelude.{◌≡◌, ◌≤◌, ◌^◌, ◌<◌, ℕ, IfSome, pos};
 ghost use Rattle.pb_region.specs.Within.{IsWithin};
 ghost use Rattle.pb_views.specs.Windows.{shown_by};
 ghost use Rattle.pb_walk.specs.Stretches.{place_on};
@@ -10,13 +10,11 @@ use pb_values::{Shape, View};
 use pb_views::Window;
 use pb_walk::Stretch;
 
-/// How a view moves from one place of a line to the next: to a greater or to a smaller cell of the run, by so many, which only a view of
-/// one cell does; or it is shown anew.
+/// How a view of one cell moves from one place of a line to the next: to a greater or to a smaller cell of the run, by so many.
 #[derive(Clone, Copy)]
 pub enum Advance {
     Up(u64),
     Down(u64),
-    Anew,
 }
 
 /// From one cell to another.
@@ -30,13 +28,14 @@ fn advance_from(here: u64, next: u64) -> Advance
     }
 }
 
-/// How what a window shows of a matrix moves along a line: that of one cell by as much as from the first place to the second.
-pub(crate) fn advance_along(window: &Window, matrix: &View, stretch: &Stretch) -> Advance
+/// How what a window shows of a matrix moves along a line of two places or more: that of one cell by as much as from the first place to
+/// the second. It isn't known of other views.
+pub(crate) fn advance_along(window: &Window, matrix: &View, stretch: &Stretch) -> Option<Advance>
     requires { (i : ℕ) → i < stretch.now.count → IsWindowOn window.now matrix.now stretch.now i }
-    ensures { IsAdvance window.now matrix.now stretch.now result }
+    ensures { IfSome result (IsAdvance window.now matrix.now stretch.now) }
 {
     if stretch.count < 2 {
-        return Advance::Anew;
+        return None;
     }
     match window.view {
         ReadView::Cell => {
@@ -44,8 +43,8 @@ pub(crate) fn advance_along(window: &Window, matrix: &View, stretch: &Stretch) -
             let (a, b) = stretch.place(1);
             let here = window.show(matrix, x, y);
             let next = window.show(matrix, a, b);
-            advance_from(here.first, next.first)
+            Some(advance_from(here.first, next.first))
         }
-        _ => Advance::Anew,
+        _ => None,
     }
 }

@@ -4,11 +4,12 @@ ghost use Rattle.pb_program.specs.declared.rule.RuleKind.TheVariants as kind;
 ghost use Rattle.pb_model.specs.Equations.{own_outcome};
 ghost use Rattle.pb_eval.specs.CanRun.{at_variables};
 ghost use Rattle.pb_eval.specs.Formulas.{IsBlank};
+ghost use Rattle.pb_eval.specs.Terms.{StandFor};
 ghost use Rattle.pb_jobs.specs.Instances.{AreReadsOf, CanRunRule, HasFormula, IsReady, given_by, of_sizes, of_transform};
 ghost use Rattle.pb_jobs.specs.Rooms.{HasRoomIn, SameRoom};
 
 use crate::instance::Instance;
-use pb_eval::{Scratch, formula_of, run_formula};
+use pb_eval::{Scratch, Terms, formula_of, run_formula};
 use pb_program::Expr;
 use pb_values::{CellReader, Outcome, View};
 
@@ -43,6 +44,7 @@ impl<'a> Instance<'a> {
     fn by_formula<C: CellReader>(
         &self,
         e: &Expr,
+        terms: &Terms,
         rule: u32,
         x: u64,
         y: u64,
@@ -54,6 +56,7 @@ impl<'a> Instance<'a> {
         requires can { CanRunRule self.now rule x y (C.turn port.old) }
         requires one { (r : ProgRule) → slice_get (of_transform self.now).rules rule ≡ Some r → r.kind ≡ kind.Cell }
         requires formula { HasFormula self.now rule e.now }
+        requires terms { StandFor e.now terms.now }
         requires shown { AreReadsOf self.now rule x y views.now }
         requires blank { IsBlank scratch.now }
         ensures outcome { (r : ProgRule) → slice_get (of_transform self.now).rules rule ≡ Some r
@@ -62,6 +65,7 @@ impl<'a> Instance<'a> {
     {
         run_formula(
             e,
+            terms,
             self.transform_number(),
             rule,
             self.sizes(),
@@ -77,6 +81,7 @@ impl<'a> Instance<'a> {
     pub(crate) fn cell<C: CellReader>(
         &self,
         formula: Option<&Expr>,
+        terms: &Terms,
         rule: u32,
         x: u64,
         y: u64,
@@ -88,6 +93,7 @@ impl<'a> Instance<'a> {
         requires can { CanRunRule self.now rule x y (C.turn port.old) }
         requires one { (r : ProgRule) → slice_get (of_transform self.now).rules rule ≡ Some r → r.kind ≡ kind.Cell }
         requires formula { IfSome formula (λ e. HasFormula self.now rule e.now) }
+        requires terms { IfSome formula (λ e. StandFor e.now terms.now) }
         requires shown { AreReadsOf self.now rule x y views.now }
         requires blank { IfSome formula (λ e. IsBlank scratch.old) }
         requires room { HasRoomIn self.now rule scratch.old }
@@ -98,8 +104,17 @@ impl<'a> Instance<'a> {
         ensures stays { C.turn port.new ≡ C.turn port.old }
     {
         match formula {
-            Some(e) => self.by_formula(e, rule, x, y, views, port, scratch),
+            Some(e) => self.by_formula(e, terms, rule, x, y, views, port, scratch),
             None => self.by_body(rule, x, y, views, port, scratch),
         }
+    }
+}
+
+/// Takes the terms of a formula, if there is one.
+pub(crate) fn take_terms(formula: Option<&Expr>, terms: &mut Terms)
+    ensures { IfSome formula.entry (λ e. StandFor e.now terms.new) }
+{
+    if let Some(e) = formula {
+        terms.take(e);
     }
 }

@@ -3,15 +3,17 @@ ghost use Rattle.pb_jobs.specs.Rooms.{rooms_of};
 
 use crate::room::Rooms;
 use crate::shown::Shown;
-use pb_eval::Scratch;
+use pb_eval::{Scratch, Terms};
 use pb_walk::Walk;
 use std::alloc::{AllocError, Global};
 
-/// Room that rules use, one after another: for the views of a rule's reads, and for its locals and outputs.
+/// Room that rules use, one after another: for the views of a rule's reads, for its locals and outputs, and for the terms of its
+/// formula.
 #[derive(Drop)]
 pub(crate) struct RuleScratch {
     pub(crate) shown: Shown,
     pub(crate) body: Scratch,
+    pub(crate) terms: Terms,
 }
 
 /// Room that jobs use, one after another: for the places of a job, and for its rules.
@@ -31,6 +33,7 @@ impl RunScratch {
             rule: RuleScratch {
                 shown: Shown::new(alloc)?,
                 body: Scratch::new(alloc, rooms.locals, rooms.outs)?,
+                terms: Terms::new(alloc)?,
             },
         })
     }

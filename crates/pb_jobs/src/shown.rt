@@ -1,4 +1,4 @@
-ghost use Rattle.std.specs.Prelude.{◌≡◌, ◌+◌, ◌≤◌, ◌<◌, ◌^◌, ◌++◌, ◌∷◌, IfOk, Some, [], length, slice_get};
+ghost use Rattle.std.specs.Prelude.{◌≡◌, ◌+◌, ◌≤◌, ◌<◌, ◌^◌, ◌++◌, ◌∷◌, IfOk, IsTrue, Some, [], length, slice_get};
 ghost use Rattle.std.specs.Vec.{vec_capacity};
 ghost use Rattle.pb_syntax.specs.declared.limits.TheConstants.{MOST_VIEWS};
 ghost use Rattle.pb_walk.specs.Stretches.{place_on};
@@ -69,7 +69,8 @@ impl Shown {
 
     fn put(&mut self, view: View)
         requires { length self.old.views.items < MOST_VIEWS }
-        ensures { self.new.views.items ≡ self.old.views.items ++ view ∷ [] }
+        ensures views { self.new.views.items ≡ self.old.views.items ++ view ∷ [] }
+        ensures advances { self.new.advances ≡ self.old.advances }
     {
         let _ = self.views.push(view);
     }
@@ -96,7 +97,8 @@ impl Shown {
         requires x { x ≤ 2 ^ 23 }
         requires y { y ≤ 2 ^ 23 }
         requires within { AreWithin matrices.now x y reads.now windows.now }
-        ensures { AreShown matrices.now x y reads.now windows.now (length reads.now) self.new.views.items }
+        ensures shown { AreShown matrices.now x y reads.now windows.now (length reads.now) self.new.views.items }
+        ensures advances { self.new.advances ≡ self.old.advances }
     {
         self.views.clear();
         for k in 0..reads.len() {
@@ -105,28 +107,32 @@ impl Shown {
         }
     }
 
-    /// Shows the views of reads at the first place of a line, and sees how they move from there.
+    /// Shows the views of reads at the first place of a line of some places. Whether it is known how each moves from there, and how.
     pub(crate) fn begin(
         &mut self,
         reads: &[Read],
         windows: &[Window],
         matrices: &[View],
         stretch: &Stretch,
-    )
+    ) -> bool
         requires few { length reads.now ≤ MOST_VIEWS }
         requires windows { length windows.now ≡ length reads.now }
         requires some { 0 < stretch.now.count }
         requires within { AreWithinAlong matrices.now reads.now windows.now stretch.now }
         ensures shown { AreShown matrices.now (place_on stretch.now 0).x (place_on stretch.now 0).y reads.now windows.now (length reads.now) self.new.views.items }
-        ensures advances { AreAdvances matrices.now stretch.now reads.now windows.now (length reads.now) self.new.advances.items }
+        ensures advances { IsTrue result → AreAdvances matrices.now stretch.now reads.now windows.now (length reads.now) self.new.advances.items }
     {
         let (x, y) = stretch.place(0);
         self.show(reads, windows, matrices, x, y);
         self.advances.clear();
         for k in 0..reads.len() {
             let matrix = &matrices[reads[k].matrix as usize];
-            self.put_advance(advance_along(&windows[k], matrix, stretch));
+            match advance_along(&windows[k], matrix, stretch) {
+                Some(advance) => self.put_advance(advance),
+                None => return false,
+            }
         }
+        true
     }
 
     /// The view of a read at the place after this one.
@@ -151,11 +157,10 @@ impl Shown {
         match self.advances[k] {
             Advance::Up(by) => one_cell(self.views[k].first + by),
             Advance::Down(by) => one_cell(self.views[k].first - by),
-            Advance::Anew => show_next(k, reads, windows, matrices, stretch, i),
         }
     }
 
-    /// Shows them at the place after this one, unless it is the last.
+    /// Shows them at the place after this one, unless it is the last, where it is known how each moves.
     pub(crate) fn go_on(
         &mut self,
         reads: &[Read],
@@ -180,24 +185,27 @@ impl Shown {
             self.views[k] = by_fields(view);
         }
     }
-}
 
-/// What the window of a read shows at the place after this one.
-fn show_next(
-    k: usize,
-    reads: &[Read],
-    windows: &[Window],
-    matrices: &[View],
-    stretch: &Stretch,
-    i: u64,
-) -> View
-    requires read { k < length reads.now }
-    requires windows { length windows.now ≡ length reads.now }
-    requires next { i + 1 < stretch.now.count }
-    requires within { AreWithinAlong matrices.now reads.now windows.now stretch.now }
-    ensures { (r : Read) (w : Window) → slice_get reads.now k ≡ Some r → slice_get windows.now k ≡ Some w → IsShownFor matrices.now (place_on stretch.now (i + 1)).x (place_on stretch.now (i + 1)).y r w result }
-{
-    let matrix = &matrices[reads[k].matrix as usize];
-    let (x, y) = stretch.place(i + 1);
-    windows[k].show(matrix, x, y)
+    /// Shows them at the place after this one, unless it is the last.
+    pub(crate) fn show_next(
+        &mut self,
+        reads: &[Read],
+        windows: &[Window],
+        matrices: &[View],
+        stretch: &Stretch,
+        i: u64,
+    )
+        requires few { length reads.now ≤ MOST_VIEWS }
+        requires windows { length windows.now ≡ length reads.now }
+        requires here { i < stretch.now.count }
+        requires within { AreWithinAlong matrices.now reads.now windows.now stretch.now }
+        ensures shown { i + 1 < stretch.now.count → AreShown matrices.now (place_on stretch.now (i + 1)).x (place_on stretch.now (i + 1)).y reads.now windows.now (length reads.now) self.new.views.items }
+        ensures advances { self.new.advances ≡ self.old.advances }
+    {
+        if i + 1 >= stretch.count {
+            return;
+        }
+        let (x, y) = stretch.place(i + 1);
+        self.show(reads, windows, matrices, x, y);
+    }
 }

@@ -4,6 +4,7 @@ ghost use Rattle.pb_jobs.specs.Instances.{IsReady};
 ghost use Rattle.pb_jobs.specs.Jobs.{AreMadeHere};
 ghost use Rattle.pb_jobs.specs.Rooms.{HasRoomIn, SameRoom};
 
+use crate::formulas::take_terms;
 use crate::instance::Instance;
 use crate::scratch::RuleScratch;
 use pb_taskgraph::CellPort;
@@ -29,14 +30,28 @@ impl<'a> Instance<'a> {
         let windows = self.read_windows(rule);
         let matrices = self.views();
         let view = matrices[stretch.base as usize];
-        scratch.shown.begin(reads, windows, matrices, stretch);
+        let moves = scratch.shown.begin(reads, windows, matrices, stretch);
         let formula = self.begin_formula(rule, &mut scratch.body);
+        take_terms(formula, &mut scratch.terms);
         for i in 0..stretch.count {
             let (x, y) = stretch.place(i);
             let shown = &mut scratch.shown;
-            let outcome = self.cell(formula, rule, x, y, &shown.views, port, &mut scratch.body);
+            let outcome = self.cell(
+                formula,
+                &scratch.terms,
+                rule,
+                x,
+                y,
+                &shown.views,
+                port,
+                &mut scratch.body,
+            );
             port.write(view.place(x, y), outcome);
-            shown.go_on(reads, windows, matrices, stretch, i);
+            if moves {
+                shown.go_on(reads, windows, matrices, stretch, i);
+            } else {
+                shown.show_next(reads, windows, matrices, stretch, i);
+            }
         }
     }
 }

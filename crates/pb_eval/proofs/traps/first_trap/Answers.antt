@@ -1,6 +1,6 @@
-use Rattle.std.proofs.Common.{◌<◌, ◌≤◌, ◌∙◌, sym, ap, length, arith}
+use Rattle.std.proofs.Common.{◌∙◌, sym, ap}
 use Rattle.pb_model.specs.Equations.{first_trap}
-use Rattle.pb_eval.proofs.TrapLemmas.{seen_is, views_end, views_none, views_some}
+use Rattle.pb_eval.proofs.TrapLemmas.{seen_is}
 use Rattle.pb_eval.proofs.ViewLemmas.{seen_none}
 use Rattle.pb_eval.proofs.traps.first_trap.Goals as goal
 
@@ -9,21 +9,3 @@ returns-then-is_untrapped-clause-trap g c =
     let N = g.N.NamesTurn.turn in
     let views = c.args.views.now in
     seen_none N views (c.is_untrapped.ensures c.if-is_untrapped.true) c.requires ∙ sym (ap first_trap (seen_is N views))
-
-pub returns-in-Some-clause-trap : goal.returns-in-Some-clause-trap
-returns-in-Some-clause-trap g c =
-    let inside : c.loop-view.view-index < length c.args.views.now = omega arith in
-    views_some _ _ _ _ _ inside c.view-item.is c.in-Some.ensures.trap ∙ c.loop-view.invariant.trap
-
-pub loop-view-preserved : goal.loop-view-preserved
-loop-view-preserved g c =
-    let inside : c.loop-view.view-index < length c.args.views.now = omega arith in
-    record {
-      trap = views_none _ _ _ _ inside c.view-item.is c.in-None.ensures.trap ∙ c.loop-view.invariant.trap;
-      same_reference = c.view_trap.ensures.same_reference ∙ c.loop-view.invariant.same_reference;
-    }
-
-pub returns-clause-trap : goal.returns-clause-trap
-returns-clause-trap g c =
-    let past : length c.args.views.now ≤ c.loop-view.view-index = omega arith in
-    views_end _ _ _ past ∙ c.loop-view.invariant.trap

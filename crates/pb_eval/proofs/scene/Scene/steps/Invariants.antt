@@ -1,10 +1,10 @@
 use Rattle.std.proofs.Common.{◌≡◌, drop}
 use Rattle.pb_eval.specs.Stored.{bound, store_of}
-use Rattle.pb_eval.specs.Working.{values_in}
+use Rattle.pb_eval.specs.Terms.{steps_value}
 use Rattle.pb_eval.proofs.scene.Scene.steps.Given as goal
 
 abbrev pub invariant-loop-next : goal.invariant-loop-next
 invariant-loop-next g l = record {
-  value : values_in (bound l.self l.scratch) (store_of l.scratch) l.total (drop l.next-index l.rest) ≡ values_in (bound l.self l.scratch) (store_of l.scratch) l.first l.rest;
+  value : steps_value (bound l.self l.scratch) (store_of l.scratch) l.total (drop l.next-index l.rest) ≡ steps_value (bound l.self l.scratch) (store_of l.scratch) l.first l.rest;
   same_reference : l.port.reader.ghost_name ≡ l.initial.port.reader.ghost_name;
 }

@@ -27,12 +27,12 @@ show-requires-clause-within g c =
 pub run_over-requires-clause-reads : goal.run_over-requires-clause-reads
 run_over-requires-clause-reads g c =
     let can = c.requires.can in
-    let are = subst (AreShown c.views.result.now c.args.x c.args.y c.reads.result.now c.read_windows.result.now (length c.reads.result.now)) (sym c.deref.ensures.value) c.show.ensures in
+    let are = subst (AreShown c.views.result.now c.args.x c.args.y c.reads.result.now c.read_windows.result.now (length c.reads.result.now)) (sym c.deref.ensures.value) c.show.ensures.shown in
     reads_told c.args.self.now c.requires.ready c.args.rule c.args.x c.args.y _ can c.reads.result.now (c.reads.ensures can.rule can.there) c.read_windows.result.now (c.read_windows.ensures can.rule can.there) c.views.result.now c.views.ensures c.deref.result.now are
 
 pub returns-clause-found : goal.returns-clause-found
 returns-clause-found g c =
     let can = c.requires.can in
-    let are = subst (AreShown c.views.result.now c.args.x c.args.y c.reads.result.now c.read_windows.result.now (length c.reads.result.now)) (sym c.deref.ensures.value) c.show.ensures in
+    let are = subst (AreShown c.views.result.now c.args.x c.args.y c.reads.result.now c.read_windows.result.now (length c.reads.result.now)) (sym c.deref.ensures.value) c.show.ensures.shown in
     gives_told c.args.self.now c.requires.ready c.args.rule c.args.x c.args.y _ can c.reads.result.now (c.reads.ensures can.rule can.there) c.read_windows.result.now (c.read_windows.ensures can.rule can.there) c.views.result.now c.views.ensures c.deref.result.now are
     c.run_over.result c.run_over.new.scratch c.run_over.ensures.found

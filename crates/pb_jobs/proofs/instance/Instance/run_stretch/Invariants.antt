@@ -1,6 +1,7 @@
 use Rattle.std.proofs.Common.{◌≡◌, ◌<◌, length}
-use Rattle.std.specs.Prelude.{IfSome}
+use Rattle.std.specs.Prelude.{IfSome, IsTrue}
 use Rattle.pb_eval.specs.Formulas.{IsBlank}
+use Rattle.pb_eval.specs.Terms.{StandFor}
 use Rattle.pb_taskgraph.specs.Turns.{after_some}
 use Rattle.pb_walk.specs.Stretches.{place_on}
 use Rattle.pb_jobs.specs.Advances.{AreAdvances}
@@ -14,5 +15,6 @@ invariant-loop-i g l = record {
   room : SameRoom l.fn.scratch.body l.scratch.body;
   blank : IfSome l.formula (λ e. IsBlank l.scratch.body);
   shown : l.i < l.stretch.count → AreShown l.matrices (place_on l.stretch l.i).x (place_on l.stretch l.i).y l.reads l.windows (length l.reads) l.scratch.shown.views.items;
-  advances : AreAdvances l.matrices l.stretch l.reads l.windows (length l.reads) l.scratch.shown.advances.items;
+  advances : IsTrue l.moves → AreAdvances l.matrices l.stretch l.reads l.windows (length l.reads) l.scratch.shown.advances.items;
+  terms : IfSome l.formula (λ e. StandFor e.now l.scratch.terms);
 }

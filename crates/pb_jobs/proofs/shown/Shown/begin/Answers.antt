@@ -38,6 +38,6 @@ loop-k-preserved c =
     let there : r.matrix < length c.args.matrices.now = matrix_there c.args.matrices.now p.x p.y c.args.reads.now c.args.windows.now (c.requires.within 0 c.requires.some).within c.loop-k.k r w at_r at_w in
     let at_m : slice_get c.args.matrices.now r.matrix ≡ Some m = index_there c.args.matrices.now r.matrix m there (c.index-matrices-reads.is ∙ ap (λ (q : Read). slice_index_or c.args.matrices.now q.matrix m) (sym c.index-reads-k.is)) in
     record {
-      advances = advances_more c.args.matrices.now c.args.stretch.now c.args.reads.now c.args.windows.now c.loop-k.k c.loop-k.self.advances.items _ r w c.advance_along.result m c.loop-k.invariant.advances at_r at_w at_m c.advance_along.ensures c.put_advance.ensures.advances;
+      advances = advances_more c.args.matrices.now c.args.stretch.now c.args.reads.now c.args.windows.now c.loop-k.k c.loop-k.self.advances.items _ r w c.in-Some.advance m c.loop-k.invariant.advances at_r at_w at_m c.in-Some.ensures c.put_advance.ensures.advances;
       views = c.put_advance.ensures.views ∙ c.loop-k.invariant.views;
     }

@@ -33,4 +33,7 @@ loop-k-preserved c =
     let m = c.index-matrices-reads.result in
     let there : r.matrix < length c.args.matrices.now = matrix_there c.args.matrices.now c.args.x c.args.y c.args.reads.now c.args.windows.now c.requires.within c.loop-k.k r w at_r at_w in
     let at_m : slice_get c.args.matrices.now r.matrix ≡ Some m = slice_get-get_or c.args.matrices.now r.matrix m there ∙ ap Some (sym (c.index-matrices-reads.is ∙ ap (λ (q : Read). slice_index_or c.args.matrices.now q.matrix m) (sym c.index-reads-k.is))) in
-    shown_more c.args.matrices.now c.args.x c.args.y c.args.reads.now c.args.windows.now c.loop-k.k c.loop-k.self.views.items _ r w m c.show.result c.loop-k.invariant at_r at_w at_m c.show.ensures (c.put.ensures ∙ ap (λ v. c.loop-k.self.views.items ++ v ∷ []) c.by_fields.ensures)
+    record {
+      shown = shown_more c.args.matrices.now c.args.x c.args.y c.args.reads.now c.args.windows.now c.loop-k.k c.loop-k.self.views.items _ r w m c.show.result c.loop-k.invariant.shown at_r at_w at_m c.show.ensures (c.put.ensures.views ∙ ap (λ v. c.loop-k.self.views.items ++ v ∷ []) c.by_fields.ensures);
+      advances = c.put.ensures.advances ∙ c.loop-k.invariant.advances;
+    }

@@ -1,7 +1,7 @@
 use Rattle.std.proofs.Common.{◌≡◌, drop}
 use Rattle.pb_model.specs.Equations.{first_trap}
 use Rattle.pb_eval.specs.Traps.{views_seen}
-use Rattle.pb_eval.proofs.traps.first_trap.Given as goal
+use Rattle.pb_eval.proofs.traps.trap_among.Given as goal
 
 abbrev pub invariant-loop-view : goal.invariant-loop-view
 invariant-loop-view g l = record {
