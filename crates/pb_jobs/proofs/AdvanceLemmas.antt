@@ -1,6 +1,6 @@
--- The cell that a window shows moves along a line by the same each time.
-use Rattle.std.proofs.Common.{◌≡◌, ◌∙◌, refl, sym, ap, subst, ⊎_elim, ℕ, zero, suc, ◌+◌, ◌-◌, ◌<◌, ◌≤◌, ◌^◌, Bool, true, false, if◌then◌else◌, ℤ, pos, negsuc, ◌+ℤ◌, ◌-ℤ◌, ◌*ℤ◌, ◌≤ℤ◌, List, [], ◌∷◌, ◌++◌, get_or, length, length-set, set, slice_get, Some, mul-le-mul_right, arith}
-use Rattle.std.specs.Prelude.{map}
+-- What a window shows moves along a line by the same each time.
+use Rattle.std.proofs.Common.{◌≡◌, ◌∙◌, refl, sym, ap, subst, ⊎_elim, ℕ, zero, suc, ◌+◌, ◌-◌, ◌*◌, ◌<◌, ◌≤◌, ◌^◌, Bool, true, false, if◌then◌else◌, ℤ, pos, negsuc, ◌+ℤ◌, ◌-ℤ◌, ◌*ℤ◌, ◌≤ℤ◌, List, [], ◌∷◌, ◌++◌, get_or, length, length-set, set, Option, None, Some, slice_get, mul-le-mul_right, arith}
+use Rattle.std.specs.Prelude.{IfSome, map}
 use Rattle.std.specs.List.{flat_map, range_with_len}
 use Rattle.std.proofs.Math.IntN.{pos-*ℤ-pos}
 use Rattle.std.proofs.lemmas.Bool.{cases_lt}
@@ -10,26 +10,30 @@ use Rattle.pb_linear.specs.declared.boxes.Sign.{Sign}
 use Rattle.pb_linear.specs.declared.boxes.Sign.TheVariants.{Plus, Minus}
 use Rattle.pb_linear.proofs.Integers.{add-mul, mul-add}
 use Rattle.pb_values.specs.Views.{cell_of, view_cells}
+use Rattle.pb_values.specs.declared.rect.Rect.{Rect}
+use Rattle.pb_values.specs.declared.shape.Shape.{Shape}
 use Rattle.pb_values.specs.declared.view.View.{View}
-use Rattle.pb_program.specs.Areas.{Area, Span, one_place}
+use Rattle.pb_program.specs.Areas.{Area, Span, from_start, one_place}
 use Rattle.pb_program.specs.declared.view.Read.{Read}
+use Rattle.pb_program.specs.declared.view.ReadView.{ReadView}
 use Rattle.pb_program.specs.declared.view.ReadView.TheVariants as view
 use Rattle.pb_region.specs.Within.{IsWithin}
 use Rattle.pb_model.specs.Cells.{natural, numbers_of}
-use Rattle.pb_model.specs.Equations.{extent}
+use Rattle.pb_model.specs.Equations.{extent, sides_by}
 use Rattle.pb_views.specs.declared.line.Line.{Line}
 use Rattle.pb_views.specs.declared.window.Window.{Window}
 use Rattle.pb_views.specs.Lines.{line_at}
-use Rattle.pb_views.specs.Windows.{IsShown, shown_by}
+use Rattle.pb_views.specs.Windows.{IsRect, IsShown, area_cells, shown_by}
 use Rattle.pb_views.proofs.CellLemmas.{numbers_are, rect_shown}
 use Rattle.pb_walk.specs.Axes.{AreThere, moved}
 use Rattle.pb_walk.specs.Stretches.{column_in, place_on, row_in}
 use Rattle.pb_walk.specs.declared.stretch.Stretch.{Stretch}
-use Rattle.pb_jobs.specs.Advances.{AreAdvances, AreWithinAlong, IsAdvance, IsShownAt, IsWindowOn, cell_shown, corner_cell}
-use Rattle.pb_jobs.specs.Distances.{IsFromTo, IsOneCell}
+use Rattle.pb_jobs.specs.Advances.{AreAdvances, AreWithinAlong, IsAdvance, IsShownAt, IsFurther, IsWindowOn, area_on, corner_cell}
+use Rattle.pb_jobs.specs.Distances.{CanMove, IsBetween, IsFromTo, IsMoved}
 use Rattle.pb_jobs.specs.Shown.{AreShown, IsShownFor, LiesWithin}
 use Rattle.pb_jobs.specs.declared.advance.Advance.{Advance}
-use Rattle.pb_jobs.specs.declared.advance.Advance.TheVariants.{Up, Down}
+use Rattle.pb_jobs.specs.declared.advance.Distance.{Distance}
+use Rattle.pb_jobs.specs.declared.advance.Distance.TheVariants.{Up, Down}
 use Rattle.pb_jobs.proofs.ListLemmas.{some_at, some_same}
 use Rattle.pb_jobs.proofs.ShownLemmas.{last_of, left_of, lies_within}
 
@@ -56,174 +60,241 @@ line_next : (down : Bool) (l : Line) (across a b : ℕ) (d : ℤ) → pos b ≡ 
 line_next true l across a b d e = down_next l (pos across) (pos a) (pos b) d e
 line_next false l across a b d e = across_next l (pos a) (pos b) (pos across) d e
 
-flat_next : (flat : Bool) (z u g : ℤ) → u ≡ z +ℤ g → (if flat then one_place (pos 0) else one_place u).low ≡ (if flat then one_place (pos 0) else one_place z).low +ℤ (if flat then pos 0 else g)
-flat_next true z u g e = omega (arith, ints)
-flat_next false z u g e = e
-
 corner_next : (m : View) (a b : Area) (e f : ℤ) → b.x.low ≡ a.x.low +ℤ e → b.y.low ≡ a.y.low +ℤ f → corner_cell m b ≡ corner_cell m a +ℤ (e *ℤ pos m.step_x +ℤ f *ℤ pos m.step_y)
 corner_next m a b e f x y =
     (λ i. pos m.first +ℤ (x i *ℤ pos m.step_x +ℤ y i *ℤ pos m.step_y)) ∙ omega (arith, ints, add-mul a.x.low e (pos m.step_x), add-mul a.y.low f (pos m.step_y))
 
-module _ (w : Window) (m : View) (s : Stretch) where
-  abbrev step : ℤ
-  step = (along s.down w.x0 *ℤ unit s.sign) *ℤ pos m.step_x +ℤ (if w.flat then pos 0 else along s.down w.y0 *ℤ unit s.sign) *ℤ pos m.step_y
+-- the cell at the low corner of a rectangle
+place_is : (m : View) (a : Area) (r : Rect) → IsRect a r → pos (cell_of m r.x0 r.y0) ≡ corner_cell m a
+place_is m a r is =
+    (let x = pos-*ℤ-pos r.x0 m.step_x in let y = pos-*ℤ-pos r.y0 m.step_y in omega (arith, ints, x, y))
+    ∙ (λ i. pos m.first +ℤ (is.left i *ℤ pos m.step_x +ℤ is.low i *ℤ pos m.step_y))
 
-  cell_next : (i : ℕ) → i + 1 < s.count → cell_shown w m (place_on s (i + 1)) ≡ cell_shown w m (place_on s i) +ℤ step
-  cell_next i below =
-      let a = moved s.sign i s.at in
-      let b = moved s.sign (i + 1) s.at in
-      let e = further s.sign i s.at s.count below s.there in
-      let z = line_at w.y0 (pos (column_in s.down s.across a)) (pos (row_in s.down s.across a)) in
-      let u = line_at w.y0 (pos (column_in s.down s.across b)) (pos (row_in s.down s.across b)) in
-      corner_next m (shown_by w m (place_on s i).x (place_on s i).y view.Cell) (shown_by w m (place_on s (i + 1)).x (place_on s (i + 1)).y view.Cell)
-      (along s.down w.x0 *ℤ unit s.sign) (if w.flat then pos 0 else along s.down w.y0 *ℤ unit s.sign)
-      (line_next s.down w.x0 s.across a b (unit s.sign) e) (flat_next w.flat z u (along s.down w.y0 *ℤ unit s.sign) (line_next s.down w.y0 s.across a b (unit s.sign) e))
+-- ---- a number that grows by the same from each place of a line to the next
+record Grows (s : Stretch) (f : ℕ → ℤ) : Type 0 where
+  pub by : ℤ
+  pub each : (i : ℕ) → i + 1 < s.count → f (i + 1) ≡ f i +ℤ by
 
-  -- by as much as from the first place to the second
-  pub advances : 1 < s.count → w.view ≡ view.Cell → (here next : ℕ) → pos here ≡ cell_shown w m (place_on s 0) → pos next ≡ cell_shown w m (place_on s 1) → (a : Advance) → IsFromTo here next a → IsAdvance w m s a
-  advances some single here next from to (Up by) is = (single, λ i below. let first = cell_next 0 (omega (arith, some)) in omega (arith, ints, cell_next i below, first, from, to, is))
-  advances some single here next from to (Down by) is = (single, λ i below. let first = cell_next 0 (omega (arith, some)) in omega (arith, ints, cell_next i below, first, from, to, is))
+record SpanGrows (s : Stretch) (f : ℕ → Span) : Type 0 where
+  pub low : Grows s (λ i. (f i).low)
+  pub high : Grows s (λ i. (f i).high)
 
--- ---- the view of one cell
-one_extent : (z : ℤ) → extent (one_place z) ≡ 1
-one_extent z = let e : (z +ℤ pos 1) -ℤ z ≡ pos 1 = omega (arith, ints) in ap natural e
+from_first : (s : Stretch) (f : ℕ → ℤ) (grows : Grows s f) → 1 < s.count → grows.by ≡ f 1 -ℤ f 0
+from_first s f grows some = omega (arith, ints, grows.each 0 (omega (arith, some)))
 
-one_cell : (v : View) → v.shape.w ≡ 1 → v.shape.h ≡ 1 → view_cells v ≡ cell_of v 0 0 ∷ []
-one_cell v wide tall =
-    ap (λ n. flat_map (λ y. map (λ x. cell_of v x y) (range_with_len 0 n)) (range_with_len 0 v.shape.h)) wide ∙ ap (λ n. flat_map (λ y. map (λ x. cell_of v x y) (range_with_len 0 1)) (range_with_len 0 n)) tall
+-- two numbers that are so far from each other at the first two places are so at each
+as_far : (s : Stretch) (f g : ℕ → ℤ) → Grows s f → Grows s g → 1 < s.count → (n : ℕ) → f 0 +ℤ pos n ≡ g 0 → f 1 +ℤ pos n ≡ g 1 → (i : ℕ) → i < s.count → f i +ℤ pos n ≡ g i
+as_far s f g fs gs some n first second zero below = first
+as_far s f g fs gs some n first second (suc i) below =
+    let e : i + 1 ≡ suc i = omega arith in
+    let before : f i +ℤ pos n ≡ g i = as_far s f g fs gs some n first second i (omega (arith, below)) in
+    let by : fs.by ≡ gs.by = omega (arith, ints, from_first s f fs some, from_first s g gs some, first, second) in
+    let one : f (i + 1) ≡ f i +ℤ fs.by = fs.each i (omega (arith, below)) in
+    let other : g (i + 1) ≡ g i +ℤ gs.by = gs.each i (omega (arith, below)) in
+    subst (λ j. f j +ℤ pos n ≡ g j) e (omega (arith, ints, before, by, one, other))
 
-pub natural_of : (z : ℤ) → pos 0 ≤ℤ z → (n : ℕ) × (pos n ≡ z)
+module _ (s : Stretch) where
+  still : (z : ℤ) → Grows s (λ i. z)
+  still z = record { by = pos 0; each = λ i below. omega (arith, ints) }
+
+  one_more : (f : ℕ → ℤ) → Grows s f → Grows s (λ i. f i +ℤ pos 1)
+  one_more f grows = record { by = grows.by; each = λ i below. let e = grows.each i below in omega (arith, ints, e) }
+
+  line_grows : (l : Line) → Grows s (λ i. line_at l (pos (place_on s i).x) (pos (place_on s i).y))
+  line_grows l = record {
+    by = along s.down l *ℤ unit s.sign;
+    each = λ i below. line_next s.down l s.across (moved s.sign i s.at) (moved s.sign (i + 1) s.at) (unit s.sign) (further s.sign i s.at s.count below s.there);
+  }
+
+  start_grows : (z : ℤ) → SpanGrows s (λ i. from_start z)
+  start_grows z = record { low = still (pos 0); high = still z }
+
+  one_grows : (l : Line) → SpanGrows s (λ i. one_place (line_at l (pos (place_on s i).x) (pos (place_on s i).y)))
+  one_grows l = record { low = line_grows l; high = one_more (λ i. line_at l (pos (place_on s i).x) (pos (place_on s i).y)) (line_grows l) }
+
+  flat_grows : (flat : Bool) (f : ℕ → Span) → SpanGrows s f → SpanGrows s (λ i. if flat then one_place (pos 0) else f i)
+  flat_grows true f grows = record { low = still (pos 0); high = still (pos 0 +ℤ pos 1) }
+  flat_grows false f grows = grows
+
+  module _ (w : Window) (m : View) where
+    abbrev seen : ReadView → ℕ → Area
+    seen b i = shown_by w m (place_on s i).x (place_on s i).y b
+
+    x_grows : (b : ReadView) → SpanGrows s (λ i. (seen b i).x)
+    x_grows view.Cell = one_grows w.x0
+    x_grows view.Row = start_grows (pos m.shape.w)
+    x_grows view.Column = one_grows w.x0
+    x_grows view.Region = record { low = line_grows w.x0; high = line_grows w.x1 }
+    x_grows view.Whole = start_grows (pos m.shape.w)
+
+    y_grows : (b : ReadView) → SpanGrows s (λ i. (seen b i).y)
+    y_grows view.Cell = flat_grows w.flat (λ i. one_place (line_at w.y0 (pos (place_on s i).x) (pos (place_on s i).y))) (one_grows w.y0)
+    y_grows view.Row = one_grows w.y0
+    y_grows view.Column = start_grows (pos m.shape.h)
+    y_grows view.Region = flat_grows w.flat (λ i. record { low = line_at w.y0 (pos (place_on s i).x) (pos (place_on s i).y); high = line_at w.y1 (pos (place_on s i).x) (pos (place_on s i).y) }) (record { low = line_grows w.y0; high = line_grows w.y1 })
+    y_grows view.Whole = start_grows (pos m.shape.h)
+
+    corner_grows : Grows s (λ i. corner_cell m (area_on w m s i))
+    corner_grows =
+        let xs = (x_grows w.view).low in
+        let ys = (y_grows w.view).low in
+        record {
+          by = xs.by *ℤ pos m.step_x +ℤ ys.by *ℤ pos m.step_y;
+          each = λ i below. corner_next m (area_on w m s i) (area_on w m s (i + 1)) xs.by ys.by (xs.each i below) (ys.each i below);
+        }
+
+    -- by as much as from the first place to the second
+    far_along : (far : Distance) (first second : ℕ) → 1 < s.count → pos first ≡ corner_cell m (area_on w m s 0) → pos second ≡ corner_cell m (area_on w m s 1) → IsFromTo first second far
+        → (i : ℕ) → i + 1 < s.count → IsFurther (corner_cell m (area_on w m s i)) (corner_cell m (area_on w m s (i + 1))) far
+    far_along (Up by) first second some from to is i below = let start = from_first s (λ j. corner_cell m (area_on w m s j)) corner_grows some in let here = corner_grows.each i below in omega (arith, ints, here, start, from, to, is)
+    far_along (Down by) first second some from to is i below = let start = from_first s (λ j. corner_cell m (area_on w m s j)) corner_grows some in let here = corner_grows.each i below in omega (arith, ints, here, start, from, to, is)
+
+    advances : 1 < s.count → (w.view ≡ view.Column → ⊥) → (here next : Rect) → IsRect (area_on w m s 0) here → IsRect (area_on w m s 1) next → (a : Advance) → IsBetween m here next a → IsAdvance w m s a
+    advances some upright here next first second a is = record {
+      upright = upright;
+      step_x = is.step_x;
+      step_y = is.step_y;
+      wide = is.wide;
+      tall = is.tall;
+      across = as_far s (λ i. (area_on w m s i).x.low) (λ i. (area_on w m s i).x.high) (x_grows w.view).low (x_grows w.view).high some a.shape.w (omega (arith, ints, first.left, first.right, is.across)) (omega (arith, ints, second.left, second.right, is.next_across));
+      down = as_far s (λ i. (area_on w m s i).y.low) (λ i. (area_on w m s i).y.high) (y_grows w.view).low (y_grows w.view).high some a.shape.h (omega (arith, ints, first.low, first.high, is.down)) (omega (arith, ints, second.low, second.high, is.next_down));
+      far = far_along a.far (cell_of m here.x0 here.y0) (cell_of m next.x0 next.y0) some (place_is m (area_on w m s 0) here first) (place_is m (area_on w m s 1) next second) is.far;
+    }
+
+    pub advances_if : 1 < s.count → (w.view ≡ view.Column → ⊥) → (here next : Rect) → IsRect (area_on w m s 0) here → IsRect (area_on w m s 1) next → (o : Option Advance) → IfSome o (IsBetween m here next) → IfSome o (IsAdvance w m s)
+    advances_if some upright here next first second None is = tt
+    advances_if some upright here next first second (Some a) is = advances some upright here next first second a is
+
+-- ---- the view of an area with sides
+natural_of : (z : ℤ) → pos 0 ≤ℤ z → (n : ℕ) × (pos n ≡ z)
 natural_of (pos n) h = (n, refl)
 natural_of (negsuc n) h = absurd (omega (arith, ints, h))
 
--- an area of one place
-pub record IsOnePlace (a : Area) : Type 0 where
-  pub x : a.x ≡ one_place a.x.low
-  pub y : a.y ≡ one_place a.y.low
+upright_sides : (b : ReadView) (a : Area) → (b ≡ view.Column → ⊥) → ◌≡◌ {A = ℕ × ℕ} (sides_by b a) (extent a.x, extent a.y)
+upright_sides view.Cell a upright = refl
+upright_sides view.Row a upright = refl
+upright_sides view.Column a upright = absurd (upright refl)
+upright_sides view.Region a upright = refl
+upright_sides view.Whole a upright = refl
 
-pub cell_area : (w : Window) (m : View) (x y : ℕ) → IsOnePlace (shown_by w m x y view.Cell)
-cell_area w m x y = record { x = refl; y = by w.flat }
-  where
-    z : ℤ
-    z = line_at w.y0 (pos x) (pos y)
+-- some rows
+abbrev rows : (ℕ → ℕ → ℕ) → ℕ → ℕ → ℕ → ℕ → List ℕ
+rows f x y n k = flat_map (λ j. map (λ i. f i j) (range_with_len x n)) (range_with_len y k)
 
-    by : (flat : Bool) → (if flat then one_place (pos 0) else one_place z) ≡ one_place (if flat then one_place (pos 0) else one_place z).low
-    by true = refl
-    by false = refl
+first_same : (f g : ℕ → ℕ → ℕ) (x y z u n k : ℕ) → 0 < n → 0 < k → rows f x y n k ≡ rows g z u n k → f x y ≡ g z u
+first_same f g x y z u zero k wide tall e = absurd (omega (arith, wide))
+first_same f g x y z u (suc n) zero wide tall e = absurd (omega (arith, tall))
+first_same f g x y z u (suc n) (suc k) wide tall e = cc
 
-module _ (m : View) (a : Area) (one : IsOnePlace a) (within : IsWithin a (pos m.shape.w) (pos m.shape.h)) where
+module _ (m : View) (a : Area) (within : IsWithin a (pos m.shape.w) (pos m.shape.h)) (n k : ℕ) (wide : 0 < n) (tall : 0 < k) (across : a.x.low +ℤ pos n ≡ a.x.high) (down : a.y.low +ℤ pos k ≡ a.y.high) where
   abbrev left : (n : ℕ) × (pos n ≡ a.x.low)
   left = natural_of a.x.low within.x.start
 
   abbrev low : (n : ℕ) × (pos n ≡ a.y.low)
   low = natural_of a.y.low within.y.start
 
-  x_end : pos (left.0 + 1) ≡ a.x.high
-  x_end = omega (arith, ints, left.1, ap (λ (s : Span). s.high) one.x)
+  x_end : pos (left.0 + n) ≡ a.x.high
+  x_end = omega (arith, ints, left.1, across)
 
-  y_end : pos (low.0 + 1) ≡ a.y.high
-  y_end = omega (arith, ints, low.1, ap (λ (s : Span). s.high) one.y)
+  y_end : pos (low.0 + k) ≡ a.y.high
+  y_end = omega (arith, ints, low.1, down)
 
-  abbrev pub corner : ℕ
+  abbrev rect : Rect
+  rect = record { x0 = left.0; y0 = low.0; x1 = left.0 + n; y1 = low.0 + k }
+
+  is_rect : IsRect a rect
+  is_rect = record { left = left.1; right = x_end; low = low.1; high = y_end }
+
+  abbrev corner : ℕ
   corner = cell_of m left.0 low.0
 
-  pub corner_is : pos corner ≡ corner_cell m a
-  corner_is =
-      (let x = pos-*ℤ-pos left.0 m.step_x in let y = pos-*ℤ-pos low.0 m.step_y in omega (arith, ints, x, y))
-      ∙ (λ i. pos m.first +ℤ (left.1 i *ℤ pos m.step_x +ℤ low.1 i *ℤ pos m.step_y))
+  corner_is : pos corner ≡ corner_cell m a
+  corner_is = place_is m a rect is_rect
 
-  pub corner_small : corner ≤ 2 ^ 63
+  corner_small : corner + (n * m.step_x + k * m.step_y) ≤ 2 ^ 63
   corner_small =
-      let wide : left.0 ≤ m.shape.w = omega (arith, ints, x_end, within.x.end) in
-      let high : low.0 ≤ m.shape.h = omega (arith, ints, y_end, within.y.end) in
-      omega (arith, mul-le-mul_right m.step_x wide, mul-le-mul_right m.step_y high, m.small)
+      let inside : left.0 + n ≤ m.shape.w = omega (arith, ints, x_end, within.x.end) in
+      let below : low.0 + k ≤ m.shape.h = omega (arith, ints, y_end, within.y.end) in
+      omega (arith, mul-le-mul_right m.step_x inside, mul-le-mul_right m.step_y below, m.small)
 
-  -- it shows just that cell
-  pub is_corner : (v : View) → IsShown m view.Cell a v → v.first ≡ corner
-  is_corner v is =
-      let across : left.0 + 1 - left.0 ≡ 1 = omega arith in
-      let down : low.0 + 1 - low.0 ≡ 1 = omega arith in
-      let xs : numbers_of a.x ≡ left.0 ∷ [] = numbers_are a.x left.0 (left.0 + 1) left.1 x_end (omega arith) ∙ ap (range_with_len left.0) across in
-      let ys : numbers_of a.y ≡ low.0 ∷ [] = numbers_are a.y low.0 (low.0 + 1) low.1 y_end (omega arith) ∙ ap (range_with_len low.0) down in
-      let all : view_cells v ≡ corner ∷ [] = is.cells ∙ rw (xs, ys) refl in
-      let wide : v.shape.w ≡ 1 = ap (λ (p : ℕ × ℕ). p.0) is.sides ∙ ap extent one.x ∙ one_extent a.x.low in
-      let tall : v.shape.h ≡ 1 = ap (λ (p : ℕ × ℕ). p.1) is.sides ∙ ap extent one.y ∙ one_extent a.y.low in
-      let both : cell_of v 0 0 ∷ [] ≡ corner ∷ [] = sym (one_cell v wide tall) ∙ all in
-      let same : cell_of v 0 0 ≡ corner = cc in
+  width : left.0 + n - left.0 ≡ n
+  width = omega arith
+
+  height : low.0 + k - low.0 ≡ k
+  height = omega arith
+
+  natural_is : (p q : ℤ) (c : ℕ) → p +ℤ pos c ≡ q → natural (q -ℤ p) ≡ c
+  natural_is p q c e = let d : q -ℤ p ≡ pos c = omega (arith, ints, e) in ap natural d
+
+  -- it shows that cell first
+  is_corner : (b : ReadView) (v : View) → (b ≡ view.Column → ⊥) → IsShown m b a v → v.first ≡ corner
+  is_corner b v upright is =
+      let sides : ◌≡◌ {A = ℕ × ℕ} (v.shape.w, v.shape.h) (extent a.x, extent a.y) = is.sides ∙ upright_sides b a upright in
+      let xs : numbers_of a.x ≡ range_with_len left.0 n = numbers_are a.x left.0 (left.0 + n) left.1 x_end (omega arith) ∙ ap (range_with_len left.0) width in
+      let ys : numbers_of a.y ≡ range_with_len low.0 k = numbers_are a.y low.0 (low.0 + k) low.1 y_end (omega arith) ∙ ap (range_with_len low.0) height in
+      let w_is : v.shape.w ≡ n = ap (λ (p : ℕ × ℕ). p.0) sides ∙ natural_is a.x.low a.x.high n across in
+      let h_is : v.shape.h ≡ k = ap (λ (p : ℕ × ℕ). p.1) sides ∙ natural_is a.y.low a.y.high k down in
+      let mine : view_cells v ≡ rows (cell_of v) 0 0 n k = λ i. rows (cell_of v) 0 0 (w_is i) (h_is i) in
+      let theirs : area_cells m a ≡ rows (cell_of m) left.0 low.0 n k = λ i. flat_map (λ y. map (λ x. cell_of m x y) (xs i)) (ys i) in
+      let same : cell_of v 0 0 ≡ corner = first_same (cell_of v) (cell_of m) 0 0 left.0 low.0 n k wide tall (sym mine ∙ is.cells ∙ theirs) in
       omega (arith, same)
 
-  pub corner_shown : (v : View) (cell : ℕ) → IsOneCell cell v → cell ≡ corner → IsShown m view.Cell a v
-  corner_shown v cell is at =
-      let across : left.0 + 1 - left.0 ≡ 1 = omega arith in
-      let down : low.0 + 1 - low.0 ≡ 1 = omega arith in
-      rect_shown m v a within view.Cell 1 (record { x0 = left.0; y0 = low.0; x1 = left.0 + 1; y1 = low.0 + 1 }) refl (record { left = left.1; right = x_end; low = low.1; high = y_end }) (record {
-        shape = is.shape ∙ (λ i. record { dims = 1; w = sym across i; h = sym down i });
+  corner_shown : (b : ReadView) (v : View) → (b ≡ view.Column → ⊥) → v.first ≡ corner → v.step_x ≡ m.step_x → v.step_y ≡ m.step_y → v.shape.w ≡ n → v.shape.h ≡ k → IsShown m b a v
+  corner_shown b v upright first step_x step_y w_is h_is =
+      rect_shown m v a within b v.shape.dims rect (upright_sides b a upright) is_rect (record {
+        shape = λ i. record { dims = v.shape.dims; w = (w_is ∙ sym width) i; h = (h_is ∙ sym height) i };
         cells = λ i j inside below.
-            let ei : i ≡ 0 = omega (arith, inside) in
-            let ej : j ≡ 0 = omega (arith, below) in
-            let el : left.0 + 0 ≡ left.0 = omega arith in
-            let eh : low.0 + 0 ≡ low.0 = omega arith in
-            let none : cell_of v 0 0 ≡ v.first = omega arith in
-            rw (ei, ej, el, eh) (none ∙ is.first ∙ at);
+            (λ t. first t + (i * step_x t + j * step_y t)) ∙ omega arith;
       })
 
 -- ---- the next view
 module _ (matrices : List View) (s : Stretch) (i : ℕ) (r : Read) (w : Window) (v : View) (shown : IsShownFor matrices (place_on s i).x (place_on s i).y r w v) (next : LiesWithin matrices (place_on s (i + 1)).x (place_on s (i + 1)).y r w)
-    (here : LiesWithin matrices (place_on s i).x (place_on s i).y r w) (below : i + 1 < s.count) where
-  abbrev pub m : View
+    (here : LiesWithin matrices (place_on s i).x (place_on s i).y r w) (below : i + 1 < s.count) (a : Advance) (is : IsAdvance w shown.matrix s a) where
+  abbrev m : View
   m = shown.matrix
 
-  abbrev area : ℕ → Area
-  area j = shown_by w m (place_on s j).x (place_on s j).y view.Cell
+  within_as : (j : ℕ) → LiesWithin matrices (place_on s j).x (place_on s j).y r w → IsWithin (area_on w m s j) (pos m.shape.w) (pos m.shape.h)
+  within_as j l = subst (λ (q : View). IsWithin (area_on w q s j) (pos q.shape.w) (pos q.shape.h)) (some_same l.matrix m (sym l.at ∙ shown.at)) l.within
 
-  within_as : (j : ℕ) → LiesWithin matrices (place_on s j).x (place_on s j).y r w → w.view ≡ view.Cell → IsWithin (area j) (pos m.shape.w) (pos m.shape.h)
-  within_as j l single =
-      let same : l.matrix ≡ m = some_same l.matrix m (sym l.at ∙ shown.at) in
-      subst (λ (q : View). IsWithin (shown_by w q (place_on s j).x (place_on s j).y view.Cell) (pos q.shape.w) (pos q.shape.h)) same
-      (subst (λ b. IsWithin (shown_by w l.matrix (place_on s j).x (place_on s j).y b) (pos l.matrix.shape.w) (pos l.matrix.shape.h)) single l.within)
+  at_first : i < s.count
+  at_first = omega (arith, below)
 
-  single_area : (j : ℕ) → IsOnePlace (area j)
-  single_area j = cell_area w m (place_on s j).x (place_on s j).y
+  abbrev corner_next_is : ℕ
+  corner_next_is = corner m (area_on w m s (i + 1)) (within_as (i + 1) next) a.shape.w a.shape.h is.wide is.tall (is.across (i + 1) below) (is.down (i + 1) below)
 
-  pub first_is : w.view ≡ view.Cell → pos v.first ≡ cell_shown w m (place_on s i)
-  first_is single =
-      let is : IsShown m view.Cell (area i) v = subst (λ b. IsShown m b (shown_by w m (place_on s i).x (place_on s i).y b) v) single shown.is in
-      ap pos (is_corner m (area i) (single_area i) (within_as i here single) v is) ∙ corner_is m (area i) (single_area i) (within_as i here single)
+  first_is : pos v.first ≡ corner_cell m (area_on w m s i)
+  first_is = ap pos (is_corner m (area_on w m s i) (within_as i here) a.shape.w a.shape.h is.wide is.tall (is.across i at_first) (is.down i at_first) w.view v is.upright shown.is)
+      ∙ corner_is m (area_on w m s i) (within_as i here) a.shape.w a.shape.h is.wide is.tall (is.across i at_first) (is.down i at_first)
 
-  module _ (single : w.view ≡ view.Cell) (cell : ℕ) (is : pos cell ≡ cell_shown w m (place_on s (i + 1))) where
-    at_corner : cell ≡ corner m (area (i + 1)) (single_area (i + 1)) (within_as (i + 1) next single)
-    at_corner = omega (arith, ints, is, corner_is m (area (i + 1)) (single_area (i + 1)) (within_as (i + 1) next single))
+  next_is : pos corner_next_is ≡ corner_cell m (area_on w m s (i + 1))
+  next_is = corner_is m (area_on w m s (i + 1)) (within_as (i + 1) next) a.shape.w a.shape.h is.wide is.tall (is.across (i + 1) below) (is.down (i + 1) below)
 
-    pub next_small : cell ≤ 2 ^ 63
-    next_small = omega (arith, at_corner, corner_small m (area (i + 1)) (single_area (i + 1)) (within_as (i + 1) next single))
+  goes : (far : Distance) → IsFurther (corner_cell m (area_on w m s i)) (corner_cell m (area_on w m s (i + 1))) far → IsFromTo v.first corner_next_is far
+  goes (Up by) e = omega (arith, ints, e, first_is, next_is)
+  goes (Down by) e = omega (arith, ints, e, first_is, next_is)
 
-    pub next_shown : (u : View) → IsOneCell cell u → IsShownFor matrices (place_on s (i + 1)).x (place_on s (i + 1)).y r w u
-    next_shown u one = record {
-      matrix = m;
-      at = shown.at;
-      is = subst (λ b. IsShown m b (shown_by w m (place_on s (i + 1)).x (place_on s (i + 1)).y b) u) (sym single)
-          (corner_shown m (area (i + 1)) (single_area (i + 1)) (within_as (i + 1) next single) u cell one at_corner);
-    }
+  one_way : (far : Distance) (x y z : ℕ) → IsFromTo x y far → IsFromTo x z far → y ≡ z
+  one_way (Up by) x y z p q = omega (arith, p, q)
+  one_way (Down by) x y z p q = omega (arith, p, q)
 
-  -- a cell further up or down
-  pub up_is : (by : ℕ) → IsAdvance w m s (Up by) → pos (v.first + by) ≡ cell_shown w m (place_on s (i + 1))
-  up_is by a = omega (arith, ints, first_is a.0, a.1 i below)
+  can_move : CanMove a v.first
+  can_move = record {
+    next = corner_next_is;
+    far = goes a.far (is.far i below);
+    small = subst (λ (p : ℕ × ℕ). corner_next_is + (a.shape.w * p.0 + a.shape.h * p.1) ≤ 2 ^ 63) (λ j. (sym is.step_x j, sym is.step_y j)) (corner_small m (area_on w m s (i + 1)) (within_as (i + 1) next) a.shape.w a.shape.h is.wide is.tall (is.across (i + 1) below) (is.down (i + 1) below));
+  }
 
-  pub down_fits : (by : ℕ) → IsAdvance w m s (Down by) → by ≤ v.first
-  down_fits by a = omega (arith, ints, first_is a.0, a.1 i below, corner_is m (area (i + 1)) (single_area (i + 1)) (within_as (i + 1) next a.0))
+  next_shown : (u : View) → IsMoved a v.first u → IsShownFor matrices (place_on s (i + 1)).x (place_on s (i + 1)).y r w u
+  next_shown u moves = record {
+    matrix = m;
+    at = shown.at;
+    is = corner_shown m (area_on w m s (i + 1)) (within_as (i + 1) next) a.shape.w a.shape.h is.wide is.tall (is.across (i + 1) below) (is.down (i + 1) below) w.view u is.upright
+        (one_way a.far v.first u.first corner_next_is moves.far (goes a.far (is.far i below))) (moves.step_x ∙ is.step_x) (moves.step_y ∙ is.step_y) (ap (λ (t : Shape). t.w) moves.shape) (ap (λ (t : Shape). t.h) moves.shape);
+  }
 
-  pub down_is : (by : ℕ) → IsAdvance w m s (Down by) → pos (v.first - by) ≡ cell_shown w m (place_on s (i + 1))
-  down_is by a = omega (arith, ints, first_is a.0, a.1 i below, down_fits by a)
-
--- ---- what is shown at a place of a stretch
-pub shows_corner : (w : Window) (m : View) (s : Stretch) (i x y : ℕ) (v : View) → x ≡ (place_on s i).x → y ≡ (place_on s i).y → w.view ≡ view.Cell → IsWindowOn w m s i → IsShown m w.view (shown_by w m x y w.view) v → pos v.first ≡ cell_shown w m (place_on s i)
-shows_corner w m s i x y v ex ey single on is =
-    let p = place_on s i in
-    let a : Area = shown_by w m p.x p.y view.Cell in
-    let within : IsWithin a (pos m.shape.w) (pos m.shape.h) = subst (λ b. IsWithin (shown_by w m p.x p.y b) (pos m.shape.w) (pos m.shape.h)) single on.within in
-    let here : IsShown m w.view (shown_by w m p.x p.y w.view) v = subst (λ (q : ℕ × ℕ). IsShown m w.view (shown_by w m q.0 q.1 w.view) v) (λ j. (ex j, ey j)) is in
-    let one : IsShown m view.Cell a v = subst (λ b. IsShown m b (shown_by w m p.x p.y b) v) single here in
-    ap pos (is_corner m a (cell_area w m p.x p.y) within v one) ∙ corner_is m a (cell_area w m p.x p.y) within
+-- ---- the rectangle of a place
+pub rect_on : (w : Window) (m : View) (s : Stretch) (i x y : ℕ) (r : Rect) → x ≡ (place_on s i).x → y ≡ (place_on s i).y → IsRect (shown_by w m x y w.view) r → IsRect (area_on w m s i) r
+rect_on w m s i x y r ex ey is = subst (λ (q : ℕ × ℕ). IsRect (shown_by w m q.0 q.1 w.view) r) (λ j. (ex j, ey j)) is
 
 -- ---- one advance more
 pub advances_none : (matrices : List View) (s : Stretch) (rs : List Read) (ws : List Window) (held : List Advance) → held ≡ [] → AreAdvances matrices s rs ws 0 held
@@ -314,8 +385,8 @@ module _ (matrices : List View) (rs : List Read) (ws : List Window) (s : Stretch
   here : IsShownFor matrices (place_on s i).x (place_on s i).y read.0 window.0 v
   here = shown read.0 window.0 v read.1 window.1 at_v
 
-  advance : (b : Advance) → a ≡ b → IsAdvance window.0 here.matrix s b
-  advance b e = subst (IsAdvance window.0 here.matrix s) e (are.each k read.0 window.0 a here.matrix read.1 window.1 at_a here.at)
+  advance : IsAdvance window.0 here.matrix s a
+  advance = are.each k read.0 window.0 a here.matrix read.1 window.1 at_a here.at
 
   lies : (j : ℕ) → j < s.count → LiesWithin matrices (place_on s j).x (place_on s j).y read.0 window.0
   lies j h = lies_at matrices rs ws s along k read.0 window.0 read.1 window.1 j h
@@ -329,28 +400,11 @@ module _ (matrices : List View) (rs : List Read) (ws : List Window) (s : Stretch
   of_this : (u : View) → IsShownFor matrices (place_on s (i + 1)).x (place_on s (i + 1)).y read.0 window.0 u → IsNextOf u
   of_this u is r w at_r at_w = subst (λ (p : Read × Window). IsShownFor matrices (place_on s (i + 1)).x (place_on s (i + 1)).y p.0 p.1 u) (λ j. (some_same read.0 r (sym read.1 ∙ at_r) j, some_same window.0 w (sym window.1 ∙ at_w) j)) is
 
-  module _ (by : ℕ) (e : a ≡ Up by) where
-    up_at : pos (v.first + by) ≡ cell_shown window.0 here.matrix (place_on s (i + 1))
-    up_at = up_is matrices s i read.0 window.0 v here (lies (i + 1) below) (lies i now_below) below by (advance (Up by) e)
+  pub can_go : CanMove a v.first
+  can_go = can_move matrices s i read.0 window.0 v here (lies (i + 1) below) (lies i now_below) below a advance
 
-    pub up_small : v.first + by ≤ 2 ^ 63
-    up_small = next_small matrices s i read.0 window.0 v here (lies (i + 1) below) (lies i now_below) below (advance (Up by) e).0 (v.first + by) up_at
-
-    pub up_shown : (u : View) → IsOneCell (v.first + by) u → IsNextOf u
-    up_shown u one = of_this u (next_shown matrices s i read.0 window.0 v here (lies (i + 1) below) (lies i now_below) below (advance (Up by) e).0 (v.first + by) up_at u one)
-
-  module _ (by : ℕ) (e : a ≡ Down by) where
-    down_at : pos (v.first - by) ≡ cell_shown window.0 here.matrix (place_on s (i + 1))
-    down_at = down_is matrices s i read.0 window.0 v here (lies (i + 1) below) (lies i now_below) below by (advance (Down by) e)
-
-    pub down_there : by ≤ v.first
-    down_there = down_fits matrices s i read.0 window.0 v here (lies (i + 1) below) (lies i now_below) below by (advance (Down by) e)
-
-    pub down_small : v.first - by ≤ 2 ^ 63
-    down_small = next_small matrices s i read.0 window.0 v here (lies (i + 1) below) (lies i now_below) below (advance (Down by) e).0 (v.first - by) down_at
-
-    pub down_shown : (u : View) → IsOneCell (v.first - by) u → IsNextOf u
-    down_shown u one = of_this u (next_shown matrices s i read.0 window.0 v here (lies (i + 1) below) (lies i now_below) below (advance (Down by) e).0 (v.first - by) down_at u one)
+  pub goes_on : (u : View) → IsMoved a v.first u → IsNextOf u
+  goes_on u is = of_this u (next_shown matrices s i read.0 window.0 v here (lies (i + 1) below) (lies i now_below) below a advance u is)
 
 -- ---- an element of a list by its number
 pub index_there : {A : Type 0} (xs : List A) (k : ℕ) (x : A) → k < length xs → x ≡ get_or xs k x → slice_get xs k ≡ Some x

@@ -1,5 +1,5 @@
 -- How what a rule reads moves from one place of a line to the next.
-use Rattle.std.specs.Prelude.{◌≡◌, ℕ, ◌+◌, ◌<◌, ◌≤◌, ◌^◌, ℤ, pos, ◌+ℤ◌, ◌*ℤ◌, List, length, Some, slice_get}
+use Rattle.std.specs.Prelude.{◌≡◌, ◌≢◌, ℕ, ◌+◌, ◌<◌, ◌≤◌, ◌^◌, ℤ, pos, ◌+ℤ◌, ◌*ℤ◌, List, length, Some, slice_get}
 use Rattle.pb_values.specs.declared.view.View.{View}
 use Rattle.pb_program.specs.Areas.{Area}
 use Rattle.pb_program.specs.declared.view.Read.{Read}
@@ -7,25 +7,37 @@ use Rattle.pb_program.specs.declared.view.ReadView.TheVariants as view
 use Rattle.pb_region.specs.Within.{IsWithin}
 use Rattle.pb_views.specs.Windows.{shown_by}
 use Rattle.pb_views.specs.declared.window.Window.{Window}
-use Rattle.pb_walk.specs.declared.stop.Stop.{Stop}
 use Rattle.pb_walk.specs.declared.stretch.Stretch.{Stretch}
 use Rattle.pb_walk.specs.Stretches.{place_on}
 use Rattle.pb_jobs.specs.declared.advance.Advance.{Advance}
-use Rattle.pb_jobs.specs.declared.advance.Advance.TheVariants.{Up, Down}
+use Rattle.pb_jobs.specs.declared.advance.Distance.{Distance}
+use Rattle.pb_jobs.specs.declared.advance.Distance.TheVariants.{Up, Down}
 use Rattle.pb_jobs.specs.Shown.{AreWithin, IsShownFor}
 
 -- the cell of a matrix at the low corner of an area
 abbrev pub corner_cell : View → Area → ℤ
 corner_cell m a = pos m.first +ℤ (a.x.low *ℤ pos m.step_x +ℤ a.y.low *ℤ pos m.step_y)
 
--- the cell that a window of one cell shows of a matrix at a place
-abbrev pub cell_shown : Window → View → Stop → ℤ
-cell_shown w m s = corner_cell m (shown_by w m s.x s.y view.Cell)
+-- what a window shows of a matrix at a place of a stretch
+abbrev pub area_on : Window → View → Stretch → ℕ → Area
+area_on w m s i = shown_by w m (place_on s i).x (place_on s i).y w.view
 
--- from each place of a stretch to the next, a view of one cell moves so
-abbrev pub IsAdvance : Window → View → Stretch → Advance → Type 0
-IsAdvance w m s (Up by) = (w.view ≡ view.Cell) × ((i : ℕ) → i + 1 < s.count → cell_shown w m (place_on s (i + 1)) ≡ cell_shown w m (place_on s i) +ℤ pos by)
-IsAdvance w m s (Down by) = (w.view ≡ view.Cell) × ((i : ℕ) → i + 1 < s.count → cell_shown w m (place_on s (i + 1)) +ℤ pos by ≡ cell_shown w m (place_on s i))
+-- so far from one cell to another
+abbrev pub IsFurther : ℤ → ℤ → Distance → Type 0
+IsFurther here next (Up by) = next ≡ here +ℤ pos by
+IsFurther here next (Down by) = next +ℤ pos by ≡ here
+
+-- at each place of a stretch what a window shows, which is no column, has these sides, and from each place to the next its corner cell
+-- goes so far; the steps are those of the matrix
+pub record IsAdvance (w : Window) (m : View) (s : Stretch) (a : Advance) : Type 0 where
+  pub upright : w.view ≢ view.Column
+  pub step_x : a.step_x ≡ m.step_x
+  pub step_y : a.step_y ≡ m.step_y
+  pub wide : 0 < a.shape.w
+  pub tall : 0 < a.shape.h
+  pub across : (i : ℕ) → i < s.count → (area_on w m s i).x.low +ℤ pos a.shape.w ≡ (area_on w m s i).x.high
+  pub down : (i : ℕ) → i < s.count → (area_on w m s i).y.low +ℤ pos a.shape.h ≡ (area_on w m s i).y.high
+  pub far : (i : ℕ) → i + 1 < s.count → IsFurther (corner_cell m (area_on w m s i)) (corner_cell m (area_on w m s (i + 1))) a.far
 
 -- and so those of the first reads do
 pub record AreAdvances (matrices : List View) (s : Stretch) (reads : List Read) (windows : List Window) (n : ℕ) (advances : List Advance) : Type 0 where

@@ -1,35 +1,97 @@
-ghost use Rattle.std.specs.Prelude.{◌≡◌, ◌≤◌, ◌^◌, ◌<◌, ℕ, IfSome, pos};
+ghost use Rattle.std.specs.Prelude.{◌≡◌, ◌+◌, ◌*◌, ◌≤◌, ◌^◌, ◌<◌, ℕ, IfSome, pos};
+ghost use Rattle.pb_values.specs.Views.{FitsInto, IsInside, cell_of};
 ghost use Rattle.pb_region.specs.Within.{IsWithin};
-ghost use Rattle.pb_views.specs.Windows.{shown_by};
+ghost use Rattle.pb_views.specs.Windows.{IsRect, shown_by};
 ghost use Rattle.pb_walk.specs.Stretches.{place_on};
 ghost use Rattle.pb_jobs.specs.Advances.{IsAdvance, IsWindowOn};
-ghost use Rattle.pb_jobs.specs.Distances.{IsFromTo, IsOneCell};
+ghost use Rattle.pb_jobs.specs.Distances.{CanMove, IsBetween, IsFromTo, IsMoved};
 
 use pb_program::ReadView;
-use pb_values::{Shape, View};
+use pb_values::{Rect, Shape, View};
 use pb_views::Window;
 use pb_walk::Stretch;
 
-/// How a view of one cell moves from one place of a line to the next: to a greater or to a smaller cell of the run, by so many.
+/// How far it is from one cell of the run to another: up to a greater one, or down to a smaller one.
 #[derive(Clone, Copy)]
-pub enum Advance {
+pub enum Distance {
     Up(u64),
     Down(u64),
 }
 
-/// From one cell to another.
-fn advance_from(here: u64, next: u64) -> Advance
-    ensures { IsFromTo here next result }
-{
-    if here <= next {
-        Advance::Up(next - here)
-    } else {
-        Advance::Down(here - next)
+/// How a view moves from one place of a line to the next: how far its first cell goes, and its steps and its shape, which stay.
+#[derive(Clone, Copy)]
+pub struct Advance {
+    pub far: Distance,
+    pub step_x: u64,
+    pub step_y: u64,
+    pub shape: Shape,
+}
+
+impl Advance {
+    /// The view after the one with this first cell.
+    #[inline(always)]
+    pub(crate) fn after(&self, first: u64) -> View
+        requires { CanMove self.now first }
+        ensures { IsMoved self.now first result }
+    {
+        let next = match self.far {
+            Distance::Up(by) => first + by,
+            Distance::Down(by) => first - by,
+        };
+        View {
+            first: next,
+            step_x: self.step_x,
+            step_y: self.step_y,
+            shape: Shape {
+                dims: self.shape.dims,
+                w: self.shape.w,
+                h: self.shape.h,
+            },
+        }
     }
 }
 
-/// How what a window shows of a matrix moves along a line of two places or more: that of one cell by as much as from the first place to
-/// the second. It isn't known of other views.
+/// From one cell to another.
+fn distance_from(here: u64, next: u64) -> Distance
+    ensures { IsFromTo here next result }
+{
+    if here <= next {
+        Distance::Up(next - here)
+    } else {
+        Distance::Down(here - next)
+    }
+}
+
+/// From a view of the places of a rectangle to that of another with the same sides, unless they are empty.
+fn advance_between(matrix: &View, here: &Rect, next: &Rect) -> Option<Advance>
+    requires here { FitsInto matrix.now.shape here.now }
+    requires next { FitsInto matrix.now.shape next.now }
+    ensures { IfSome result (IsBetween matrix.now here.now next.now) }
+{
+    let w = here.x1 - here.x0;
+    let h = here.y1 - here.y0;
+    if w == 0 || h == 0 {
+        return None;
+    }
+    if next.x1 - next.x0 != w || next.y1 - next.y0 != h {
+        return None;
+    }
+    let first = matrix.place(here.x0, here.y0);
+    let second = matrix.place(next.x0, next.y0);
+    Some(Advance {
+        far: distance_from(first, second),
+        step_x: matrix.step_x,
+        step_y: matrix.step_y,
+        shape: Shape {
+            dims: matrix.shape.dims,
+            w,
+            h,
+        },
+    })
+}
+
+/// How what a window shows of a matrix moves along a line of two places or more, where it has the same sides at the first two places:
+/// by as much as from the first to the second. It isn't known of columns and of what is empty.
 pub(crate) fn advance_along(window: &Window, matrix: &View, stretch: &Stretch) -> Option<Advance>
     requires { (i : ℕ) → i < stretch.now.count → IsWindowOn window.now matrix.now stretch.now i }
     ensures { IfSome result (IsAdvance window.now matrix.now stretch.now) }
@@ -38,13 +100,13 @@ pub(crate) fn advance_along(window: &Window, matrix: &View, stretch: &Stretch) -
         return None;
     }
     match window.view {
-        ReadView::Cell => {
+        ReadView::Column => None,
+        _ => {
             let (x, y) = stretch.place(0);
             let (a, b) = stretch.place(1);
-            let here = window.show(matrix, x, y);
-            let next = window.show(matrix, a, b);
-            Some(advance_from(here.first, next.first))
+            let here = window.rect(matrix, x, y);
+            let next = window.rect(matrix, a, b);
+            advance_between(matrix, &here, &next)
         }
-        _ => None,
     }
 }

@@ -5,7 +5,6 @@ ghost use Rattle.pb_walk.specs.Stretches.{place_on};
 ghost use Rattle.pb_program.specs.declared.view.Read.{Read};
 ghost use Rattle.pb_views.specs.declared.window.Window.{Window};
 ghost use Rattle.pb_jobs.specs.Advances.{AreAdvances, AreWithinAlong, IsShownAt};
-ghost use Rattle.pb_jobs.specs.Distances.{IsOneCell};
 ghost use Rattle.pb_jobs.specs.Shown.{AreShown, AreWithin, IsShownFor};
 
 use crate::advance::{Advance, advance_along};
@@ -38,23 +37,6 @@ fn by_fields(view: View) -> View
             dims: view.shape.dims,
             w: view.shape.w,
             h: view.shape.h,
-        },
-    }
-}
-
-/// A view of one cell.
-fn one_cell(cell: u64) -> View
-    requires { cell ≤ 2 ^ 63 }
-    ensures { IsOneCell cell result }
-{
-    View {
-        first: cell,
-        step_x: 0,
-        step_y: 0,
-        shape: Shape {
-            dims: 1,
-            w: 1,
-            h: 1,
         },
     }
 }
@@ -154,10 +136,7 @@ impl Shown {
         requires advances { AreAdvances matrices.now stretch.now reads.now windows.now (length reads.now) self.now.advances.items }
         ensures { (r : Read) (w : Window) → slice_get reads.now k ≡ Some r → slice_get windows.now k ≡ Some w → IsShownFor matrices.now (place_on stretch.now (i + 1)).x (place_on stretch.now (i + 1)).y r w result }
     {
-        match self.advances[k] {
-            Advance::Up(by) => one_cell(self.views[k].first + by),
-            Advance::Down(by) => one_cell(self.views[k].first - by),
-        }
+        self.advances[k].after(self.views[k].first)
     }
 
     /// Shows them at the place after this one, unless it is the last, where it is known how each moves.
