@@ -3,3 +3,4 @@ pub mod InsideLemmas
 pub mod BeforeLemmas
 pub mod SettledLemmas
 pub mod SideLemmas
+pub mod Handed

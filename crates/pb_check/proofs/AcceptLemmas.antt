@@ -4,13 +4,11 @@ use Rattle.pb_syntax.specs.Trees.{TransformTree}
 use Rattle.pb_syntax.specs.WithinLimits.{IsWithinLimits}
 use Rattle.pb_syntax.specs.declared.refusal.Refusal.{Refusal}
 use Rattle.pb_syntax.specs.declared.refusal.Refusal.TheVariants.{Memory}
-use Rattle.pb_lexer.proofs.LexemeLemmas.{lexemes}
-use Rattle.pb_grammar.proofs.Within.{within_limits}
+use Rattle.pb_front.proofs.Handed.{lexemes, within_limits}
 use Rattle.pb_front.specs.Reading.{IsRead, IsRefused as IsUnread}
 use Rattle.pb_front.proofs.ReadLemmas.{some_reading, one_tree, one_refusal as one_unread, not_both as read_and_unread}
-use Rattle.pb_names.specs.Transforms.{HasRefusal, IsResolved, program_of, IsRefused as HasBadNames}
-use Rattle.pb_names.proofs.LawLemmas.{some_answer, no_two, same_program, same_refusal}
-use Rattle.pb_names.proofs.TransformsFit.{well_formed}
+use Rattle.pb_resolve.specs.Handed.{HasRefusal, IsResolved, program_of, IsRefused as HasBadNames}
+use Rattle.pb_resolve.proofs.Handed.{some_answer, no_two, same_program, same_refusal, well_formed}
 use Rattle.pb_program.specs.Trees.{ProgTransform}
 use Rattle.pb_program.specs.WellFormed.{IsWellFormed}
 use Rattle.pb_check.specs.Accepting.{IsTextAccepted, IsTextRefused}

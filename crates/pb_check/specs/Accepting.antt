@@ -1,7 +1,7 @@
 -- The text of a program that every phase accepts, and why a text has none.
 use Rattle.std.specs.Prelude.{◌≡◌, ◌≢◌, ◌⊎◌, ℕ, List, Some, slice_get}
 use Rattle.pb_front.specs.Reading.{IsRead, IsRefused as IsUnread}
-use Rattle.pb_names.specs.Transforms.{IsResolved, IsRefused as HasBadNames}
+use Rattle.pb_resolve.specs.Handed.{IsResolved, IsRefused as HasBadNames}
 use Rattle.pb_program.specs.Transforms.{ProgValue}
 use Rattle.pb_program.specs.Trees.{ProgTransform, bare_prog}
 use Rattle.pb_program.specs.WellFormed.{IsWellFormed}

@@ -21,7 +21,7 @@ use Rattle.pb_frame.specs.Frames.{FrameValue, IsFrame, JobValue, in_layer, layer
 use Rattle.pb_frame.specs.declared.part.FramePart.{FramePart}
 use Rattle.pb_frame.proofs.FoundLemmas.{instance, numbers_of, of_these, said_of}
 use Rattle.pb_frame.proofs.PartLemmas.{top_of}
-use Rattle.pb_plan.specs.Made.{jobs_for}
+use Rattle.pb_runs.specs.Handed.{jobs_for}
 use Rattle.pb_recursion.specs.Counts.{Counted, all_of, both, instance_count, matrix_of, one_more}
 use Rattle.pb_recursion.specs.Shapes.{sides_of_decl}
 use Rattle.pb_runs.specs.Steps.{Instance}

@@ -6,3 +6,4 @@ pub mod ListLemmas
 pub mod PartLemmas
 pub mod SizeLemmas
 pub mod SpanLemmas
+pub mod Handed

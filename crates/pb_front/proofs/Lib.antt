@@ -7,3 +7,4 @@ pub mod Plains
 pub mod ReadLemmas
 pub mod Unplaced
 pub mod Written
+pub mod Handed

@@ -13,7 +13,7 @@ use Rattle.pb_syntax.specs.Faults.{Accepted, AreRefused, BadSyntaxAt, OverLimitA
 use Rattle.pb_syntax.specs.declared.limits.TheConstants.{MOST_BYTES}
 use Rattle.pb_lexer.specs.Lexing.{IsLexed, IsUnlexed}
 use Rattle.pb_lexer.proofs.EndLemmas.{tokens_or_fault, one_list, no_fault, one_fault}
-use Rattle.pb_grammar.proofs.Exact.{some_answer, one_tree as one_tree_of, one_place, one_item, not_both as apart, no_bad_program, no_large_program}
+use Rattle.pb_parser.proofs.Handed.{some_answer, one_tree as one_tree_of, one_place, one_item, not_both as apart, no_bad_program, no_large_program}
 use Rattle.pb_front.specs.Reading.{IsRead, HasFault, IsRefused}
 
 -- a text without tokens is refused

@@ -6,7 +6,7 @@ use crate::programs::{accepted, program};
 use pb_check::Accepted;
 use pb_config::{ConfigRefusal, read_config};
 use pb_program::Config;
-use pb_unroll::cost;
+use pb_cost::cost;
 use std::alloc::{AllocError, Global};
 use std::test::Fail;
 

@@ -2,3 +2,4 @@ mod Answers
 mod DeclLemmas
 mod ProgramLemmas
 mod RuleLemmas
+pub mod Handed

@@ -19,8 +19,7 @@ use Rattle.pb_base.proofs.ListLemmas.{at_in, in_at}
 use Rattle.pb_model.specs.Cells.{Cell, natural}
 use Rattle.pb_check.specs.Orders.{AnalysisValue}
 use Rattle.pb_check.proofs.FirstLemmas.{all_at, some_same}
-use Rattle.pb_calls.proofs.InsideLemmas.{view_within}
-use Rattle.pb_calls.proofs.SideLemmas.{segment_below}
+use Rattle.pb_frame.proofs.Handed.{segment_below, view_within}
 use Rattle.pb_frame.specs.Choices.{IsInstance}
 use Rattle.pb_frame.specs.Frames.{HoldsCell, JobValue, is_wide_rule, rect_of}
 use Rattle.pb_frame.specs.declared.part.FramePart.{FramePart}

@@ -22,7 +22,7 @@ use Rattle.pb_types.specs.Types.{PlanIsSound}
 use Rattle.pb_types.proofs.SoundLemmas.{plans_sound}
 use Rattle.pb_base.proofs.ListLemmas.{at_in}
 use Rattle.pb_check.specs.Phases.{IsSound}
-use Rattle.pb_calls.proofs.SameLemmas.{guards_anywhere}
+use Rattle.pb_frame.proofs.Handed.{guards_anywhere}
 
 -- ---- coordinates without rule variables
 no_variables : (outs : List Read) → AllByRecursion IsFree outs → variables outs ≡ 0

@@ -8,8 +8,8 @@ use Rattle.pb_program.specs.WellFormed.{IsTransform, IsWellFormed}
 use Rattle.pb_region.proofs.SmallLemmas.{at_place}
 use Rattle.pb_model.specs.Calls.{IsSettled, Outcomes, call_of}
 use Rattle.pb_calls.proofs.SettledLemmas.{call_settled}
-use Rattle.pb_check.specs.Orders.{AnalysisValue, IsAnalysis}
-use Rattle.pb_check.specs.Phases.{IsSound}
+use Rattle.pb_calls.specs.Handed.{AnalysisValue, IsAnalysis}
+use Rattle.pb_calls.specs.Handed.{IsSound}
 use Rattle.pb_recursion.specs.Depths.{IsWhole, call_at, deeper_at, made_by_transform, plans_at, sides_of_matrix, sizes_given}
 use Rattle.pb_recursion.specs.Shapes.{can_enter}
 use Rattle.pb_recursion.proofs.ShapeLemmas.{entered_given, entered_range}

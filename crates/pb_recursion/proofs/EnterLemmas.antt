@@ -21,7 +21,7 @@ use Rattle.pb_model.specs.Calls.{Outcomes}
 use Rattle.pb_model.specs.Cells.{natural}
 use Rattle.pb_region.specs.Dims.{AreSides, HasNoNegative}
 use Rattle.pb_region.proofs.SmallLemmas.{at_place}
-use Rattle.pb_check.proofs.FirstLemmas.{all_at}
+use Rattle.pb_calls.proofs.Handed.{all_at}
 use Rattle.pb_calls.proofs.SideLemmas.{tall, width_natural}
 use Rattle.pb_calls.specs.Given.{AreGiven, HasSides}
 use Rattle.pb_recursion.specs.Depths.{sides_of_matrix, sizes_given}

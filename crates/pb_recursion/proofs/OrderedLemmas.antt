@@ -22,7 +22,7 @@ use Rattle.pb_program.specs.Trees.{ProgRule, ProgTransform}
 use Rattle.pb_program.specs.WellFormed.{Around, IsRule, IsTransform, IsWellFormed, PlanFits, around}
 use Rattle.pb_program.specs.declared.rule.RuleKind.TheVariants as kind
 use Rattle.pb_region.proofs.SmallLemmas.{at_place}
-use Rattle.pb_check.specs.Phases.{IsSound}
+use Rattle.pb_calls.specs.Handed.{IsSound}
 use Rattle.pb_recursion.specs.Plans.{calls_of_rule}
 use Rattle.pb_types.specs.Least.{unless}
 use Rattle.pb_types.specs.Plans.{Known, is_given, is_free, make, make_all, made_at, made_by, declare, out_target, at_first, unmade, never_made, argument_broken, argument_misfit, target_misfit, numbered, misfit, argument_dims, wanted, targets_broken, count_broken, takes, gives, call_broken, plan_stmt_broken, plan_stmts_broken, plan_view_broken, after}

@@ -12,7 +12,7 @@ use Rattle.pb_program.specs.Trees.{ProgTransform}
 use Rattle.pb_model.specs.Calls.{Outcomes}
 use Rattle.pb_model.specs.Cells.{natural}
 use Rattle.pb_calls.specs.Given.{AreGiven, HasSides}
-use Rattle.pb_check.proofs.FirstLemmas.{all_at}
+use Rattle.pb_calls.proofs.Handed.{all_at}
 use Rattle.pb_recursion.specs.Depths.{IsWhole, sides_of_matrix, sizes_given}
 use Rattle.pb_recursion.specs.Shapes.{Sides, all_same_sides, are_in_range, can_enter, same_sides, sides_of_decl}
 

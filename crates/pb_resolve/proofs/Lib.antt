@@ -7,3 +7,4 @@ pub mod RuleLemmas
 pub mod SizeLemmas
 pub mod TransformLemmas
 pub mod ProgramLemmas
+pub mod Handed

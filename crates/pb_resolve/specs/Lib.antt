@@ -3,3 +3,4 @@ pub mod SumValue
 pub mod Locals
 pub mod RuleWords
 pub mod Programs
+pub mod Handed

@@ -1,5 +1,6 @@
 //! What bodies compute, as a run shows it.
-use crate::run::{Row, done, holds};
+use crate::run::End::Done;
+use crate::run::{Rows, all_hold};
 use std::test::Fail;
 
 // Quotients and remainders.
@@ -27,83 +28,78 @@ const COUNTS: &str = "transform Counts from A[n] to B[n] {
 }
 ";
 
-fn computed_rows() -> [Row; 7] {
-    [
-        done(
-            "run --pool serial p - Parts a d",
-            &[
-                ("p", PARTS),
-                ("a", "matrix 4\n7 -7 7 -7\n"),
-                ("d", "matrix 4\n2 2 -2 -2\n"),
-            ],
-            "matrix 4\n3 -3 -3 3\nmatrix 4\n1 -1 1 -1\n",
-        ),
-        done(
-            "run --pool serial p - Steps a",
-            &[("p", STEPS), ("a", "matrix 4\n3 0 5 -2\n")],
-            "matrix 4\n3 2 -5 2\n",
-        ),
-        done(
-            "run --pool serial p - Counts a",
-            &[("p", COUNTS), ("a", "matrix 4\n0 2 2 3\n")],
-            "matrix 4\n1 0 2 1\n",
-        ),
-        // From left to right, products before sums.
-        done(
-            "run --pool serial p - T a",
-            &[
-                (
-                    "p",
-                    "transform T from A[n] to B[n] { to (B.cell(i) b) from (A.cell(i) a) { b = a - 2 - 1 + 10 / 3 * 3 % 5; } }",
-                ),
-                ("a", "matrix 2\n7 -1\n"),
-            ],
-            "matrix 2\n8 0\n",
-        ),
-        // Rule variables and sizes.
-        done(
-            "run --pool serial p - T a",
-            &[
-                (
-                    "p",
-                    "transform T from A[w,h] to B[w,h] { to (B.cell(x,y) b) from () { b = 100 * x + 10 * y + w; } }",
-                ),
-                ("a", "matrix 2 2\n0 0\n0 0\n"),
-            ],
-            "matrix 2 2\n2 102\n12 112\n",
-        ),
-        // A loop with as many turns as there may be, and loops without a turn.
-        done(
-            "run --pool serial p - T a",
-            &[
-                (
-                    "p",
-                    "transform T from A[n] to B[n] { to (B.cell(i) b) from (A.cell(i) a) { for (k = 0 .. a) { b = b + 1; } for (k = 5 .. 5) { b = 1 / 0; } } }",
-                ),
-                ("a", "matrix 3\n1048576 3 -5\n"),
-            ],
-            "matrix 3\n1048576 3 0\n",
-        ),
-        // Products of a row and a column.
-        done(
-            "run --pool serial p - T a d",
-            &[
-                (
-                    "p",
-                    "transform T from A[c,h], D[w,c] to B[w,h] { to (B.cell(x,y) b) from (A.row(y) r, D.column(x) s) { b = dot(r, s); } }",
-                ),
-                ("a", "matrix 3 2\n1 2 3\n4 5 6\n"),
-                ("d", "matrix 2 3\n7 8\n9 10\n11 12\n"),
-            ],
-            "matrix 2 2\n58 64\n139 154\n",
-        ),
-    ]
-}
+const COMPUTED_ROWS: Rows = &[
+    (
+        "run --pool serial p - Parts a d",
+        &[
+            ("p", PARTS),
+            ("a", "matrix 4\n7 -7 7 -7\n"),
+            ("d", "matrix 4\n2 2 -2 -2\n"),
+        ],
+        Done("matrix 4\n3 -3 -3 3\nmatrix 4\n1 -1 1 -1\n"),
+    ),
+    (
+        "run --pool serial p - Steps a",
+        &[("p", STEPS), ("a", "matrix 4\n3 0 5 -2\n")],
+        Done("matrix 4\n3 2 -5 2\n"),
+    ),
+    (
+        "run --pool serial p - Counts a",
+        &[("p", COUNTS), ("a", "matrix 4\n0 2 2 3\n")],
+        Done("matrix 4\n1 0 2 1\n"),
+    ),
+    // From left to right, products before sums.
+    (
+        "run --pool serial p - T a",
+        &[
+            (
+                "p",
+                "transform T from A[n] to B[n] { to (B.cell(i) b) from (A.cell(i) a) { b = a - 2 - 1 + 10 / 3 * 3 % 5; } }",
+            ),
+            ("a", "matrix 2\n7 -1\n"),
+        ],
+        Done("matrix 2\n8 0\n"),
+    ),
+    // Rule variables and sizes.
+    (
+        "run --pool serial p - T a",
+        &[
+            (
+                "p",
+                "transform T from A[w,h] to B[w,h] { to (B.cell(x,y) b) from () { b = 100 * x + 10 * y + w; } }",
+            ),
+            ("a", "matrix 2 2\n0 0\n0 0\n"),
+        ],
+        Done("matrix 2 2\n2 102\n12 112\n"),
+    ),
+    // A loop with as many turns as there may be, and loops without a turn.
+    (
+        "run --pool serial p - T a",
+        &[
+            (
+                "p",
+                "transform T from A[n] to B[n] { to (B.cell(i) b) from (A.cell(i) a) { for (k = 0 .. a) { b = b + 1; } for (k = 5 .. 5) { b = 1 / 0; } } }",
+            ),
+            ("a", "matrix 3\n1048576 3 -5\n"),
+        ],
+        Done("matrix 3\n1048576 3 0\n"),
+    ),
+    // Products of a row and a column.
+    (
+        "run --pool serial p - T a d",
+        &[
+            (
+                "p",
+                "transform T from A[c,h], D[w,c] to B[w,h] { to (B.cell(x,y) b) from (A.row(y) r, D.column(x) s) { b = dot(r, s); } }",
+            ),
+            ("a", "matrix 3 2\n1 2 3\n4 5 6\n"),
+            ("d", "matrix 2 3\n7 8\n9 10\n11 12\n"),
+        ],
+        Done("matrix 2 2\n58 64\n139 154\n"),
+    ),
+];
 
 #[test]
 fn bodies_compute_what_they_say(rt: HostRuntime) -> Result<(), Fail> {
-    for row in computed_rows() {
-        holds(&rt, rt.alloc(), &row)?;
-    }
-    Ok(())
+    all_hold(&rt, rt.alloc(), COMPUTED_ROWS)
 }

@@ -1,5 +1,6 @@
 //! Calls in plans: what is handed on, and calls that can't be made.
-use crate::run::{Row, done, holds, stopped, trapped};
+use crate::run::End::{Done, Stopped, Trapped};
+use crate::run::{Rows, all_hold};
 use std::test::Fail;
 
 // A row without its first and last cell, by a view of a view of a view.
@@ -38,97 +39,82 @@ transform Short from A[n] to B[n] {
 }
 ";
 
-fn view_rows() -> [Row; 3] {
-    [
-        done(
-            "run --pool serial p - Inside a",
-            &[("p", VIEWS), ("a", TABLE)],
-            "matrix 2\n6 7\n",
-        ),
-        done(
-            "run --pool serial p - Down a",
-            &[("p", VIEWS), ("a", TABLE)],
-            "matrix 1\n5\n",
-        ),
-        // The innermost call has a size below its minimum, and its target has no cell.
-        done(
-            "run --pool serial p - Inside a",
-            &[("p", VIEWS), ("a", "matrix 2 2\n1 2\n3 4\n")],
-            "matrix 0\n",
-        ),
-    ]
-}
+const VIEW_ROWS: Rows = &[
+    (
+        "run --pool serial p - Inside a",
+        &[("p", VIEWS), ("a", TABLE)],
+        Done("matrix 2\n6 7\n"),
+    ),
+    (
+        "run --pool serial p - Down a",
+        &[("p", VIEWS), ("a", TABLE)],
+        Done("matrix 1\n5\n"),
+    ),
+    // The innermost call has a size below its minimum, and its target has no cell.
+    (
+        "run --pool serial p - Inside a",
+        &[("p", VIEWS), ("a", "matrix 2 2\n1 2\n3 4\n")],
+        Done("matrix 0\n"),
+    ),
+];
 
 #[test]
 fn views_of_views_are_handed_on(rt: HostRuntime) -> Result<(), Fail> {
-    for row in view_rows() {
-        holds(&rt, rt.alloc(), &row)?;
-    }
-    Ok(())
+    all_hold(&rt, rt.alloc(), VIEW_ROWS)
 }
 
-fn made_rows() -> [Row; 4] {
-    [
-        done(
-            "run --pool serial p - Next a",
-            &[("p", MADE), ("a", "matrix 3\n1 2 3\n")],
-            "matrix 3\n2 3 4\n",
-        ),
-        // A trapped cell is handed on, and matters where it is read.
-        done(
-            "run --pool serial p - Spread a",
-            &[("p", MADE), ("a", "matrix 3\n3 0 2\n")],
-            "matrix 3\n2 2 2\n",
-        ),
-        trapped(
-            "run --pool serial p - Spread a",
-            &[("p", MADE), ("a", "matrix 3\n0 1 2\n")],
-            "T DivideByZero: Spread.B (0,0), by Parts rule 0 (0,0)\n",
-        ),
-        done(
-            "run --pool serial p - Call a",
-            &[("p", MADE), ("a", "matrix 3\n1 2 3\n")],
-            "matrix 3\n1 2 3\n",
-        ),
-    ]
-}
+const MADE_ROWS: Rows = &[
+    (
+        "run --pool serial p - Next a",
+        &[("p", MADE), ("a", "matrix 3\n1 2 3\n")],
+        Done("matrix 3\n2 3 4\n"),
+    ),
+    // A trapped cell is handed on, and matters where it is read.
+    (
+        "run --pool serial p - Spread a",
+        &[("p", MADE), ("a", "matrix 3\n3 0 2\n")],
+        Done("matrix 3\n2 2 2\n"),
+    ),
+    (
+        "run --pool serial p - Spread a",
+        &[("p", MADE), ("a", "matrix 3\n0 1 2\n")],
+        Trapped("T DivideByZero: Spread.B (0,0), by Parts rule 0 (0,0)\n"),
+    ),
+    (
+        "run --pool serial p - Call a",
+        &[("p", MADE), ("a", "matrix 3\n1 2 3\n")],
+        Done("matrix 3\n1 2 3\n"),
+    ),
+];
 
-fn failed_rows() -> [Row; 4] {
-    [
-        // A size below the minimum of the called transform.
-        trapped(
-            "run --pool serial p - Call a",
-            &[("p", MADE), ("a", "matrix 2\n1 2\n")],
-            "T BadShape: Call.B (0,0), by Call rule 0 (0,0)\n",
-        ),
-        // The first trapped cell is that of the matrix after `through`.
-        trapped(
-            "run --pool serial p - Hidden a",
-            &[("p", MADE), ("a", "matrix 2\n1 2\n")],
-            "T BadShape: Hidden.T (0,0), by Hidden rule 0 (0,0)\n",
-        ),
-        stopped(
-            "run --depth 0 --pool serial p - Hidden a",
-            &[("p", MADE), ("a", "matrix 2\n1 2\n")],
-            8,
-            "T DepthEnded: Hidden.T (0,0), by Hidden rule 0 (0,0)\n",
-        ),
-        // A local matrix whose side is below 0 has no cells, and no shape.
-        done(
-            "run --pool serial p - Short a",
-            &[("p", MADE), ("a", "matrix 1\n7\n")],
-            "matrix 1\n7\n",
-        ),
-    ]
-}
+const FAILED_ROWS: Rows = &[
+    // A size below the minimum of the called transform.
+    (
+        "run --pool serial p - Call a",
+        &[("p", MADE), ("a", "matrix 2\n1 2\n")],
+        Trapped("T BadShape: Call.B (0,0), by Call rule 0 (0,0)\n"),
+    ),
+    // The first trapped cell is that of the matrix after `through`.
+    (
+        "run --pool serial p - Hidden a",
+        &[("p", MADE), ("a", "matrix 2\n1 2\n")],
+        Trapped("T BadShape: Hidden.T (0,0), by Hidden rule 0 (0,0)\n"),
+    ),
+    (
+        "run --depth 0 --pool serial p - Hidden a",
+        &[("p", MADE), ("a", "matrix 2\n1 2\n")],
+        Stopped(8, "T DepthEnded: Hidden.T (0,0), by Hidden rule 0 (0,0)\n"),
+    ),
+    // A local matrix whose side is below 0 has no cells, and no shape.
+    (
+        "run --pool serial p - Short a",
+        &[("p", MADE), ("a", "matrix 1\n7\n")],
+        Done("matrix 1\n7\n"),
+    ),
+];
 
 #[test]
 fn plans_make_matrices_or_trap_them(rt: HostRuntime) -> Result<(), Fail> {
-    for row in made_rows() {
-        holds(&rt, rt.alloc(), &row)?;
-    }
-    for row in failed_rows() {
-        holds(&rt, rt.alloc(), &row)?;
-    }
-    Ok(())
+    all_hold(&rt, rt.alloc(), MADE_ROWS)?;
+    all_hold(&rt, rt.alloc(), FAILED_ROWS)
 }

@@ -1,7 +1,8 @@
 ghost use Rattle.std.specs.Prelude.{◌<◌};
 
 use crate::examples::{EXAMPLES, ROLL};
-use crate::run::{Files, Row, holds};
+use crate::run::End::Stopped;
+use crate::run::{Files, Row, Rows, all_hold, done, holds};
 use pb_outside::{MemShelf, MemSink};
 use pb_taskgraph::OpenGate;
 use pb_top::pb_command;
@@ -11,20 +12,6 @@ use std::sync::Wait;
 use std::test::Fail;
 use std::thread::Threads;
 
-/// A row of `check p`.
-pub fn check(files: Files, status: u8, out: &'static str, err: &'static str) -> Row {
-    Row {
-        words: "check p",
-        files,
-        failing_takes: &[],
-        failing_puts: &[],
-        most: 4096,
-        status,
-        out,
-        err,
-    }
-}
-
 // The program of `ROLL` with comments, tabs and other line ends, and no blank where none is needed.
 const DENSE_ROLL: &str =
     "transform RollingSum from A[1*n]to B[n]{to(B.cell(i)b)from(A.region(0,i+1)a){b=sum(a);}// one\r
@@ -33,148 +20,130 @@ const DENSE_ROLL: &str =
 #[test]
 fn checked_programs_have_one_text(rt: HostRuntime) -> Result<(), Fail> {
     for files in [&[("p", ROLL)], &[("p", DENSE_ROLL)]] {
-        holds(&rt, rt.alloc(), &check(files, 0, ROLL, ""))?;
+        holds(&rt, rt.alloc(), &done("check p", files, ROLL))?;
     }
     Ok(())
 }
 
-fn refused_rows() -> [Row; 6] {
-    [
-        check(&[("p", "transform @")], 3, "", "P2 BadToken: byte 10\n"),
-        check(&[("p", "")], 3, "", "P3 BadSyntax: byte 0\n"),
-        check(
-            &[("p", "transform T from A[n] to B[n] {}")],
-            3,
-            "",
-            "P3 BadSyntax: byte 31\n",
-        ),
-        check(
-            &[("p", "transform T from A[1048577]")],
-            3,
-            "",
-            "P4 OverLimit: number at byte 19\n",
-        ),
-        // The ninth term of a form, after eight of two bytes each.
-        check(
-            &[("p", "transform T from A[n+n+n+n+n+n+n+n+n]")],
-            3,
-            "",
-            "P4 OverLimit: terms at byte 35\n",
-        ),
-        check(&[("q", ROLL)], 14, "", "I1 NoFile: p\n"),
-    ]
-}
+const REFUSED_ROWS: Rows = &[
+    (
+        "check p",
+        &[("p", "transform @")],
+        Stopped(3, "P2 BadToken: byte 10\n"),
+    ),
+    (
+        "check p",
+        &[("p", "")],
+        Stopped(3, "P3 BadSyntax: byte 0\n"),
+    ),
+    (
+        "check p",
+        &[("p", "transform T from A[n] to B[n] {}")],
+        Stopped(3, "P3 BadSyntax: byte 31\n"),
+    ),
+    (
+        "check p",
+        &[("p", "transform T from A[1048577]")],
+        Stopped(3, "P4 OverLimit: number at byte 19\n"),
+    ),
+    // The ninth term of a form, after eight of two bytes each.
+    (
+        "check p",
+        &[("p", "transform T from A[n+n+n+n+n+n+n+n+n]")],
+        Stopped(3, "P4 OverLimit: terms at byte 35\n"),
+    ),
+    ("check p", &[("q", ROLL)], Stopped(14, "I1 NoFile: p\n")),
+];
 
 // One program, with one part changed in each row.
-fn misnamed_rows() -> [Row; 5] {
-    [
-        check(
-            &[(
-                "p",
-                "transform T from A[n] to B[n] { to (B.cell(i) b) from () { b = z; } }",
-            )],
-            3,
-            "",
-            "P6 UnknownName: z at byte 63\n",
-        ),
-        check(
-            &[(
-                "p",
-                "transform T from A[n] to B[n] { to (B.cell(i) b) from () { b = 1 < 2; } }",
-            )],
-            3,
-            "",
-            "P11 BadType: byte 63\n",
-        ),
-        check(
-            &[(
-                "p",
-                "transform T from A[n] to B[n] { to (A.cell(i) b) from () { b = 1; } }",
-            )],
-            3,
-            "",
-            "P9 BadOutput: byte 36\n",
-        ),
-        check(
-            &[(
-                "p",
-                "transform T from A[n], A[n] to B[n] { to (B.cell(i) b) from () { b = 1; } }",
-            )],
-            3,
-            "",
-            "P5 DuplicateName: A at byte 23\n",
-        ),
-        check(
-            &[(
-                "p",
-                "transform T from A[2*n] to B[n] { to (B.cell(i) b) from () { b = 1; } }",
-            )],
-            3,
-            "",
-            "P7 SizeNotBound: n at byte 21\n",
-        ),
-    ]
-}
+const MISNAMED_ROWS: Rows = &[
+    (
+        "check p",
+        &[(
+            "p",
+            "transform T from A[n] to B[n] { to (B.cell(i) b) from () { b = z; } }",
+        )],
+        Stopped(3, "P6 UnknownName: z at byte 63\n"),
+    ),
+    (
+        "check p",
+        &[(
+            "p",
+            "transform T from A[n] to B[n] { to (B.cell(i) b) from () { b = 1 < 2; } }",
+        )],
+        Stopped(3, "P11 BadType: byte 63\n"),
+    ),
+    (
+        "check p",
+        &[(
+            "p",
+            "transform T from A[n] to B[n] { to (A.cell(i) b) from () { b = 1; } }",
+        )],
+        Stopped(3, "P9 BadOutput: byte 36\n"),
+    ),
+    (
+        "check p",
+        &[(
+            "p",
+            "transform T from A[n], A[n] to B[n] { to (B.cell(i) b) from () { b = 1; } }",
+        )],
+        Stopped(3, "P5 DuplicateName: A at byte 23\n"),
+    ),
+    (
+        "check p",
+        &[(
+            "p",
+            "transform T from A[2*n] to B[n] { to (B.cell(i) b) from () { b = 1; } }",
+        )],
+        Stopped(3, "P7 SizeNotBound: n at byte 21\n"),
+    ),
+];
 
 // Programs whose bounds are wrong.
-fn unbounded_rows() -> [Row; 4] {
-    [
-        check(
-            &[(
-                "p",
-                "transform T from A[n] to B[n-2] { to (B.cell(i) b) from () { b = 1; } }",
-            )],
-            3,
-            "",
-            "P8 NegativeDim: T.B x at n=1\n",
-        ),
-        check(
-            &[(
-                "p",
-                "transform T from A[n], C[m] to B[m - n, n - 3] { to (B b) from () { } }",
-            )],
-            3,
-            "",
-            "P8 NegativeDim: T.B x at n=1048576,m=1\n",
-        ),
-        check(
-            &[(
-                "p",
-                "transform T from A[n] to B[n] { to (B.cell(i) b) from (A.cell(2 * i) a) { b = a; } }",
-            )],
-            3,
-            "",
-            "P12 NotABox: T rule 0 condition 2\n",
-        ),
-        check(
-            &[(
-                "p",
-                "transform T from A[n] to B[n] { to (B.region(0, n) p, B.region(0, n/2) q) from () {} }",
-            )],
-            3,
-            "",
-            "P10 OverlapOutputs: T rule 0 outputs 0 and 1\n",
-        ),
-    ]
-}
+const UNBOUNDED_ROWS: Rows = &[
+    (
+        "check p",
+        &[(
+            "p",
+            "transform T from A[n] to B[n-2] { to (B.cell(i) b) from () { b = 1; } }",
+        )],
+        Stopped(3, "P8 NegativeDim: T.B x at n=1\n"),
+    ),
+    (
+        "check p",
+        &[(
+            "p",
+            "transform T from A[n], C[m] to B[m - n, n - 3] { to (B b) from () { } }",
+        )],
+        Stopped(3, "P8 NegativeDim: T.B x at n=1048576,m=1\n"),
+    ),
+    (
+        "check p",
+        &[(
+            "p",
+            "transform T from A[n] to B[n] { to (B.cell(i) b) from (A.cell(2 * i) a) { b = a; } }",
+        )],
+        Stopped(3, "P12 NotABox: T rule 0 condition 2\n"),
+    ),
+    (
+        "check p",
+        &[(
+            "p",
+            "transform T from A[n] to B[n] { to (B.region(0, n) p, B.region(0, n/2) q) from () {} }",
+        )],
+        Stopped(3, "P10 OverlapOutputs: T rule 0 outputs 0 and 1\n"),
+    ),
+];
 
 #[test]
 fn programs_with_wrong_bounds_are_named(rt: HostRuntime) -> Result<(), Fail> {
-    for row in unbounded_rows() {
-        holds(&rt, rt.alloc(), &row)?;
-    }
-    Ok(())
+    all_hold(&rt, rt.alloc(), UNBOUNDED_ROWS)
 }
 
 #[test]
 fn refused_programs_are_named(rt: HostRuntime) -> Result<(), Fail> {
-    for row in refused_rows() {
-        holds(&rt, rt.alloc(), &row)?;
-    }
-    for row in misnamed_rows() {
-        holds(&rt, rt.alloc(), &row)?;
-    }
-    Ok(())
+    all_hold(&rt, rt.alloc(), REFUSED_ROWS)?;
+    all_hold(&rt, rt.alloc(), MISNAMED_ROWS)
 }
 
 fn failing_put(

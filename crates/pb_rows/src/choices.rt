@@ -1,9 +1,10 @@
 //! Reports of programs, and programs whose segments have no order.
-use crate::check::{answered, check};
+use crate::check::answered;
 use crate::examples::{
     BAD, BIG, BLUR1, BLUR2, DIV, DOUBLE, GUARD2, MUL, PAIR, PREFIX, REV, ROLL, TWOWAY,
 };
-use crate::run::{Row, holds};
+use crate::run::End::{Done, Stopped};
+use crate::run::{Row, Rows, all_hold, holds};
 use std::test::Fail;
 
 const ROLL_REPORT: &str = "transform RollingSum
@@ -127,15 +128,15 @@ fn choices(
 }
 
 // Each direction, wide rules, and matrices of one and of two dimensions beside each other.
-fn reported_rows() -> [Row; 6] {
-    [
-        // Two matrices in one layer.
-        choices(
-            &[(
-                "p",
-                "transform Pair from A[n] to U[n], V[n] { to (U.cell(i) u) from (V.cell(i - 1) v) { u = v; } to (V.cell(i) v) from (U.cell(i - 1) u) { v = u; } secondary to (U.cell(i) u) from (A.cell(i) a) { u = a; } secondary to (V.cell(i) v) from (A.cell(i) a) { v = a; } }",
-            )],
-            0,
+const REPORTED_ROWS: Rows = &[
+    // Two matrices in one layer.
+    (
+        "choices p",
+        &[(
+            "p",
+            "transform Pair from A[n] to U[n], V[n] { to (U.cell(i) u) from (V.cell(i - 1) v) { u = v; } to (V.cell(i) v) from (U.cell(i - 1) u) { v = u; } secondary to (U.cell(i) u) from (A.cell(i) a) { u = a; } secondary to (V.cell(i) v) from (A.cell(i) a) { v = a; } }",
+        )],
+        Done(
             "transform Pair
 segment U[0,1) rules {2} layer 0
 segment U[1,n) rules {0} layer 2 direction x+
@@ -146,15 +147,16 @@ edge U[1,n) to V[1,n) rules {0} x<
 edge V[1,n) to U[0,1) rules {1} x<
 edge V[1,n) to U[1,n) rules {1} x<
 ",
-            "",
         ),
-        // Two layers with a direction each.
-        choices(
-            &[(
-                "p",
-                "transform TwoWay where n >= 2 from A[n] to B[n] { to (B.cell(i) b) from (B.cell(i-1) p) where i < n/2 { b = p; } to (B.cell(i) b) from (B.cell(i+1) q) where i >= n/2 { b = q; } secondary to (B.cell(i) b) from (A.cell(i) a) { b = a; } }",
-            )],
-            0,
+    ),
+    // Two layers with a direction each.
+    (
+        "choices p",
+        &[(
+            "p",
+            "transform TwoWay where n >= 2 from A[n] to B[n] { to (B.cell(i) b) from (B.cell(i-1) p) where i < n/2 { b = p; } to (B.cell(i) b) from (B.cell(i+1) q) where i >= n/2 { b = q; } secondary to (B.cell(i) b) from (A.cell(i) a) { b = a; } }",
+        )],
+        Done(
             "transform TwoWay
 segment B[0,1) rules {2} layer 0
 segment B[1,n/2) rules {0} layer 2 direction x+
@@ -165,15 +167,16 @@ edge B[1,n/2) to B[1,n/2) rules {0} x<
 edge B[n/2,n-1) to B[n/2,n-1) rules {1} x>
 edge B[n/2,n-1) to B[n-1,n) rules {1} x>
 ",
-            "",
         ),
-        // A direction that serves both rules.
-        choices(
-            &[(
-                "p",
-                "transform TwoWay where n >= 2 from A[n] to B[n] { to (B.cell(i) b) from (B.cell(i-1) p) where i < n-1 { b = p; } to (B.cell(i) b) from (B.cell(0) q) where i >= 1 { b = q; } secondary to (B.cell(i) b) from (A.cell(i) a) { b = a; } }",
-            )],
-            0,
+    ),
+    // A direction that serves both rules.
+    (
+        "choices p",
+        &[(
+            "p",
+            "transform TwoWay where n >= 2 from A[n] to B[n] { to (B.cell(i) b) from (B.cell(i-1) p) where i < n-1 { b = p; } to (B.cell(i) b) from (B.cell(0) q) where i >= 1 { b = q; } secondary to (B.cell(i) b) from (A.cell(i) a) { b = a; } }",
+        )],
+        Done(
             "transform TwoWay
 segment B[0,1) rules {2} layer 0
 segment B[1,n-1) rules {0,1} layer 1 direction x+
@@ -183,15 +186,16 @@ edge B[1,n-1) to B[1,n-1) rules {0} x<
 edge B[n-1,n) to B[0,1) rules {1} x<
 site TwoWay.B {0,1}
 ",
-            "",
         ),
-        // The same, where both rules read their own layer.
-        choices(
-            &[(
-                "p",
-                "transform TwoWay where n >= 3 from A[n] to B[n] { to (B.cell(i) b) from (B.cell(i-1) p) where i < n-1 { b = p; } to (B.cell(i) b) from (B.cell(i-2) q) { b = q; } secondary to (B.cell(i) b) from (A.cell(i) a) { b = a; } }",
-            )],
-            0,
+    ),
+    // The same, where both rules read their own layer.
+    (
+        "choices p",
+        &[(
+            "p",
+            "transform TwoWay where n >= 3 from A[n] to B[n] { to (B.cell(i) b) from (B.cell(i-1) p) where i < n-1 { b = p; } to (B.cell(i) b) from (B.cell(i-2) q) { b = q; } secondary to (B.cell(i) b) from (A.cell(i) a) { b = a; } }",
+        )],
+        Done(
             "transform TwoWay
 segment B[0,1) rules {2} layer 0
 segment B[1,2) rules {0} layer 1
@@ -206,29 +210,31 @@ edge B[n-1,n) to B[1,2) rules {1} x<
 edge B[n-1,n) to B[2,n-1) rules {1} x<
 site TwoWay.B {0,1}
 ",
-            "",
         ),
-        // A rule that isn't for single cells reads a lower layer.
-        choices(
-            &[(
-                "p",
-                "transform Spread from A[n] to B[n] { to (B.region(0, 1) b) from (A.cell(0) a) { } to (B.region(1, n) b) from (B.cell(0) c) { } }",
-            )],
-            0,
+    ),
+    // A rule that isn't for single cells reads a lower layer.
+    (
+        "choices p",
+        &[(
+            "p",
+            "transform Spread from A[n] to B[n] { to (B.region(0, 1) b) from (A.cell(0) a) { } to (B.region(1, n) b) from (B.cell(0) c) { } }",
+        )],
+        Done(
             "transform Spread
 segment B[0,1) rules {0} layer 0
 segment B[1,n) rules {1} layer 1
 edge B[1,n) to B[0,1) rules {1} wide
 ",
-            "",
         ),
-        // An edge from two dimensions to one has a mark on either axis.
-        choices(
-            &[(
-                "p",
-                "transform Rows from A[w,h] through M[h] to B[w,h] { to (M.cell(y) m) from (A.row(y) r) { m = sum(r); } to (B.cell(x,y) b) from (M.cell(y) m, B.cell(x, y+1) d) { b = m + d; } secondary to (B.cell(x,y) b) from (M.region(0, h) m) { b = sum(m); } }",
-            )],
-            0,
+    ),
+    // An edge from two dimensions to one has a mark on either axis.
+    (
+        "choices p",
+        &[(
+            "p",
+            "transform Rows from A[w,h] through M[h] to B[w,h] { to (M.cell(y) m) from (A.row(y) r) { m = sum(r); } to (B.cell(x,y) b) from (M.cell(y) m, B.cell(x, y+1) d) { b = m + d; } secondary to (B.cell(x,y) b) from (M.region(0, h) m) { b = sum(m); } }",
+        )],
+        Done(
             "transform Rows
 segment M[0,h) rules {0} layer 0
 segment B[0,w)x[0,h-1) rules {1} layer 2 direction y-
@@ -238,102 +244,96 @@ edge B[0,w)x[0,h-1) to B[0,w)x[0,h-1) rules {1} x= y>
 edge B[0,w)x[0,h-1) to B[0,w)x[h-1,h) rules {1} x= y>
 edge B[0,w)x[h-1,h) to M[0,h) rules {2} x* y<=
 ",
-            "",
         ),
-    ]
-}
+    ),
+];
 
 #[test]
 fn a_report_tells_segments_layers_edges_and_sites(rt: HostRuntime) -> Result<(), Fail> {
-    for row in reported_rows() {
-        holds(&rt, rt.alloc(), &row)?;
-    }
-    Ok(())
+    all_hold(&rt, rt.alloc(), REPORTED_ROWS)
 }
 
 // The same line from both commands.
-fn unordered_rows() -> [Row; 6] {
-    let pair = "P16 NoOrder: Pair U[0,n) V[0,n)\n";
-    let two_ways = "P16 NoOrder: TwoWay B[1,n-1)\n";
-    [
-        check(&[("p", PAIR)], 3, "", pair),
-        choices(&[("p", PAIR)], 3, "", pair),
-        check(&[("p", TWOWAY)], 3, "", two_ways),
-        choices(&[("p", TWOWAY)], 3, "", two_ways),
-        // One reads the cell before, the other the cell in its own place.
-        check(
-            &[(
-                "p",
-                "transform Pair from A[n] to U[n], V[n] { to (U.cell(i) u) from (V.cell(i - 1) v) { u = v; } to (V.cell(i) v) from (U.cell(i) u) { v = u; } secondary to (U.cell(i) u) from (A.cell(i) a) { u = a; } }",
-            )],
-            3,
-            "",
-            "P16 NoOrder: Pair U[1,n) V[0,n)\n",
-        ),
-        // A rule that isn't for single cells makes both segments, and one of them reads the other.
-        check(
-            &[(
-                "p",
-                "transform Spread from A[n] to B[n] { to (B b) from (A.cell(0) a) { } to (B.region(1, n) b) from (B.cell(0) c) { } }",
-            )],
-            3,
-            "",
-            "P16 NoOrder: Spread B[0,1) B[1,n)\n",
-        ),
-    ]
-}
+const NO_ORDER_OF_PAIR: &str = "P16 NoOrder: Pair U[0,n) V[0,n)\n";
+
+const NO_ORDER_OF_TWO_WAYS: &str = "P16 NoOrder: TwoWay B[1,n-1)\n";
+
+const UNORDERED_ROWS: Rows = &[
+    ("check p", &[("p", PAIR)], Stopped(3, NO_ORDER_OF_PAIR)),
+    ("choices p", &[("p", PAIR)], Stopped(3, NO_ORDER_OF_PAIR)),
+    (
+        "check p",
+        &[("p", TWOWAY)],
+        Stopped(3, NO_ORDER_OF_TWO_WAYS),
+    ),
+    (
+        "choices p",
+        &[("p", TWOWAY)],
+        Stopped(3, NO_ORDER_OF_TWO_WAYS),
+    ),
+    // One reads the cell before, the other the cell in its own place.
+    (
+        "check p",
+        &[(
+            "p",
+            "transform Pair from A[n] to U[n], V[n] { to (U.cell(i) u) from (V.cell(i - 1) v) { u = v; } to (V.cell(i) v) from (U.cell(i) u) { v = u; } secondary to (U.cell(i) u) from (A.cell(i) a) { u = a; } }",
+        )],
+        Stopped(3, "P16 NoOrder: Pair U[1,n) V[0,n)\n"),
+    ),
+    // A rule that isn't for single cells makes both segments, and one of them reads the other.
+    (
+        "check p",
+        &[(
+            "p",
+            "transform Spread from A[n] to B[n] { to (B b) from (A.cell(0) a) { } to (B.region(1, n) b) from (B.cell(0) c) { } }",
+        )],
+        Stopped(3, "P16 NoOrder: Spread B[0,1) B[1,n)\n"),
+    ),
+];
 
 // Which of two faults is told.
-fn first_rows() -> [Row; 4] {
-    [
-        // Of two components the one with the least segment.
-        check(
-            &[(
-                "p",
-                "transform T from A[n] through M[n] to B[n] { to (B.cell(i) b) from (B.cell(i) c) { b = c; } to (M.cell(i) m) from (M.cell(i) c) { m = c; } }",
-            )],
+const FIRST_ROWS: Rows = &[
+    // Of two components the one with the least segment.
+    (
+        "check p",
+        &[(
+            "p",
+            "transform T from A[n] through M[n] to B[n] { to (B.cell(i) b) from (B.cell(i) c) { b = c; } to (M.cell(i) m) from (M.cell(i) c) { m = c; } }",
+        )],
+        Stopped(3, "P16 NoOrder: T M[0,n)\n"),
+    ),
+    // Of two transforms the first.
+    (
+        "check p",
+        &[(
+            "p",
+            "transform S from A[n] to B[n] { to (B b) from (A a) { } } transform T from A[n] to B[n, n] { to (B.cell(x, y) b) from (B.column(x) c) { b = sum(c); } } transform U from A[n] to B[n] { to (B.cell(i) b) from (B.cell(i) c) { b = c; } }",
+        )],
+        Stopped(3, "P16 NoOrder: T B[0,n)x[0,n)\n"),
+    ),
+    // A segment without a rule comes before segments without an order, also in a later transform.
+    (
+        "check p",
+        &[(
+            "p",
+            "transform T from A[n] to B[n] { to (B.cell(i) b) from (B.cell(i) c) { b = c; } } transform U from A[n] to B[n] { to (B.cell(i) b) from () where i >= 1 { b = 1; } }",
+        )],
+        Stopped(3, "P14 Uncovered: U.B [0,1)\n"),
+    ),
+    (
+        "choices p",
+        &[("p", BLUR1)],
+        Stopped(
             3,
-            "",
-            "P16 NoOrder: T M[0,n)\n",
-        ),
-        // Of two transforms the first.
-        check(
-            &[(
-                "p",
-                "transform S from A[n] to B[n] { to (B b) from (A a) { } } transform T from A[n] to B[n, n] { to (B.cell(x, y) b) from (B.column(x) c) { b = sum(c); } } transform U from A[n] to B[n] { to (B.cell(i) b) from (B.cell(i) c) { b = c; } }",
-            )],
-            3,
-            "",
-            "P16 NoOrder: T B[0,n)x[0,n)\n",
-        ),
-        // A segment without a rule comes before segments without an order, also in a later transform.
-        check(
-            &[(
-                "p",
-                "transform T from A[n] to B[n] { to (B.cell(i) b) from (B.cell(i) c) { b = c; } } transform U from A[n] to B[n] { to (B.cell(i) b) from () where i >= 1 { b = 1; } }",
-            )],
-            3,
-            "",
-            "P14 Uncovered: U.B [0,1)\n",
-        ),
-        choices(
-            &[("p", BLUR1)],
-            3,
-            "",
             "P13 Crossing: Blur3.B x: 1 over n-1 at n=1; n-1 over 1 at n=1048576\n",
         ),
-    ]
-}
+    ),
+];
 
 #[test]
 fn programs_without_an_order_are_named(rt: HostRuntime) -> Result<(), Fail> {
-    for row in unordered_rows() {
-        holds(&rt, rt.alloc(), &row)?;
-    }
-    for row in first_rows() {
-        holds(&rt, rt.alloc(), &row)?;
-    }
-    Ok(())
+    all_hold(&rt, rt.alloc(), UNORDERED_ROWS)?;
+    all_hold(&rt, rt.alloc(), FIRST_ROWS)
 }
 
 fn failing_rows() -> [Row; 5] {

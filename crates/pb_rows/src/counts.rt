@@ -1,5 +1,6 @@
 //! Runs with plans at each of their limits, and one past it.
-use crate::run::{Row, done, holds, ran, stopped};
+use crate::run::End::{Done, Stopped};
+use crate::run::{Rows, all_hold, ran};
 use std::alloc::{AllocError, Global};
 use std::process::Abort;
 use std::sync::Wait;
@@ -19,40 +20,33 @@ transform More from A[n] to B[n] { to (B b) from (A a) { let t[1048576 * n - 11]
 
 const FOUR: &str = "matrix 4\n1 2 3 4\n";
 
-fn local_rows() -> [Row; 4] {
-    [
-        done(
-            "run --pool serial p - Side a",
-            &[("p", LOCALS), ("a", FOUR)],
-            FOUR,
-        ),
-        stopped(
-            "run --pool serial p - Side a",
-            &[("p", LOCALS), ("a", "matrix 5\n1 2 3 4 5\n")],
-            6,
-            "X1 TooLarge: side over 4194304\n",
-        ),
-        // 4 cells are given, 4194292 those of t, 4 made by the second call, and 4 those of B.
-        done(
-            "run --pool serial p - Cells a",
-            &[("p", LOCALS), ("a", FOUR)],
-            FOUR,
-        ),
-        stopped(
-            "run --pool serial p - More a",
-            &[("p", LOCALS), ("a", FOUR)],
-            6,
-            "X1 TooLarge: cells over 4194304\n",
-        ),
-    ]
-}
+const LOCAL_ROWS: Rows = &[
+    (
+        "run --pool serial p - Side a",
+        &[("p", LOCALS), ("a", FOUR)],
+        Done(FOUR),
+    ),
+    (
+        "run --pool serial p - Side a",
+        &[("p", LOCALS), ("a", "matrix 5\n1 2 3 4 5\n")],
+        Stopped(6, "X1 TooLarge: side over 4194304\n"),
+    ),
+    // 4 cells are given, 4194292 those of t, 4 made by the second call, and 4 those of B.
+    (
+        "run --pool serial p - Cells a",
+        &[("p", LOCALS), ("a", FOUR)],
+        Done(FOUR),
+    ),
+    (
+        "run --pool serial p - More a",
+        &[("p", LOCALS), ("a", FOUR)],
+        Stopped(6, "X1 TooLarge: cells over 4194304\n"),
+    ),
+];
 
 #[test]
 fn failed_calls_count_for_sides_and_cells(rt: HostRuntime) -> Result<(), Fail> {
-    for row in local_rows() {
-        holds(&rt, rt.alloc(), &row)?;
-    }
-    Ok(())
+    all_hold(&rt, rt.alloc(), LOCAL_ROWS)
 }
 
 // Runs of a program over an input of ones, with so many equal cells as the answer; or the line of a count.

@@ -1,5 +1,6 @@
 //! The kernels of the folder examples/gallery: what each makes of its input, without a configuration and with the one that `tune` writes.
-use crate::run::{Row, done, holds};
+use crate::run::End::Done;
+use crate::run::{Rows, all_hold};
 use std::test::Fail;
 
 const PRODUCT: &str =
@@ -160,189 +161,183 @@ transform Running from A[n] to S[n], M[n] {
 }
 ";
 
-fn rows() -> [Row; 11] {
-    [
-        done(
-            "run --pool serial p - Product a b",
-            &[
-                ("p", PRODUCT),
-                ("a", "matrix 3 4\n1 2 3\n4 5 6\n7 8 9\n1 0 2\n"),
-                ("b", "matrix 2 3\n1 2\n3 4\n5 6\n"),
-            ],
-            "matrix 2 4\n22 28\n49 64\n76 100\n11 14\n",
-        ),
-        done(
-            "run --pool serial p - SummedArea a",
-            &[
-                ("p", SUMMED_AREA),
-                ("a", "matrix 4 3\n1 2 3 4\n5 6 7 8\n9 10 11 12\n"),
-            ],
-            "matrix 4 3\n1 3 6 10\n6 14 24 36\n15 33 54 78\n",
-        ),
-        done(
-            "run --pool serial p - Stencil3 a b",
-            &[
-                ("p", STENCIL3),
-                ("a", "matrix 6\n0 0 90 0 0 30\n"),
-                ("b", "matrix 4\n0 3 0 6\n"),
-            ],
-            "matrix 6 4\n0 0 90 0 0 30\n3 33 33 33 13 18\n18 23 33 26 21 15\n26 30 33 32 26 24\n",
-        ),
-        done(
-            "run --pool serial p - Stencil5 a",
-            &[
-                ("p", STENCIL5),
-                (
-                    "a",
-                    "matrix 5 5\n100 100 100 100 100\n100 0 0 0 100\n100 0 0 0 100\n100 0 0 0 100\n100 100 100 100 100\n",
-                ),
-            ],
+const ROWS: Rows = &[
+    (
+        "run --pool serial p - Product a b",
+        &[
+            ("p", PRODUCT),
+            ("a", "matrix 3 4\n1 2 3\n4 5 6\n7 8 9\n1 0 2\n"),
+            ("b", "matrix 2 3\n1 2\n3 4\n5 6\n"),
+        ],
+        Done("matrix 2 4\n22 28\n49 64\n76 100\n11 14\n"),
+    ),
+    (
+        "run --pool serial p - SummedArea a",
+        &[
+            ("p", SUMMED_AREA),
+            ("a", "matrix 4 3\n1 2 3 4\n5 6 7 8\n9 10 11 12\n"),
+        ],
+        Done("matrix 4 3\n1 3 6 10\n6 14 24 36\n15 33 54 78\n"),
+    ),
+    (
+        "run --pool serial p - Stencil3 a b",
+        &[
+            ("p", STENCIL3),
+            ("a", "matrix 6\n0 0 90 0 0 30\n"),
+            ("b", "matrix 4\n0 3 0 6\n"),
+        ],
+        Done("matrix 6 4\n0 0 90 0 0 30\n3 33 33 33 13 18\n18 23 33 26 21 15\n26 30 33 32 26 24\n"),
+    ),
+    (
+        "run --pool serial p - Stencil5 a",
+        &[
+            ("p", STENCIL5),
+            (
+                "a",
+                "matrix 5 5\n100 100 100 100 100\n100 0 0 0 100\n100 0 0 0 100\n100 0 0 0 100\n100 100 100 100 100\n",
+            ),
+        ],
+        Done(
             "matrix 5 5\n100 100 100 100 100\n100 67 53 67 100\n100 53 35 53 100\n100 67 53 67 100\n100 100 100 100 100\n",
         ),
-        done(
-            "run --pool serial p - Convolve a b",
-            &[
-                ("p", CONVOLUTION),
-                ("a", "matrix 8\n1 2 3 4 5 6 7 8\n"),
-                ("b", "matrix 5\n1 2 4 2 1\n"),
-            ],
-            "matrix 8\n11 20 30 40 50 60 61 52\n",
-        ),
-        done(
-            "run --pool serial p - CommonSubsequence a b",
-            &[
-                ("p", SUBSEQUENCE),
-                ("a", "matrix 6\n3 1 4 1 5 9\n"),
-                ("b", "matrix 5\n1 4 5 3 9\n"),
-            ],
+    ),
+    (
+        "run --pool serial p - Convolve a b",
+        &[
+            ("p", CONVOLUTION),
+            ("a", "matrix 8\n1 2 3 4 5 6 7 8\n"),
+            ("b", "matrix 5\n1 2 4 2 1\n"),
+        ],
+        Done("matrix 8\n11 20 30 40 50 60 61 52\n"),
+    ),
+    (
+        "run --pool serial p - CommonSubsequence a b",
+        &[
+            ("p", SUBSEQUENCE),
+            ("a", "matrix 6\n3 1 4 1 5 9\n"),
+            ("b", "matrix 5\n1 4 5 3 9\n"),
+        ],
+        Done(
             "matrix 7 6\n0 0 0 0 0 0 0\n0 0 1 1 1 1 1\n0 0 1 2 2 2 2\n0 0 1 2 2 3 3\n0 1 1 2 2 3 3\n0 1 1 2 2 3 4\n",
         ),
-        done(
-            "run --pool serial p - EditDistance a b",
-            &[
-                ("p", EDIT_DISTANCE),
-                ("a", "matrix 6\n3 1 4 1 5 9\n"),
-                ("b", "matrix 5\n1 4 5 3 9\n"),
-            ],
+    ),
+    (
+        "run --pool serial p - EditDistance a b",
+        &[
+            ("p", EDIT_DISTANCE),
+            ("a", "matrix 6\n3 1 4 1 5 9\n"),
+            ("b", "matrix 5\n1 4 5 3 9\n"),
+        ],
+        Done(
             "matrix 7 6\n0 1 2 3 4 5 6\n1 1 1 2 3 4 5\n2 2 2 1 2 3 4\n3 3 3 2 2 2 3\n4 3 4 3 3 3 3\n5 4 4 4 4 4 3\n",
         ),
-        done(
-            "run --pool serial p - Least a",
-            &[("p", LEAST), ("a", "matrix 7\n7 3 9 -2 8 5 4\n")],
-            "matrix 1\n-2\n",
-        ),
-        done(
-            "run --pool serial p - Transpose a",
-            &[
-                ("p", TRANSPOSE),
-                ("a", "matrix 5 3\n1 2 3 4 5\n6 7 8 9 10\n11 12 13 14 15\n"),
-            ],
-            "matrix 3 5\n1 6 11\n2 7 12\n3 8 13\n4 9 14\n5 10 15\n",
-        ),
-        done(
-            "run --pool serial p - Multiply a b",
-            &[
-                ("p", POLYNOMIAL),
-                ("a", "matrix 5\n1 2 3 4 5\n"),
-                ("b", "matrix 3\n1 -1 2\n"),
-            ],
-            "matrix 7\n1 1 3 5 7 3 10\n",
-        ),
-        done(
-            "run --pool serial p - Running a",
-            &[("p", RUNNING), ("a", "matrix 5\n4 2 5 1 3\n")],
-            "matrix 5\n4 6 11 12 15\nmatrix 5\n4 2 2 1 1\n",
-        ),
-    ]
-}
+    ),
+    (
+        "run --pool serial p - Least a",
+        &[("p", LEAST), ("a", "matrix 7\n7 3 9 -2 8 5 4\n")],
+        Done("matrix 1\n-2\n"),
+    ),
+    (
+        "run --pool serial p - Transpose a",
+        &[
+            ("p", TRANSPOSE),
+            ("a", "matrix 5 3\n1 2 3 4 5\n6 7 8 9 10\n11 12 13 14 15\n"),
+        ],
+        Done("matrix 3 5\n1 6 11\n2 7 12\n3 8 13\n4 9 14\n5 10 15\n"),
+    ),
+    (
+        "run --pool serial p - Multiply a b",
+        &[
+            ("p", POLYNOMIAL),
+            ("a", "matrix 5\n1 2 3 4 5\n"),
+            ("b", "matrix 3\n1 -1 2\n"),
+        ],
+        Done("matrix 7\n1 1 3 5 7 3 10\n"),
+    ),
+    (
+        "run --pool serial p - Running a",
+        &[("p", RUNNING), ("a", "matrix 5\n4 2 5 1 3\n")],
+        Done("matrix 5\n4 6 11 12 15\nmatrix 5\n4 2 2 1 1\n"),
+    ),
+];
 
 #[test]
 fn each_kernel_makes_what_it_says(rt: HostRuntime) -> Result<(), Fail> {
-    for row in rows() {
-        holds(&rt, rt.alloc(), &row)?;
-    }
-    Ok(())
+    all_hold(&rt, rt.alloc(), ROWS)
 }
 
-fn tuned_rows() -> [Row; 11] {
-    [
-        done("tune --up-to 16 p Product", &[("p", PRODUCT)], ""),
-        done(
-            "tune --up-to 16 p SummedArea",
-            &[("p", SUMMED_AREA)],
-            "choose SummedArea.S {0,1} = 0 until 4 then 1\n",
-        ),
-        done("tune --up-to 16 p Stencil3", &[("p", STENCIL3)], ""),
-        done("tune --up-to 16 p Stencil5", &[("p", STENCIL5)], ""),
-        done(
-            "tune --up-to 16 p Convolve",
-            &[("p", CONVOLUTION)],
-            "choose Convolve.C {0,1} = 0 until 8 then 1\n",
-        ),
-        done(
-            "tune --up-to 16 p CommonSubsequence",
-            &[("p", SUBSEQUENCE)],
-            "",
-        ),
-        done(
-            "tune --up-to 16 p EditDistance",
-            &[("p", EDIT_DISTANCE)],
-            "",
-        ),
-        done("tune --up-to 16 p Least", &[("p", LEAST)], ""),
-        done("tune --up-to 16 p Transpose", &[("p", TRANSPOSE)], ""),
-        done("tune --up-to 16 p Multiply", &[("p", POLYNOMIAL)], ""),
-        done(
-            "tune --up-to 16 p Running",
-            &[("p", RUNNING)],
+const TUNED_ROWS: Rows = &[
+    ("tune --up-to 16 p Product", &[("p", PRODUCT)], Done("")),
+    (
+        "tune --up-to 16 p SummedArea",
+        &[("p", SUMMED_AREA)],
+        Done("choose SummedArea.S {0,1} = 0 until 4 then 1\n"),
+    ),
+    ("tune --up-to 16 p Stencil3", &[("p", STENCIL3)], Done("")),
+    ("tune --up-to 16 p Stencil5", &[("p", STENCIL5)], Done("")),
+    (
+        "tune --up-to 16 p Convolve",
+        &[("p", CONVOLUTION)],
+        Done("choose Convolve.C {0,1} = 0 until 8 then 1\n"),
+    ),
+    (
+        "tune --up-to 16 p CommonSubsequence",
+        &[("p", SUBSEQUENCE)],
+        Done(""),
+    ),
+    (
+        "tune --up-to 16 p EditDistance",
+        &[("p", EDIT_DISTANCE)],
+        Done(""),
+    ),
+    ("tune --up-to 16 p Least", &[("p", LEAST)], Done("")),
+    ("tune --up-to 16 p Transpose", &[("p", TRANSPOSE)], Done("")),
+    ("tune --up-to 16 p Multiply", &[("p", POLYNOMIAL)], Done("")),
+    (
+        "tune --up-to 16 p Running",
+        &[("p", RUNNING)],
+        Done(
             "choose Running.S {0,1} = 0 until 4 then 1\nchoose Running.M {2,3} = 2 until 8 then 3\n",
         ),
-    ]
-}
+    ),
+];
 
-fn configured_rows() -> [Row; 3] {
-    [
-        done(
-            "run --pool serial p c SummedArea a",
-            &[
-                ("p", SUMMED_AREA),
-                ("c", "choose SummedArea.S {0,1} = 0 until 4 then 1\n"),
-                ("a", "matrix 4 3\n1 2 3 4\n5 6 7 8\n9 10 11 12\n"),
-            ],
-            "matrix 4 3\n1 3 6 10\n6 14 24 36\n15 33 54 78\n",
-        ),
-        done(
-            "run --pool serial p c Convolve a b",
-            &[
-                ("p", CONVOLUTION),
-                ("c", "choose Convolve.C {0,1} = 0 until 8 then 1\n"),
-                ("a", "matrix 8\n1 2 3 4 5 6 7 8\n"),
-                ("b", "matrix 5\n1 2 4 2 1\n"),
-            ],
-            "matrix 8\n11 20 30 40 50 60 61 52\n",
-        ),
-        done(
-            "run --pool serial p c Running a",
-            &[
-                ("p", RUNNING),
-                (
-                    "c",
-                    "choose Running.S {0,1} = 0 until 4 then 1\nchoose Running.M {2,3} = 2 until 8 then 3\n",
-                ),
-                ("a", "matrix 5\n4 2 5 1 3\n"),
-            ],
-            "matrix 5\n4 6 11 12 15\nmatrix 5\n4 2 2 1 1\n",
-        ),
-    ]
-}
+const CONFIGURED_ROWS: Rows = &[
+    (
+        "run --pool serial p c SummedArea a",
+        &[
+            ("p", SUMMED_AREA),
+            ("c", "choose SummedArea.S {0,1} = 0 until 4 then 1\n"),
+            ("a", "matrix 4 3\n1 2 3 4\n5 6 7 8\n9 10 11 12\n"),
+        ],
+        Done("matrix 4 3\n1 3 6 10\n6 14 24 36\n15 33 54 78\n"),
+    ),
+    (
+        "run --pool serial p c Convolve a b",
+        &[
+            ("p", CONVOLUTION),
+            ("c", "choose Convolve.C {0,1} = 0 until 8 then 1\n"),
+            ("a", "matrix 8\n1 2 3 4 5 6 7 8\n"),
+            ("b", "matrix 5\n1 2 4 2 1\n"),
+        ],
+        Done("matrix 8\n11 20 30 40 50 60 61 52\n"),
+    ),
+    (
+        "run --pool serial p c Running a",
+        &[
+            ("p", RUNNING),
+            (
+                "c",
+                "choose Running.S {0,1} = 0 until 4 then 1\nchoose Running.M {2,3} = 2 until 8 then 3\n",
+            ),
+            ("a", "matrix 5\n4 2 5 1 3\n"),
+        ],
+        Done("matrix 5\n4 6 11 12 15\nmatrix 5\n4 2 2 1 1\n"),
+    ),
+];
 
 #[test]
 fn each_kernel_with_a_choice_is_tuned(rt: HostRuntime) -> Result<(), Fail> {
-    for row in tuned_rows() {
-        holds(&rt, rt.alloc(), &row)?;
-    }
-    for row in configured_rows() {
-        holds(&rt, rt.alloc(), &row)?;
-    }
-    Ok(())
+    all_hold(&rt, rt.alloc(), TUNED_ROWS)?;
+    all_hold(&rt, rt.alloc(), CONFIGURED_ROWS)
 }

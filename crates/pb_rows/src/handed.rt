@@ -1,6 +1,7 @@
 //! Traps that are handed on to cells which read trapped cells, and which trapped cell a run tells.
 use crate::examples::BIG;
-use crate::run::{Row, holds, trapped};
+use crate::run::End::Trapped;
+use crate::run::{Rows, all_hold};
 use std::test::Fail;
 
 // Where the last cell is told first, and each other is made from the one before it.
@@ -41,59 +42,54 @@ const ASIDE: &str = "transform Aside from A[n] through M[n] to B[n] {
 }
 ";
 
-fn handed_rows() -> [Row; 7] {
-    [
-        trapped(
-            "run --pool serial p - Last a",
-            &[("p", LAST), ("a", "matrix 4\n9223372036854775807 1 5 -3\n")],
-            "T Overflow: Last.L (0,0), by Last rule 1 (1,0)\n",
-        ),
-        // The first in the order of the reads, in place of the body's own.
-        trapped(
-            "run --pool serial p - Reads a",
-            &[("p", READS), ("a", "matrix 1\n1\n")],
-            "T Overflow: Reads.B (0,0), by Reads rule 2 (0,0)\n",
-        ),
-        trapped(
-            "run --pool serial p - Reads a",
-            &[("p", READS_BACK), ("a", "matrix 2\n0 1\n")],
-            "T DivideByZero: Reads.B (1,0), by Reads rule 1 (1,0)\n",
-        ),
-        // Of one read the first row by row, also where the body uses none of it.
-        trapped(
-            "run --pool serial p - Whole a",
-            &[
-                ("p", WHOLE),
-                ("a", "matrix 2 2\n1 0\n9223372036854775807 1\n"),
-            ],
-            "T DivideByZero: Whole.S (0,0), by Whole rule 1 (1,0)\n",
-        ),
-        trapped(
-            "run --pool serial p - Whole a",
-            &[
-                ("p", WHOLE),
-                ("a", "matrix 2 2\n1 9223372036854775807\n0 1\n"),
-            ],
-            "T Overflow: Whole.S (0,0), by Whole rule 1 (1,0)\n",
-        ),
-        // What is made on the way is told before what is given, whatever the places and whether it is read or not.
-        trapped(
-            "run --pool serial p - Aside a",
-            &[("p", ASIDE), ("a", "matrix 2\n9223372036854775807 0\n")],
-            "T DivideByZero: Aside.M (1,0), by Aside rule 1 (1,0)\n",
-        ),
-        trapped(
-            "run --pool serial --trace p - Big a",
-            &[("p", BIG), ("a", "matrix 3\n1 9223372036854775807 2\n")],
-            "T Overflow: Big.B (1,0), by Big rule 1 (1,0)\n",
-        ),
-    ]
-}
+const HANDED_ROWS: Rows = &[
+    (
+        "run --pool serial p - Last a",
+        &[("p", LAST), ("a", "matrix 4\n9223372036854775807 1 5 -3\n")],
+        Trapped("T Overflow: Last.L (0,0), by Last rule 1 (1,0)\n"),
+    ),
+    // The first in the order of the reads, in place of the body's own.
+    (
+        "run --pool serial p - Reads a",
+        &[("p", READS), ("a", "matrix 1\n1\n")],
+        Trapped("T Overflow: Reads.B (0,0), by Reads rule 2 (0,0)\n"),
+    ),
+    (
+        "run --pool serial p - Reads a",
+        &[("p", READS_BACK), ("a", "matrix 2\n0 1\n")],
+        Trapped("T DivideByZero: Reads.B (1,0), by Reads rule 1 (1,0)\n"),
+    ),
+    // Of one read the first row by row, also where the body uses none of it.
+    (
+        "run --pool serial p - Whole a",
+        &[
+            ("p", WHOLE),
+            ("a", "matrix 2 2\n1 0\n9223372036854775807 1\n"),
+        ],
+        Trapped("T DivideByZero: Whole.S (0,0), by Whole rule 1 (1,0)\n"),
+    ),
+    (
+        "run --pool serial p - Whole a",
+        &[
+            ("p", WHOLE),
+            ("a", "matrix 2 2\n1 9223372036854775807\n0 1\n"),
+        ],
+        Trapped("T Overflow: Whole.S (0,0), by Whole rule 1 (1,0)\n"),
+    ),
+    // What is made on the way is told before what is given, whatever the places and whether it is read or not.
+    (
+        "run --pool serial p - Aside a",
+        &[("p", ASIDE), ("a", "matrix 2\n9223372036854775807 0\n")],
+        Trapped("T DivideByZero: Aside.M (1,0), by Aside rule 1 (1,0)\n"),
+    ),
+    (
+        "run --pool serial --trace p - Big a",
+        &[("p", BIG), ("a", "matrix 3\n1 9223372036854775807 2\n")],
+        Trapped("T Overflow: Big.B (1,0), by Big rule 1 (1,0)\n"),
+    ),
+];
 
 #[test]
 fn the_first_trap_is_handed_on_and_told(rt: HostRuntime) -> Result<(), Fail> {
-    for row in handed_rows() {
-        holds(&rt, rt.alloc(), &row)?;
-    }
-    Ok(())
+    all_hold(&rt, rt.alloc(), HANDED_ROWS)
 }

@@ -1,6 +1,7 @@
 //! Runs of programs whose rules call transforms.
 use crate::examples::{BAD, MUL};
-use crate::run::{Row, done, holds, stopped, trapped};
+use crate::run::End::{Done, Stopped, Trapped};
+use crate::run::{Row, Rows, all_hold, holds, stopped};
 use std::test::Fail;
 
 pub const LEFT: &str = "matrix 8 8
@@ -42,122 +43,108 @@ choose MatrixMultiply.AB {0,2,3} = 0 until 4 then 3
 choose MatrixMultiply.AB {0,2} = 0 until 4 then 2
 ";
 
-fn product_rows() -> [Row; 5] {
-    [
-        done(
-            "run --pool serial p - MatrixMultiply a b",
-            &[
-                ("p", MUL),
-                ("a", "matrix 3 2\n1 2 3\n4 5 6\n"),
-                ("b", "matrix 2 3\n7 8\n9 10\n11 12\n"),
-            ],
-            "matrix 2 2\n58 64\n139 154\n",
-        ),
-        // The transform that is asked for has no such rule, but another of the program has.
-        done(
-            "run --pool serial p - MatrixAdd a a",
-            &[("p", MUL), ("a", "matrix 1 1\n1\n")],
-            "matrix 1 1\n2\n",
-        ),
-        done(
-            "run --pool serial p c MatrixMultiply a b",
-            &[("p", MUL), ("c", CHOSEN), ("a", LEFT), ("b", RIGHT)],
-            PRODUCT,
-        ),
-        done(
-            "run --depth 64 --pool serial p c MatrixMultiply a b",
-            &[("p", MUL), ("c", CHOSEN), ("a", LEFT), ("b", RIGHT)],
-            PRODUCT,
-        ),
-        done(
-            "run --depth 8 --pool serial p c MatrixMultiply a b",
-            &[("p", MUL), ("c", CHOSEN), ("a", LEFT), ("b", RIGHT)],
-            PRODUCT,
-        ),
-    ]
-}
+const PRODUCT_ROWS: Rows = &[
+    (
+        "run --pool serial p - MatrixMultiply a b",
+        &[
+            ("p", MUL),
+            ("a", "matrix 3 2\n1 2 3\n4 5 6\n"),
+            ("b", "matrix 2 3\n7 8\n9 10\n11 12\n"),
+        ],
+        Done("matrix 2 2\n58 64\n139 154\n"),
+    ),
+    // The transform that is asked for has no such rule, but another of the program has.
+    (
+        "run --pool serial p - MatrixAdd a a",
+        &[("p", MUL), ("a", "matrix 1 1\n1\n")],
+        Done("matrix 1 1\n2\n"),
+    ),
+    (
+        "run --pool serial p c MatrixMultiply a b",
+        &[("p", MUL), ("c", CHOSEN), ("a", LEFT), ("b", RIGHT)],
+        Done(PRODUCT),
+    ),
+    (
+        "run --depth 64 --pool serial p c MatrixMultiply a b",
+        &[("p", MUL), ("c", CHOSEN), ("a", LEFT), ("b", RIGHT)],
+        Done(PRODUCT),
+    ),
+    (
+        "run --depth 8 --pool serial p c MatrixMultiply a b",
+        &[("p", MUL), ("c", CHOSEN), ("a", LEFT), ("b", RIGHT)],
+        Done(PRODUCT),
+    ),
+];
 
 #[test]
 fn a_product_is_made_by_plans(rt: HostRuntime) -> Result<(), Fail> {
-    for row in product_rows() {
-        holds(&rt, rt.alloc(), &row)?;
-    }
-    Ok(())
+    all_hold(&rt, rt.alloc(), PRODUCT_ROWS)
 }
 
 // The depth ends before the sides are small, at the calls of one rule or of another, or however deep plans may call; and there is no
 // call at depth 0, whatever its shapes.
-fn depth_rows() -> [Row; 4] {
-    [
-        stopped(
-            "run --depth 7 --pool serial p c MatrixMultiply a b",
-            &[("p", MUL), ("c", CHOSEN), ("a", LEFT), ("b", RIGHT)],
+const DEPTH_ROWS: Rows = &[
+    (
+        "run --depth 7 --pool serial p c MatrixMultiply a b",
+        &[("p", MUL), ("c", CHOSEN), ("a", LEFT), ("b", RIGHT)],
+        Stopped(
             8,
             "T DepthEnded: MatrixMultiply.AB (0,0), by MatrixMultiply rule 2 (0,0)\n",
         ),
-        stopped(
-            "run --depth 1 --pool serial p c MatrixMultiply a b",
-            &[("p", MUL), ("c", CHOSEN), ("a", LEFT), ("b", RIGHT)],
+    ),
+    (
+        "run --depth 1 --pool serial p c MatrixMultiply a b",
+        &[("p", MUL), ("c", CHOSEN), ("a", LEFT), ("b", RIGHT)],
+        Stopped(
             8,
             "T DepthEnded: MatrixMultiply.AB (0,0), by MatrixMultiply rule 1 (0,0)\n",
         ),
-        stopped(
-            "run --depth 0 --pool serial --trace p - Bad a",
-            &[("p", BAD), ("a", "matrix 4\n1 2 3 4\n")],
-            8,
-            "T DepthEnded: Bad.B (0,0), by Bad rule 0 (0,0)\n",
-        ),
-        stopped(
-            "run --pool serial p - Loop a",
-            &[
-                (
-                    "p",
-                    "transform Loop from A[n] to B[n] { to (B b) from (A a) { b = Loop(a); } }",
-                ),
-                ("a", "matrix 2\n1 2\n"),
-            ],
-            8,
-            "T DepthEnded: Loop.B (0,0), by Loop rule 0 (0,0)\n",
-        ),
-    ]
-}
+    ),
+    (
+        "run --depth 0 --pool serial --trace p - Bad a",
+        &[("p", BAD), ("a", "matrix 4\n1 2 3 4\n")],
+        Stopped(8, "T DepthEnded: Bad.B (0,0), by Bad rule 0 (0,0)\n"),
+    ),
+    (
+        "run --pool serial p - Loop a",
+        &[
+            (
+                "p",
+                "transform Loop from A[n] to B[n] { to (B b) from (A a) { b = Loop(a); } }",
+            ),
+            ("a", "matrix 2\n1 2\n"),
+        ],
+        Stopped(8, "T DepthEnded: Loop.B (0,0), by Loop rule 0 (0,0)\n"),
+    ),
+];
 
 // Matrices that don't fit the transform, and a call that doesn't fit the one that it calls.
-fn shape_rows() -> [Row; 3] {
-    [
-        stopped(
-            "run --pool serial p - MatrixMultiply a b",
-            &[
-                ("p", MUL),
-                ("a", "matrix 3 2\n1 2 3\n4 5 6\n"),
-                ("b", "matrix 2 2\n1 0\n0 1\n"),
-            ],
-            5,
-            "B3 BadShape: B height wanted 3 found 2\n",
-        ),
-        stopped(
-            "run --pool serial p - MatrixAdd",
-            &[("p", MUL)],
-            5,
-            "B2 WrongCount: wanted 2 given 0\n",
-        ),
-        trapped(
-            "run --pool serial p - Bad a",
-            &[("p", BAD), ("a", "matrix 4\n1 2 3 4\n")],
-            "T BadShape: Bad.B (0,0), by Bad rule 0 (0,0)\n",
-        ),
-    ]
-}
+const SHAPE_ROWS: Rows = &[
+    (
+        "run --pool serial p - MatrixMultiply a b",
+        &[
+            ("p", MUL),
+            ("a", "matrix 3 2\n1 2 3\n4 5 6\n"),
+            ("b", "matrix 2 2\n1 0\n0 1\n"),
+        ],
+        Stopped(5, "B3 BadShape: B height wanted 3 found 2\n"),
+    ),
+    (
+        "run --pool serial p - MatrixAdd",
+        &[("p", MUL)],
+        Stopped(5, "B2 WrongCount: wanted 2 given 0\n"),
+    ),
+    (
+        "run --pool serial p - Bad a",
+        &[("p", BAD), ("a", "matrix 4\n1 2 3 4\n")],
+        Trapped("T BadShape: Bad.B (0,0), by Bad rule 0 (0,0)\n"),
+    ),
+];
 
 #[test]
 fn a_plan_ends_with_its_depth_or_for_a_shape(rt: HostRuntime) -> Result<(), Fail> {
-    for row in depth_rows() {
-        holds(&rt, rt.alloc(), &row)?;
-    }
-    for row in shape_rows() {
-        holds(&rt, rt.alloc(), &row)?;
-    }
-    Ok(())
+    all_hold(&rt, rt.alloc(), DEPTH_ROWS)?;
+    all_hold(&rt, rt.alloc(), SHAPE_ROWS)
 }
 
 // A copy by two calls; and a matrix of a plan that is trapped and that nothing is made of.
@@ -168,33 +155,34 @@ transform Half from A[n] to B[n] { to (B b) from (A a, A.region(0, n/2) h) { let
 transform Thrice from A[n] to B[n] { to (B b) from (A a) { let t[n]; t = Twice(a); b = Copy(t); } }
 ";
 
-fn traced_rows() -> [Row; 3] {
-    [
-        done(
-            "run --trace --pool serial p - Twice a",
-            &[("p", TWICE), ("a", "matrix 3\n1 2 3\n")],
+const TRACED_ROWS: Rows = &[
+    (
+        "run --trace --pool serial p - Twice a",
+        &[("p", TWICE), ("a", "matrix 3\n1 2 3\n")],
+        Done(
             "matrix 3\n1 2 3\ntrace 3\ntask 0 call 1 block C[0,3)\ntask 1 call 2 block C[0,3)\ntask 2 call 0 copy B[0,3)\n",
         ),
-        done(
-            "run --trace --pool serial p - Half a",
-            &[("p", TWICE), ("a", "matrix 4\n1 2 3 4\n")],
+    ),
+    (
+        "run --trace --pool serial p - Half a",
+        &[("p", TWICE), ("a", "matrix 4\n1 2 3 4\n")],
+        Done(
             "matrix 4\n1 2 3 4\ntrace 3\ntask 0 call 1 trap t[0,4)\ntask 1 call 2 block C[0,4)\ntask 2 call 0 copy B[0,4)\n",
         ),
-        // The calls of the first call come before the second.
-        done(
-            "run --trace --pool serial p - Thrice a",
-            &[("p", TWICE), ("a", "matrix 3\n1 2 3\n")],
+    ),
+    // The calls of the first call come before the second.
+    (
+        "run --trace --pool serial p - Thrice a",
+        &[("p", TWICE), ("a", "matrix 3\n1 2 3\n")],
+        Done(
             "matrix 3\n1 2 3\ntrace 5\ntask 0 call 2 block C[0,3)\ntask 1 call 3 block C[0,3)\ntask 2 call 1 copy B[0,3)\ntask 3 call 4 block C[0,3)\ntask 4 call 0 copy B[0,3)\n",
         ),
-    ]
-}
+    ),
+];
 
 #[test]
 fn a_trace_has_the_tasks_of_all_calls(rt: HostRuntime) -> Result<(), Fail> {
-    for row in traced_rows() {
-        holds(&rt, rt.alloc(), &row)?;
-    }
-    Ok(())
+    all_hold(&rt, rt.alloc(), TRACED_ROWS)
 }
 
 // A tree of calls, of which there are 2^n - 1, and two more before it.
@@ -207,31 +195,25 @@ transform Two from A[n] to B[1] {
 }
 ";
 
-fn counted_rows() -> [Row; 2] {
-    [
-        done(
-            "run --pool serial p - Two a",
-            &[("p", TREE), ("a", "matrix 4\n5 6 7 8\n")],
-            "matrix 1\n5\n",
-        ),
-        stopped(
-            "run --pool serial p - Two a",
-            &[
-                ("p", TREE),
-                ("a", "matrix 14\n1 1 1 1 1 1 1 1 1 1 1 1 1 1\n"),
-            ],
-            6,
-            "X1 TooLarge: calls over 16384\n",
-        ),
-    ]
-}
+const COUNTED_ROWS: Rows = &[
+    (
+        "run --pool serial p - Two a",
+        &[("p", TREE), ("a", "matrix 4\n5 6 7 8\n")],
+        Done("matrix 1\n5\n"),
+    ),
+    (
+        "run --pool serial p - Two a",
+        &[
+            ("p", TREE),
+            ("a", "matrix 14\n1 1 1 1 1 1 1 1 1 1 1 1 1 1\n"),
+        ],
+        Stopped(6, "X1 TooLarge: calls over 16384\n"),
+    ),
+];
 
 #[test]
 fn a_run_has_at_most_so_many_calls(rt: HostRuntime) -> Result<(), Fail> {
-    for row in counted_rows() {
-        holds(&rt, rt.alloc(), &row)?;
-    }
-    Ok(())
+    all_hold(&rt, rt.alloc(), COUNTED_ROWS)
 }
 
 const WORDS: &str = "run --pool serial p c MatrixMultiply a";

@@ -28,6 +28,16 @@ pub struct Row {
     ghost takes_some: { 0 < most },
 }
 
+/// How a row ends: with a text on `out`, with the line of a trap on `err`, or with another status and its line on `err`.
+pub enum End {
+    Done(&'static str),
+    Trapped(&'static str),
+    Stopped(u8, &'static str),
+}
+
+/// Rows: the words of each call in one text with single blanks between them, its files, and how it ends.
+pub type Rows = &'static [(&'static str, Files, End)];
+
 /// A row that ends with a text on `out`.
 pub fn done(words: &'static str, files: Files, out: &'static str) -> Row {
     Row {
@@ -59,6 +69,14 @@ pub fn stopped(words: &'static str, files: Files, status: u8, err: &'static str)
 /// A row that ends with a trap.
 pub fn trapped(words: &'static str, files: Files, err: &'static str) -> Row {
     stopped(words, files, 7, err)
+}
+
+fn row_of(words: &'static str, files: Files, end: &End) -> Row {
+    match end {
+        End::Done(out) => done(words, files, out),
+        End::Trapped(err) => trapped(words, files, err),
+        End::Stopped(status, err) => stopped(words, files, *status, err),
+    }
 }
 
 fn shelf(alloc: Global, row: &Row) -> Result<MemShelf, AllocError> {
@@ -140,6 +158,18 @@ pub fn holds<R: Threads + Wait + Sync + Abort>(
         if let Some(line) = by_stealing(alloc, row.words, pool)? {
             answers(rt, alloc, row, line.as_str(), &OpenGate)?;
         }
+    }
+    Ok(())
+}
+
+/// Runs rows and asserts their answers, as `holds` does.
+pub fn all_hold<R: Threads + Wait + Sync + Abort>(
+    rt: &R,
+    alloc: Global,
+    rows: Rows,
+) -> Result<(), Fail> {
+    for (words, files, end) in rows {
+        holds(rt, alloc, &row_of(words, files, end))?;
     }
     Ok(())
 }

@@ -1,7 +1,8 @@
 //! Runs on threads.
 use crate::examples::{DIV, DOUBLE, MUL, ROLL};
 use crate::plans::{CHOSEN, LEFT, PRODUCT, RIGHT};
-use crate::run::{Row, answers, done, holds, stopped, trapped};
+use crate::run::End::{Done, Stopped, Trapped};
+use crate::run::{Rows, all_hold, answers, done, holds};
 use crossbeam_utils::Backoff;
 use pb_taskgraph::Gate;
 use std::sync::atomic::{AtomicBool, AtomicU64, Ordering};
@@ -24,50 +25,54 @@ pub const DIVISORS: &str = "matrix 100
 1 1 1 1 1 1 1 1 1 1 1 1 1 1 1 0 1 1 1 1 1 1 1 1 1
 ";
 
-fn answered_rows() -> [Row; 6] {
-    [
-        done(
-            "run --pool locked p c MatrixMultiply a b",
-            PRODUCT_FILES,
-            PRODUCT,
-        ),
-        done(
-            "run --workers 8 --pool locked p c MatrixMultiply a b",
-            PRODUCT_FILES,
-            PRODUCT,
-        ),
-        done(
-            "run --workers 64 --pool locked p - Double a",
-            &[("p", DOUBLE), ("a", "matrix 1\n21\n")],
-            "matrix 1\n42\n",
-        ),
-        done(
-            "run --workers 4 --trace --pool locked p c RollingSum a",
-            &[
-                ("p", ROLL),
-                ("c", "choose RollingSum.B {0,1} = 0 until 2 then 1\n"),
-                ("a", "matrix 4\n1 2 3 4\n"),
-            ],
+const ANSWERED_ROWS: Rows = &[
+    (
+        "run --pool locked p c MatrixMultiply a b",
+        PRODUCT_FILES,
+        Done(PRODUCT),
+    ),
+    (
+        "run --workers 8 --pool locked p c MatrixMultiply a b",
+        PRODUCT_FILES,
+        Done(PRODUCT),
+    ),
+    (
+        "run --workers 64 --pool locked p - Double a",
+        &[("p", DOUBLE), ("a", "matrix 1\n21\n")],
+        Done("matrix 1\n42\n"),
+    ),
+    (
+        "run --workers 4 --trace --pool locked p c RollingSum a",
+        &[
+            ("p", ROLL),
+            ("c", "choose RollingSum.B {0,1} = 0 until 2 then 1\n"),
+            ("a", "matrix 4\n1 2 3 4\n"),
+        ],
+        Done(
             "matrix 4\n1 3 6 10\ntrace 2\ntask 0 call 0 block B[0,1)\ntask 1 call 0 block B[1,4)\n",
         ),
-        done(
-            "run --workers 4 --trace p c RollingSum a",
-            &[
-                ("p", ROLL),
-                ("c", "choose RollingSum.B {0,1} = 0 until 2 then 1\n"),
-                ("a", "matrix 4\n1 2 3 4\n"),
-            ],
+    ),
+    (
+        "run --workers 4 --trace p c RollingSum a",
+        &[
+            ("p", ROLL),
+            ("c", "choose RollingSum.B {0,1} = 0 until 2 then 1\n"),
+            ("a", "matrix 4\n1 2 3 4\n"),
+        ],
+        Done(
             "matrix 4\n1 3 6 10\ntrace 2\ntask 0 call 0 block B[0,1)\ntask 1 call 0 block B[1,4)\n",
         ),
-        // One worker takes from its own queue what came first.
-        done(
-            "run --trace p - Four a",
-            &[("p", FOUR), ("a", "matrix 1\n5\n")],
+    ),
+    // One worker takes from its own queue what came first.
+    (
+        "run --trace p - Four a",
+        &[("p", FOUR), ("a", "matrix 1\n5\n")],
+        Done(
             "matrix 1\n5\nmatrix 1\n6\nmatrix 1\n7\nmatrix 1\n8\n\
             trace 4\ntask 0 call 0 block B[0,1)\ntask 1 call 0 block C[0,1)\ntask 2 call 0 block D[0,1)\ntask 3 call 0 block E[0,1)\n",
         ),
-    ]
-}
+    ),
+];
 
 // Four matrices that don't read each other.
 const FOUR: &str = "transform Four from A[n] to B[n], C[n], D[n], E[n] {
@@ -85,59 +90,52 @@ const BOTH: &str = "transform Both from A[n] to B[n], C[n] {
 }
 ";
 
-fn trapped_rows() -> [Row; 2] {
-    [
-        trapped(
-            "run --workers 8 --pool locked p c RollingSum a",
-            &[
-                ("p", ROLL),
-                ("c", "choose RollingSum.B {0,1} = 1\n"),
-                ("a", "matrix 3\n9223372036854775807 1 5\n"),
-            ],
-            "T Overflow: RollingSum.B (1,0), by RollingSum rule 1 (1,0)\n",
-        ),
-        trapped(
-            "run --workers 2 --pool locked p - Both a",
-            &[("p", BOTH), ("a", "matrix 2\n0 0\n")],
-            "T DivideByZero: Both.B (0,0), by Both rule 0 (0,0)\n",
-        ),
-    ]
-}
+const TRAPPED_ROWS: Rows = &[
+    (
+        "run --workers 8 --pool locked p c RollingSum a",
+        &[
+            ("p", ROLL),
+            ("c", "choose RollingSum.B {0,1} = 1\n"),
+            ("a", "matrix 3\n9223372036854775807 1 5\n"),
+        ],
+        Trapped("T Overflow: RollingSum.B (1,0), by RollingSum rule 1 (1,0)\n"),
+    ),
+    (
+        "run --workers 2 --pool locked p - Both a",
+        &[("p", BOTH), ("a", "matrix 2\n0 0\n")],
+        Trapped("T DivideByZero: Both.B (0,0), by Both rule 0 (0,0)\n"),
+    ),
+];
 
-fn deep_rows() -> [Row; 3] {
-    [
-        done(
-            "run --workers 2 --depth 8 --pool locked p c MatrixMultiply a b",
-            PRODUCT_FILES,
-            PRODUCT,
-        ),
-        stopped(
-            "run --workers 2 --depth 7 --pool locked p c MatrixMultiply a b",
-            PRODUCT_FILES,
+const DEEP_ROWS: Rows = &[
+    (
+        "run --workers 2 --depth 8 --pool locked p c MatrixMultiply a b",
+        PRODUCT_FILES,
+        Done(PRODUCT),
+    ),
+    (
+        "run --workers 2 --depth 7 --pool locked p c MatrixMultiply a b",
+        PRODUCT_FILES,
+        Stopped(
             8,
             "T DepthEnded: MatrixMultiply.AB (0,0), by MatrixMultiply rule 2 (0,0)\n",
         ),
-        stopped(
-            "run --workers 2 --depth 1 --pool locked p c MatrixMultiply a b",
-            PRODUCT_FILES,
+    ),
+    (
+        "run --workers 2 --depth 1 --pool locked p c MatrixMultiply a b",
+        PRODUCT_FILES,
+        Stopped(
             8,
             "T DepthEnded: MatrixMultiply.AB (0,0), by MatrixMultiply rule 1 (0,0)\n",
         ),
-    ]
-}
+    ),
+];
 
 #[test]
 fn runs_on_threads_have_the_same_answers(rt: HostRuntime) -> Result<(), Fail> {
-    for row in answered_rows() {
-        holds(&rt, rt.alloc(), &row)?;
-    }
-    for row in trapped_rows() {
-        holds(&rt, rt.alloc(), &row)?;
-    }
-    for row in deep_rows() {
-        holds(&rt, rt.alloc(), &row)?;
-    }
-    Ok(())
+    all_hold(&rt, rt.alloc(), ANSWERED_ROWS)?;
+    all_hold(&rt, rt.alloc(), TRAPPED_ROWS)?;
+    all_hold(&rt, rt.alloc(), DEEP_ROWS)
 }
 
 // Two matrices that don't read each other.

@@ -1,5 +1,6 @@
 use crate::examples::DOUBLE;
-use crate::run::{Row, holds};
+use crate::run::End::Stopped;
+use crate::run::{Row, Rows, all_hold, holds};
 use std::test::Fail;
 
 const USAGE: &str = "usage: pb check PROGRAM
@@ -65,44 +66,33 @@ fn the_first_word_after_the_options_is_the_program(rt: HostRuntime) -> Result<()
     Ok(())
 }
 
-fn faulty_input(files: &'static [(&'static str, &'static str)], err: &'static str) -> Row {
-    Row {
-        words: "run --pool serial double.pb - Double a",
-        files,
-        failing_takes: &[],
-        failing_puts: &[],
-        most: 4096,
-        status: 5,
-        out: "",
-        err,
-    }
-}
-
-fn faulty_rows() -> [Row; 4] {
-    [
-        faulty_input(&[("double.pb", DOUBLE), ("a", "")], "M1 BadHeader: a\n"),
-        faulty_input(
-            &[
-                ("double.pb", DOUBLE),
-                ("a", "matrix 1\n9223372036854775808\n"),
-            ],
-            "M2 BadNumber: a word 0\n",
-        ),
-        faulty_input(
-            &[("double.pb", DOUBLE), ("a", "matrix 3\n1 2\n")],
-            "M3 TooFew: a wanted 3 found 2\n",
-        ),
-        faulty_input(
-            &[("double.pb", DOUBLE), ("a", "matrix 3\n1 2 3 4\n")],
-            "M4 TooMany: a wanted 3\n",
-        ),
-    ]
-}
+const FAULTY_ROWS: Rows = &[
+    (
+        "run --pool serial double.pb - Double a",
+        &[("double.pb", DOUBLE), ("a", "")],
+        Stopped(5, "M1 BadHeader: a\n"),
+    ),
+    (
+        "run --pool serial double.pb - Double a",
+        &[
+            ("double.pb", DOUBLE),
+            ("a", "matrix 1\n9223372036854775808\n"),
+        ],
+        Stopped(5, "M2 BadNumber: a word 0\n"),
+    ),
+    (
+        "run --pool serial double.pb - Double a",
+        &[("double.pb", DOUBLE), ("a", "matrix 3\n1 2\n")],
+        Stopped(5, "M3 TooFew: a wanted 3 found 2\n"),
+    ),
+    (
+        "run --pool serial double.pb - Double a",
+        &[("double.pb", DOUBLE), ("a", "matrix 3\n1 2 3 4\n")],
+        Stopped(5, "M4 TooMany: a wanted 3\n"),
+    ),
+];
 
 #[test]
 fn faulty_inputs_are_named(rt: HostRuntime) -> Result<(), Fail> {
-    for row in faulty_rows() {
-        holds(&rt, rt.alloc(), &row)?;
-    }
-    Ok(())
+    all_hold(&rt, rt.alloc(), FAULTY_ROWS)
 }

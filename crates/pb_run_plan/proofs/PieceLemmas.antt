@@ -6,7 +6,7 @@ use Rattle.pb_linear.specs.declared.boxes.Step.{Step as Direction}
 use Rattle.pb_values.specs.Views.{HasPlace, cell_of, view_cells}
 use Rattle.pb_base.proofs.ListLemmas.{at_in, flat_in, in_at, in_flat, in_map, in_range, map_in, range_in}
 use Rattle.pb_check.proofs.FirstLemmas.{some_same}
-use Rattle.pb_frame.specs.declared.part.FramePart.{FramePart}
+use Rattle.pb_runs.specs.Handed.{FramePart}
 use Rattle.pb_links.specs.declared.places.Spot.{Spot}
 use Rattle.pb_taskgraph.specs.declared.task.Part.{Part}
 use Rattle.pb_plan.specs.Boxes.{spot_of}
@@ -16,7 +16,7 @@ use Rattle.pb_walk.specs.declared.stop.Stop.{Stop}
 use Rattle.pb_walk.proofs.WalkLemmas.{in_walk, walk_in}
 use Rattle.pb_plan.proofs.LinkedLemmas.{at_zip, in_view, once_view, view_in, zip_at}
 use Rattle.pb_plan.proofs.OnceLemmas.{Once, once_flat}
-use Rattle.pb_solution.specs.Solutions.{steps_by}
+use Rattle.pb_runs.specs.Handed.{steps_by}
 use Rattle.pb_views.specs.declared.seat.Seat.{Seat}
 use Rattle.pb_views.specs.Seats.{across, cell_at, down, seat_cells}
 use Rattle.pb_runs.specs.Steps.{Failed, Instance, Step, by_copy, by_job, by_trap, cells_of, seat_in, stop_number}

@@ -8,7 +8,7 @@ use Rattle.pb_values.specs.declared.rect.Rect.{Rect}
 use Rattle.pb_values.specs.declared.shape.TheConstants.{MOST_SIDE}
 use Rattle.pb_program.specs.Forms.{DeclValue}
 use Rattle.pb_model.specs.Calls.{Outcomes}
-use Rattle.pb_frame.specs.declared.part.FramePart.{FramePart}
+use Rattle.pb_runs.specs.Handed.{FramePart}
 use Rattle.pb_links.specs.Links.{link_count, predecessors, successors}
 use Rattle.pb_taskgraph.specs.Graphs.{GraphValue, TaskValue}
 use Rattle.pb_taskgraph.specs.Plans.{Plan}
@@ -18,7 +18,7 @@ use Rattle.pb_taskgraph.specs.declared.task.TaskKind.{TaskKind}
 use Rattle.pb_taskgraph.specs.declared.task.TaskKind.TheVariants.{Copy, Trap}
 use Rattle.pb_plan.specs.Boxes.{spot_of}
 use Rattle.pb_plan.specs.Tasks.{kind_for}
-use Rattle.pb_solution.specs.Solutions.{outcomes_of}
+use Rattle.pb_runs.specs.Handed.{outcomes_of}
 use Rattle.pb_runs.specs.Placed.{greatest_side, total}
 use Rattle.pb_views.specs.declared.seat.Seat.{Seat}
 use Rattle.pb_views.specs.Seats.{across, cell_at, down}

@@ -5,3 +5,4 @@ pub mod Placed
 pub mod Right
 pub mod Laws
 pub mod Tallied
+pub mod Handed

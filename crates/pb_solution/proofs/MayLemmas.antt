@@ -19,8 +19,7 @@ use Rattle.pb_model.specs.Chosen.{chosen_rule}
 use Rattle.pb_model.proofs.CallLemmas.{in_made}
 use Rattle.pb_model.proofs.LawfulLemmas.{in_lawful}
 use Rattle.pb_model.proofs.ReadLemmas.{reads_are}
-use Rattle.pb_calls.proofs.InsideLemmas.{reads_inside}
-use Rattle.pb_calls.proofs.SettledLemmas.{call_settled}
+use Rattle.pb_frame.proofs.Handed.{call_settled, reads_inside}
 use Rattle.pb_check.specs.Orders.{AnalysisValue}
 use Rattle.pb_check.specs.Ranked.{HasRank, IsMadeCell, StandsBelow}
 use Rattle.pb_check.proofs.FirstLemmas.{some_same}

@@ -17,7 +17,7 @@ use Rattle.pb_program.specs.Trees.{ProgTransform}
 use Rattle.pb_model.specs.Calls.{Outcomes, Plans, call_of, in_matrices, made_from, made_matrix, matrix_cells, no_outcome, outcome_in}
 use Rattle.pb_model.specs.Cells.{Cell, cells_of, natural, numbers_of}
 use Rattle.pb_model.specs.Grids.{at_place, no_grid}
-use Rattle.pb_calls.specs.Given.{AreGiven, HasSides}
+use Rattle.pb_frame.specs.Handed.{AreGiven, HasSides}
 use Rattle.pb_check.proofs.FirstLemmas.{some_at, some_same}
 use Rattle.pb_plan.proofs.FlatLemmas.{flat_at, start}
 use Rattle.pb_taskgraph.specs.Plans.{outcome_at}

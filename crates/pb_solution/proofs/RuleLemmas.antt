@@ -38,7 +38,7 @@ use Rattle.pb_model.specs.Chosen.{chosen_rule}
 use Rattle.pb_model.specs.Equations.{after_body, bindings, corner, extent, first_trap, in_outputs, number_in, own_number, own_outcome, rule_gives, shown_area, sides_by, trap_of, trap_place, unless_trapped, view_sides}
 use Rattle.pb_model.specs.Lawful.{IsLawful, output_holds}
 use Rattle.pb_model.proofs.FitLemmas.{Fits, HasNumber, IsSmallSide, gives_fit}
-use Rattle.pb_calls.proofs.InsideLemmas.{output_within, view_within}
+use Rattle.pb_frame.proofs.Handed.{output_within, view_within}
 use Rattle.pb_check.specs.Orders.{AnalysisValue}
 use Rattle.pb_check.specs.Ranked.{IsMadeCell}
 use Rattle.pb_check.proofs.FirstLemmas.{all_at, some_same}

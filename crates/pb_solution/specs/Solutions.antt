@@ -12,7 +12,7 @@ use Rattle.pb_program.specs.Configs.{ConfigValue, IsValid}
 use Rattle.pb_program.specs.Trees.{ProgRule, ProgTransform}
 use Rattle.pb_model.specs.Calls.{Outcomes, Plans, call_of}
 use Rattle.pb_model.specs.Cells.{Cell}
-use Rattle.pb_calls.specs.Given.{AreGiven}
+use Rattle.pb_frame.specs.Handed.{AreGiven}
 use Rattle.pb_check.specs.Orders.{AnalysisValue}
 use Rattle.pb_frame.specs.Choices.{IsInstance}
 use Rattle.pb_frame.specs.Frames.{JobValue}

@@ -15,7 +15,7 @@ use Rattle.pb_program.specs.WellFormed.{IsRule, IsTransform, IsView, variables}
 use Rattle.pb_program.specs.declared.view.Read.{Read}
 use Rattle.pb_region.proofs.SmallLemmas.{at_place, small_rule}
 use Rattle.pb_syntax.specs.declared.limits.TheConstants.{MOST_VIEWS}
-use Rattle.pb_calls.proofs.InsideLemmas.{output_within, view_within}
+use Rattle.pb_frame.proofs.Handed.{output_within, view_within}
 use Rattle.pb_check.specs.Accepting.{AcceptedValue, IsAccepted}
 use Rattle.pb_check.specs.Orders.{IsAnalysis}
 use Rattle.pb_check.proofs.FirstLemmas.{all_at, some_same}

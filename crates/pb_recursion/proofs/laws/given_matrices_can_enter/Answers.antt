@@ -1,6 +1,6 @@
 use Rattle.pb_region.proofs.SmallLemmas.{at_place}
-use Rattle.pb_check.specs.Phases.{IsBounded}
-use Rattle.pb_check.proofs.FirstLemmas.{all_at}
+use Rattle.pb_calls.specs.Handed.{IsBounded}
+use Rattle.pb_calls.proofs.Handed.{all_at}
 use Rattle.pb_program.specs.WellFormed.{IsTransform}
 use Rattle.std.specs.Prelude.{length}
 use Rattle.pb_recursion.proofs.EnterLemmas.{binds, enters}
