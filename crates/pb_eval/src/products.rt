@@ -1,5 +1,5 @@
-ghost use Rattle.std.specs.Prelude.{◌≡◌, ◌*◌, ◌<◌, IfSome, pos, slice_index_or};
-ghost use Rattle.pb_model.specs.Bodies.{dot_product, view_of};
+ghost use Rattle.std.specs.Prelude.{◌≡◌, ◌*◌, ◌<◌, IfSome, List, drop, pos, slice_index_or, ℤ};
+ghost use Rattle.pb_model.specs.Bodies.{dot_product, products, view_of};
 ghost use Rattle.pb_eval.specs.Places.{grid_shown, height_of, IsShown, width_of};
 ghost use Rattle.pb_eval.specs.Stored.{bound, store_of};
 ghost use Rattle.pb_eval.specs.declared.shown.Shown.TheVariants.{Told};
@@ -8,20 +8,11 @@ use crate::port::{NamesTurn, Port};
 use crate::scene::Scene;
 use crate::scratch::Scratch;
 use crate::shown::Shown;
-use pb_numbers::{KindWord, plus, times};
+use pb_numbers::{KindWord, are_small, plus, plus_small_products, times};
 use pb_program::Meaning;
 use pb_values::{CellReader, Kind, View};
 
 impl Shown {
-    /// How many cells there are.
-    #[inline]
-    fn cells<N: NamesTurn>(&self, scratch: &Scratch) -> u64
-        requires { IsShown N.turn scratch.now.numbers.items self.now }
-        ensures { result ≡ height_of self.now * width_of self.now }
-    {
-        self.height() * self.width()
-    }
-
     /// The number of a cell, counted from 0, row by row.
     #[inline]
     fn nth<C: CellReader, N: NamesTurn>(
@@ -70,8 +61,8 @@ impl Shown {
                 return dot_rows(&left, &right, scratch, port);
             }
         }
-        let cells = self.cells::<N>(scratch);
-        if cells != other.cells::<N>(scratch) {
+        let cells = self.height() * self.width();
+        if cells != other.height() * other.width() {
             return Err(KindWord::of(Kind::BadShape));
         }
         let mut total = 0;
@@ -88,6 +79,37 @@ impl Shown {
 
 ghost use Rattle.pb_eval.specs.Places.{plus_product};
 ghost use Rattle.pb_eval.specs.Shown.{HasNumbers};
+
+/// How many cells of two rows of one length are taken two by two, up to the first that aren't small, and the sum of their products.
+fn dot_small<C: CellReader, N: NamesTurn>(
+    left: &View,
+    right: &View,
+    port: &mut Port<C, N>,
+) -> (u64, i64)
+    requires left { HasNumbers N.turn left.now }
+    requires right { HasNumbers N.turn right.now }
+    requires one_left { left.now.shape.h ≡ 1 }
+    requires one_right { right.now.shape.h ≡ 1 }
+    requires same { left.now.shape.w ≡ right.now.shape.w }
+    ensures dot { (numbers : List ℤ) → products result.1 (drop result.0 (grid_shown N.turn numbers (Told left.now)).cells) (drop result.0 (grid_shown N.turn numbers (Told right.now)).cells)
+        ≡ dot_product (grid_shown N.turn numbers (Told left.now)).cells (grid_shown N.turn numbers (Told right.now)).cells }
+    ensures same_reference { port.new.reader.ghost_name ≡ port.old.reader.ghost_name }
+{
+    let pairs = left.shape.w / 2;
+    let mut total = 0;
+    for pair in 0..pairs {
+        let i = pair * 2;
+        let a = port.number(left.place(i, 0));
+        let b = port.number(right.place(i, 0));
+        let c = port.number(left.place(i + 1, 0));
+        let d = port.number(right.place(i + 1, 0));
+        if !are_small(a, b, c, d) {
+            return (i, total);
+        }
+        total = plus_small_products(total, a, b, c, d);
+    }
+    (pairs * 2, total)
+}
 
 /// The sum of the products of the cells of two rows: a loop over both, by their steps.
 #[tactic(auto, using(crate::proofs::ProductLemmas::dot_other, crate::proofs::ProductLemmas::dot_ok, crate::proofs::ProductLemmas::dot_err, crate::proofs::ProductLemmas::dot_end, crate::proofs::ProductLemmas::dot_start))]
@@ -108,8 +130,8 @@ fn dot_rows<C: CellReader, N: NamesTurn>(
     if cells != right.shape.w {
         return Err(KindWord::of(Kind::BadShape));
     }
-    let mut total = 0;
-    for i in 0..cells {
+    let (from, mut total) = dot_small(left, right, port);
+    for i in from..cells {
         let first = port.number(left.place(i, 0));
         let second = port.number(right.place(i, 0));
         match with_product(total, first, second) {

@@ -1,5 +1,5 @@
 -- What a window shows moves along a line by the same each time.
-use Rattle.std.proofs.Common.{◌≡◌, ◌∙◌, refl, sym, ap, subst, ⊎_elim, ℕ, zero, suc, ◌+◌, ◌-◌, ◌*◌, ◌<◌, ◌≤◌, ◌^◌, Bool, true, false, if◌then◌else◌, ℤ, pos, negsuc, ◌+ℤ◌, ◌-ℤ◌, ◌*ℤ◌, ◌≤ℤ◌, List, [], ◌∷◌, ◌++◌, get_or, length, length-set, set, Option, None, Some, slice_get, mul-le-mul_right, arith}
+use Rattle.std.proofs.Common.{◌≡◌, ◌∙◌, refl, sym, ap, subst, ◌⊎◌, ⊎_elim, inl, inr, ℕ, zero, suc, ◌+◌, ◌-◌, ◌*◌, ◌<◌, ◌≤◌, ◌^◌, Bool, true, false, if◌then◌else◌, ℤ, pos, negsuc, ◌+ℤ◌, ◌-ℤ◌, ◌*ℤ◌, ◌≤ℤ◌, List, [], ◌∷◌, ◌++◌, get_or, length, length-set, set, Option, None, Some, slice_get, mul-le-mul_right, arith}
 use Rattle.std.specs.Prelude.{IfSome, map}
 use Rattle.std.specs.List.{flat_map, range_with_len}
 use Rattle.std.proofs.Math.IntN.{pos-*ℤ-pos}
@@ -28,8 +28,8 @@ use Rattle.pb_views.proofs.CellLemmas.{numbers_are, rect_shown}
 use Rattle.pb_walk.specs.Axes.{AreThere, moved}
 use Rattle.pb_walk.specs.Stretches.{column_in, place_on, row_in}
 use Rattle.pb_walk.specs.declared.stretch.Stretch.{Stretch}
-use Rattle.pb_jobs.specs.Advances.{AreAdvances, AreWithinAlong, IsAdvance, IsShownAt, IsFurther, IsWindowOn, area_on, corner_cell}
-use Rattle.pb_jobs.specs.Distances.{CanMove, IsBetween, IsFromTo, IsMoved}
+use Rattle.pb_jobs.specs.Advances.{AreAdvances, AreShaped, AreWithinAlong, IsAdvance, IsShownAt, IsFurther, IsWindowOn, area_on, corner_cell}
+use Rattle.pb_jobs.specs.Distances.{CanMove, IsBetween, IsFromTo, IsMoved, IsShaped}
 use Rattle.pb_jobs.specs.Shown.{AreShown, IsShownFor, LiesWithin}
 use Rattle.pb_jobs.specs.declared.advance.Advance.{Advance}
 use Rattle.pb_jobs.specs.declared.advance.Distance.{Distance}
@@ -247,6 +247,28 @@ module _ (m : View) (a : Area) (within : IsWithin a (pos m.shape.w) (pos m.shape
             (λ t. first t + (i * step_x t + j * step_y t)) ∙ omega arith;
       })
 
+-- ---- a view with another's first cell, and the steps and the shape of an advance
+module _ (matrices : List View) (s : Stretch) (i : ℕ) (r : Read) (w : Window) (v : View) (shown : IsShownFor matrices (place_on s i).x (place_on s i).y r w v) (here : LiesWithin matrices (place_on s i).x (place_on s i).y r w) (below : i < s.count)
+    (a : Advance) (is : IsAdvance w shown.matrix s a) where
+  within_here : IsWithin (area_on w shown.matrix s i) (pos shown.matrix.shape.w) (pos shown.matrix.shape.h)
+  within_here = subst (λ (q : View). IsWithin (area_on w q s i) (pos q.shape.w) (pos q.shape.h)) (some_same here.matrix shown.matrix (sym here.at ∙ shown.at)) here.within
+
+  first_here : v.first ≡ corner shown.matrix (area_on w shown.matrix s i) within_here a.shape.w a.shape.h is.wide is.tall (is.across i below) (is.down i below)
+  first_here = is_corner shown.matrix (area_on w shown.matrix s i) within_here a.shape.w a.shape.h is.wide is.tall (is.across i below) (is.down i below) w.view v is.upright shown.is
+
+  pub room_here : v.first + (a.shape.w * a.step_x + a.shape.h * a.step_y) ≤ 2 ^ 63
+  room_here =
+      subst (λ (p : ℕ × (ℕ × ℕ)). p.0 + (a.shape.w * p.1.0 + a.shape.h * p.1.1) ≤ 2 ^ 63) (λ j. (sym first_here j, (sym is.step_x j, sym is.step_y j)))
+      (corner_small shown.matrix (area_on w shown.matrix s i) within_here a.shape.w a.shape.h is.wide is.tall (is.across i below) (is.down i below))
+
+  pub shown_as : (u : View) → u.first ≡ v.first → IsShaped a u → IsShownFor matrices (place_on s i).x (place_on s i).y r w u
+  shown_as u e shaped = record {
+    matrix = shown.matrix;
+    at = shown.at;
+    is = corner_shown shown.matrix (area_on w shown.matrix s i) within_here a.shape.w a.shape.h is.wide is.tall (is.across i below) (is.down i below) w.view u is.upright
+        (e ∙ first_here) (shaped.step_x ∙ is.step_x) (shaped.step_y ∙ is.step_y) (ap (λ (t : Shape). t.w) shaped.shape) (ap (λ (t : Shape). t.h) shaped.shape);
+  }
+
 -- ---- the next view
 module _ (matrices : List View) (s : Stretch) (i : ℕ) (r : Read) (w : Window) (v : View) (shown : IsShownFor matrices (place_on s i).x (place_on s i).y r w v) (next : LiesWithin matrices (place_on s (i + 1)).x (place_on s (i + 1)).y r w)
     (here : LiesWithin matrices (place_on s i).x (place_on s i).y r w) (below : i + 1 < s.count) (a : Advance) (is : IsAdvance w shown.matrix s a) where
@@ -347,6 +369,51 @@ set_other (z ∷ xs) zero (suc j) x n = refl
 set_other (z ∷ xs) (suc k) zero x n = refl
 set_other (z ∷ xs) (suc k) (suc j) x n = set_other xs k j x (λ e. n (ap suc e))
 
+same_number : (j k : ℕ) → (j ≡ k) ⊎ (j ≡ k → ⊥)
+same_number zero zero = inl refl
+same_number zero (suc k) = inr (λ e. absurd (omega (arith, e)))
+same_number (suc j) zero = inr (λ e. absurd (omega (arith, e)))
+same_number (suc j) (suc k) = ⊎_elim (λ e. inl (ap suc e)) (λ n. inr (λ e. n (omega (arith, e)))) (same_number j k)
+
+pub shown_set : (matrices : List View) (x y n k : ℕ) (rs : List Read) (ws : List Window) (views new : List View) (v : View) → AreShown matrices x y rs ws n views
+    → ((r : Read) (w : Window) → slice_get rs k ≡ Some r → slice_get ws k ≡ Some w → IsShownFor matrices x y r w v) → new ≡ set views k v → AreShown matrices x y rs ws n new
+shown_set matrices x y n k rs ws views new v are is e = record {
+  count = ap length e ∙ length-set views k v ∙ are.count;
+  each = λ j r w u at_r at_w at_u. ⊎_elim
+      (λ (here : j ≡ k).
+      let same : v ≡ u = set_same views k v u (ap (slice_get (set views k v)) (sym here) ∙ ap (λ (l : List View). slice_get l j) (sym e) ∙ at_u) in
+      subst (IsShownFor matrices x y r w) same (is r w (ap (slice_get rs) (sym here) ∙ at_r) (ap (slice_get ws) (sym here) ∙ at_w)))
+      (λ (other : j ≡ k → ⊥). are.each j r w u at_r at_w (sym (set_other views k j v other) ∙ ap (λ (l : List View). slice_get l j) (sym e) ∙ at_u))
+      (same_number j k);
+}
+
+pub shaped_none : (advs : List Advance) (views : List View) → advs ≡ [] → AreShaped advs views
+shaped_none advs views e k a v at_a at_v = absurd (no_advance k a (ap (λ (l : List Advance). slice_get l k) (sym e) ∙ at_a))
+  where
+    no_advance : (k : ℕ) (a : Advance) → slice_get {X = Advance} [] k ≡ Some a → ⊥
+    no_advance k a e = absurd (cc)
+
+pub shaped_more : (old new : List Advance) (views held : List View) (k : ℕ) (a : Advance) (v : View) → length old ≡ k → AreShaped old views → IsShaped a v → new ≡ old ++ a ∷ [] → held ≡ set views k v → AreShaped new held
+shaped_more old new views held k a v count before is e f j b u at_b at_u = ⊎_elim
+    (λ (less : j < length old). before j b u (sym (left_of old (a ∷ []) j less) ∙ ap (λ (l : List Advance). slice_get l j) (sym e) ∙ at_b) (sym (set_other views k j v (λ z. absurd (omega (arith, less, count, z)))) ∙ ap (λ (l : List View). slice_get l j) (sym f) ∙ at_u))
+    (λ (more : length old ≤ j).
+    let last = last_of old a j b more (ap (λ (l : List Advance). slice_get l j) (sym e) ∙ at_b) in
+    let here : j ≡ k = last.0 ∙ count in
+    let same : v ≡ u = set_same views k v u (ap (slice_get (set views k v)) (sym here) ∙ ap (λ (l : List View). slice_get l j) (sym f) ∙ at_u) in
+    subst (λ (p : Advance × View). IsShaped p.0 p.1) (λ i. (last.1 i, same i)) is)
+    (cases_lt j (length old))
+
+pub shaped_set : (advs : List Advance) (views new : List View) (k : ℕ) (v : View) → AreShaped advs views → ((a : Advance) → slice_get advs k ≡ Some a → IsShaped a v) → new ≡ set views k v → AreShaped advs new
+shaped_set advs views new k v are is e j a u at_a at_u = ⊎_elim
+    (λ (here : j ≡ k).
+    let same : v ≡ u = set_same views k v u (ap (slice_get (set views k v)) (sym here) ∙ ap (λ (l : List View). slice_get l j) (sym e) ∙ at_u) in
+    subst (IsShaped a) same (is a (ap (slice_get advs) (sym here) ∙ at_a)))
+    (λ (other : j ≡ k → ⊥). are j a u at_a (sym (set_other views k j v other) ∙ ap (λ (l : List View). slice_get l j) (sym e) ∙ at_u))
+    (same_number j k)
+
+pub moved_shaped : (a : Advance) (first : ℕ) (v : View) → IsMoved a first v → IsShaped a v
+moved_shaped a first v is = record { step_x = is.step_x; step_y = is.step_y; shape = is.shape }
+
 pub half_more : (matrices : List View) (rs : List Read) (ws : List Window) (s : Stretch) (i k : ℕ) (views new : List View) (v : View) → AreHalfShown matrices rs ws s i k views
     → ((r : Read) (w : Window) → slice_get rs k ≡ Some r → slice_get ws k ≡ Some w → IsShownFor matrices (place_on s (i + 1)).x (place_on s (i + 1)).y r w v) → new ≡ set views k v → AreHalfShown matrices rs ws s i (k + 1) new
 half_more matrices rs ws s i k views new v h is e = record {
@@ -372,6 +439,23 @@ module _ (matrices : List View) (rs : List Read) (ws : List Window) (s : Stretch
 
   pub lies_at : (i : ℕ) → i < s.count → LiesWithin matrices (place_on s i).x (place_on s i).y r w
   lies_at i below = (along i below).within k r w at_r at_w
+
+-- ---- the view of a read, with the steps and the shape of its advance
+module _ (matrices : List View) (rs : List Read) (ws : List Window) (s : Stretch) (along : AreWithinAlong matrices rs ws s) (i : ℕ) (below : i < s.count) (views : List View) (are : AreShown matrices (place_on s i).x (place_on s i).y rs ws (length rs) views)
+    (k : ℕ) (r : Read) (w : Window) (m v : View) (a : Advance) (at_r : slice_get rs k ≡ Some r) (at_w : slice_get ws k ≡ Some w) (at_m : slice_get matrices r.matrix ≡ Some m) (at_v : slice_get views k ≡ Some v) (is : IsAdvance w m s a) where
+  of_read : IsShownFor matrices (place_on s i).x (place_on s i).y r w v
+  of_read = are.each k r w v at_r at_w at_v
+
+  of_matrix : IsAdvance w of_read.matrix s a
+  of_matrix = subst (λ (q : View). IsAdvance w q s a) (some_same m of_read.matrix (sym at_m ∙ of_read.at)) is
+
+  pub room_at : v.first + (a.shape.w * a.step_x + a.shape.h * a.step_y) ≤ 2 ^ 63
+  room_at = room_here matrices s i r w v of_read (lies_at matrices rs ws s along k r w at_r at_w i below) below a of_matrix
+
+  pub shown_with : (new : List View) (u : View) → u.first ≡ v.first → IsShaped a u → new ≡ set views k u → AreShown matrices (place_on s i).x (place_on s i).y rs ws (length rs) new
+  shown_with new u e shaped f = shown_set matrices (place_on s i).x (place_on s i).y (length rs) k rs ws views new u are
+      (λ q z on_r on_w. subst (λ (p : Read × Window). IsShownFor matrices (place_on s i).x (place_on s i).y p.0 p.1 u) (λ j. (some_same r q (sym at_r ∙ on_r) j, some_same w z (sym at_w ∙ on_w) j))
+      (shown_as matrices s i r w v of_read (lies_at matrices rs ws s along k r w at_r at_w i below) below a of_matrix u e shaped)) f
 
 -- ---- the view of a read at the next place
 module _ (matrices : List View) (rs : List Read) (ws : List Window) (s : Stretch) (along : AreWithinAlong matrices rs ws s) (i : ℕ) (below : i + 1 < s.count) (k : ℕ) (there : k < length rs) (as_many : length ws ≡ length rs) (views : List View)

@@ -12,6 +12,7 @@ use Rattle.pb_walk.specs.Stretches.{place_on}
 use Rattle.pb_jobs.specs.declared.advance.Advance.{Advance}
 use Rattle.pb_jobs.specs.declared.advance.Distance.{Distance}
 use Rattle.pb_jobs.specs.declared.advance.Distance.TheVariants.{Up, Down}
+use Rattle.pb_jobs.specs.Distances.{IsShaped}
 use Rattle.pb_jobs.specs.Shown.{AreWithin, IsShownFor}
 
 -- the cell of a matrix at the low corner of an area
@@ -43,6 +44,10 @@ pub record IsAdvance (w : Window) (m : View) (s : Stretch) (a : Advance) : Type 
 pub record AreAdvances (matrices : List View) (s : Stretch) (reads : List Read) (windows : List Window) (n : ℕ) (advances : List Advance) : Type 0 where
   pub count : length advances ≡ n
   pub each : (k : ℕ) (r : Read) (w : Window) (a : Advance) (m : View) → slice_get reads k ≡ Some r → slice_get windows k ≡ Some w → slice_get advances k ≡ Some a → slice_get matrices r.matrix ≡ Some m → IsAdvance w m s a
+
+-- views have the steps and the shapes of these advances, one by one
+abbrev pub AreShaped : List Advance → List View → Type 0
+AreShaped advances views = (k : ℕ) (a : Advance) (v : View) → slice_get advances k ≡ Some a → slice_get views k ≡ Some v → IsShaped a v
 
 -- at a place of a stretch the rule variables are small, and what a window shows lies within its matrix
 pub record IsWindowOn (w : Window) (m : View) (s : Stretch) (i : ℕ) : Type 0 where

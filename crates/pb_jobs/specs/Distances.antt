@@ -24,6 +24,12 @@ pub record IsMoved (a : Advance) (first : ℕ) (v : View) : Type 0 where
   pub step_y : v.step_y ≡ a.step_y
   pub shape : v.shape ≡ a.shape
 
+-- a view has the steps and the shape of an advance
+pub record IsShaped (a : Advance) (v : View) : Type 0 where
+  pub step_x : v.step_x ≡ a.step_x
+  pub step_y : v.step_y ≡ a.step_y
+  pub shape : v.shape ≡ a.shape
+
 -- two rectangles have these sides, which aren't empty, and it is so far from the corner cell of the one to that of the other
 pub record IsBetween (m : View) (here next : Rect) (a : Advance) : Type 0 where
   pub step_x : a.step_x ≡ m.step_x

@@ -4,7 +4,7 @@ ghost use Rattle.pb_region.specs.Within.{IsWithin};
 ghost use Rattle.pb_views.specs.Windows.{IsRect, shown_by};
 ghost use Rattle.pb_walk.specs.Stretches.{place_on};
 ghost use Rattle.pb_jobs.specs.Advances.{IsAdvance, IsWindowOn};
-ghost use Rattle.pb_jobs.specs.Distances.{CanMove, IsBetween, IsFromTo, IsMoved};
+ghost use Rattle.pb_jobs.specs.Distances.{CanMove, IsBetween, IsFromTo, IsMoved, IsShaped};
 
 use pb_program::ReadView;
 use pb_values::{Rect, Shape, View};
@@ -28,24 +28,43 @@ pub struct Advance {
 }
 
 impl Advance {
-    /// The view after the one with this first cell.
-    #[inline(always)]
-    pub(crate) fn after(&self, first: u64) -> View
-        requires { CanMove self.now first }
-        ensures { IsMoved self.now first result }
+    /// The view with this first cell that moves so.
+    pub(crate) fn at(&self, first: u64) -> View
+        requires { first + (self.now.shape.w * self.now.step_x + self.now.shape.h * self.now.step_y) ≤ 2 ^ 63 }
+        ensures first { result.first ≡ first }
+        ensures shaped { IsShaped self.now result }
     {
-        let next = match self.far {
-            Distance::Up(by) => first + by,
-            Distance::Down(by) => first - by,
-        };
         View {
-            first: next,
+            first,
             step_x: self.step_x,
             step_y: self.step_y,
             shape: Shape {
                 dims: self.shape.dims,
                 w: self.shape.w,
                 h: self.shape.h,
+            },
+        }
+    }
+
+    /// The view after one that moves so: only its first cell is another.
+    #[inline(always)]
+    pub(crate) fn after(&self, view: &View) -> View
+        requires can { CanMove self.now view.now.first }
+        requires shaped { IsShaped self.now view.now }
+        ensures { IsMoved self.now view.now.first result }
+    {
+        let next = match self.far {
+            Distance::Up(by) => view.first + by,
+            Distance::Down(by) => view.first - by,
+        };
+        View {
+            first: next,
+            step_x: view.step_x,
+            step_y: view.step_y,
+            shape: Shape {
+                dims: view.shape.dims,
+                w: view.shape.w,
+                h: view.shape.h,
             },
         }
     }

@@ -4,7 +4,9 @@ ghost use Rattle.pb_syntax.specs.declared.limits.TheConstants.{MOST_VIEWS};
 ghost use Rattle.pb_walk.specs.Stretches.{place_on};
 ghost use Rattle.pb_program.specs.declared.view.Read.{Read};
 ghost use Rattle.pb_views.specs.declared.window.Window.{Window};
-ghost use Rattle.pb_jobs.specs.Advances.{AreAdvances, AreWithinAlong, IsShownAt};
+ghost use Rattle.pb_jobs.specs.Advances.{AreAdvances, AreShaped, AreWithinAlong, IsShownAt};
+ghost use Rattle.pb_jobs.specs.Distances.{IsShaped};
+ghost use Rattle.pb_jobs.specs.declared.advance.Advance.{Advance};
 ghost use Rattle.pb_jobs.specs.Shown.{AreShown, AreWithin, IsShownFor};
 
 use crate::advance::{Advance, advance_along};
@@ -103,6 +105,7 @@ impl Shown {
         requires within { AreWithinAlong matrices.now reads.now windows.now stretch.now }
         ensures shown { AreShown matrices.now (place_on stretch.now 0).x (place_on stretch.now 0).y reads.now windows.now (length reads.now) self.new.views.items }
         ensures advances { IsTrue result → AreAdvances matrices.now stretch.now reads.now windows.now (length reads.now) self.new.advances.items }
+        ensures shaped { IsTrue result → AreShaped self.new.advances.items self.new.views.items }
     {
         let (x, y) = stretch.place(0);
         self.show(reads, windows, matrices, x, y);
@@ -110,7 +113,10 @@ impl Shown {
         for k in 0..reads.len() {
             let matrix = &matrices[reads[k].matrix as usize];
             match advance_along(&windows[k], matrix, stretch) {
-                Some(advance) => self.put_advance(advance),
+                Some(advance) => {
+                    self.put_advance(advance);
+                    self.views[k] = by_fields(advance.at(self.views[k].first));
+                }
                 None => return false,
             }
         }
@@ -134,9 +140,11 @@ impl Shown {
         requires count { length self.now.views.items ≡ length reads.now }
         requires shown { IsShownAt matrices.now reads.now windows.now stretch.now i k self.now.views.items }
         requires advances { AreAdvances matrices.now stretch.now reads.now windows.now (length reads.now) self.now.advances.items }
-        ensures { (r : Read) (w : Window) → slice_get reads.now k ≡ Some r → slice_get windows.now k ≡ Some w → IsShownFor matrices.now (place_on stretch.now (i + 1)).x (place_on stretch.now (i + 1)).y r w result }
+        requires shaped { AreShaped self.now.advances.items self.now.views.items }
+        ensures shaped { (a : Advance) → slice_get self.now.advances.items k ≡ Some a → IsShaped a result }
+        ensures shown { (r : Read) (w : Window) → slice_get reads.now k ≡ Some r → slice_get windows.now k ≡ Some w → IsShownFor matrices.now (place_on stretch.now (i + 1)).x (place_on stretch.now (i + 1)).y r w result }
     {
-        self.advances[k].after(self.views[k].first)
+        self.advances[k].after(&self.views[k])
     }
 
     /// Shows them at the place after this one, unless it is the last, where it is known how each moves.
@@ -153,7 +161,9 @@ impl Shown {
         requires within { AreWithinAlong matrices.now reads.now windows.now stretch.now }
         requires shown { AreShown matrices.now (place_on stretch.now i).x (place_on stretch.now i).y reads.now windows.now (length reads.now) self.old.views.items }
         requires advances { AreAdvances matrices.now stretch.now reads.now windows.now (length reads.now) self.old.advances.items }
+        requires shaped { AreShaped self.old.advances.items self.old.views.items }
         ensures shown { i + 1 < stretch.now.count → AreShown matrices.now (place_on stretch.now (i + 1)).x (place_on stretch.now (i + 1)).y reads.now windows.now (length reads.now) self.new.views.items }
+        ensures shaped { AreShaped self.new.advances.items self.new.views.items }
         ensures advances { self.new.advances ≡ self.old.advances }
     {
         if i + 1 >= stretch.count {

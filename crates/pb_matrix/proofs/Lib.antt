@@ -1,4 +1,5 @@
 pub mod BodyLemmas
+pub mod BufferLemmas
 pub mod DigitLemmas
 pub mod HeaderLemmas
 pub mod LawLemmas

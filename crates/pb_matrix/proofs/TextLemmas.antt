@@ -1,8 +1,8 @@
 -- The text of a row, from its first number on, and the range of its numbers.
-use Rattle.std.proofs.Common.{◌≡◌, ℕ, suc, ◌+◌, ◌-◌, ◌*◌, ◌<◌, ◌≤◌, List, [], ◌∷◌, ◌++◌, length, get_or, take, drop, map, flat_map, ℤ, pos, negsuc, ◌^◌, IsTrue, All, w64, SFits, ap, sym, arith}
+use Rattle.std.proofs.Common.{◌≡◌, ◌∙◌, ℕ, suc, ◌+◌, ◌-◌, ◌*◌, ◌<◌, List, [], ◌∷◌, ◌++◌, length, get_or, take, drop, map, flat_map, ℤ, pos, negsuc, ◌^◌, IsTrue, All, w64, SFits, ap, sym, arith}
 use Rattle.std.specs.Fmt.{signed_decimal}
 use Rattle.std.specs.List.{join_with_byte}
-use Rattle.std.proofs.lemmas.List.{append_assoc, append-nil, take_all, take_more, take-append-drop, length-drop}
+use Rattle.std.proofs.lemmas.List.{append_assoc, append-nil, take-append-drop, length-drop}
 use Rattle.std.proofs.lemmas.List.Concat.{flat_map-append}
 use Rattle.std.proofs.lemmas.List.Elements.{All-same, All-cons, All-append}
 use Rattle.std.proofs.lemmas.Bool.{lt-ltb}
@@ -21,19 +21,14 @@ row_begins : (row : List ℤ) → 0 < length row → row_text row ≡ (signed_de
 row_begins [] some = absurd (omega arith)
 row_begins (z ∷ zs) some = ap (λ text. text ++ 10 ∷ []) (joined z zs)
 
--- one more number of a row, after a blank
-pub cell_more : (old first text pushed new : List ℕ) (cells : List ℤ) (i : ℕ) (z : ℤ) → i < length cells → z ≡ get_or cells i (pos 0)
-    → text ≡ old ++ (first ++ flat_map after_blank (take i cells)) → pushed ≡ text ++ 32 ∷ [] → new ≡ pushed ++ signed_decimal z
-    → new ≡ old ++ (first ++ flat_map after_blank (take (i + 1) cells))
-cell_more old first text pushed new cells i z l is t p n =
-    rw (n, p, t, take_more cells i (pos 0) l, flat_map-append, is) (simp (append_assoc, append-nil))
+-- a row: its first number, then the others, each after a blank, and its end
+pub row_whole : (old first text new : List ℕ) (row : List ℤ) → 0 < length row → first ≡ old ++ signed_decimal (get_or row 0 (pos 0)) → text ≡ first ++ flat_map after_blank (drop 1 row) → new ≡ text ++ 10 ∷ [] → new ≡ old ++ row_text row
+row_whole old first text new row some f t w = rw (w, t, f, row_begins row some) (simp append_assoc)
 
--- the end of a row, whose numbers after the first are the cells
-pub row_ends : (old text new : List ℕ) (row : List ℤ) (n : ℕ) → 0 < length row → length row - 1 ≤ n
-    → text ≡ old ++ (signed_decimal (get_or row 0 (pos 0)) ++ flat_map after_blank (take n (drop 1 row))) → new ≡ text ++ 10 ∷ [] → new ≡ old ++ row_text row
-row_ends old text new row n some end t w =
-    let whole : take n (drop 1 row) ≡ drop 1 row = take_all n (drop 1 row) (omega (arith, length-drop 1 row)) in
-    rw (w, t, whole, row_begins row some) (append_assoc old (signed_decimal (get_or row 0 (pos 0)) ++ flat_map after_blank (drop 1 row)) (10 ∷ []))
+-- some numbers, and those after them
+pub numbers_more : (text piece new : List ℕ) (rest some after : List ℤ) (n : ℕ) → some ≡ take n rest → after ≡ drop n rest → piece ≡ flat_map after_blank some → new ≡ text ++ piece → new ++ flat_map after_blank after ≡ text ++ flat_map after_blank rest
+numbers_more text piece new rest some after n s a p e =
+    rw (e, p, s, a) (append_assoc text (flat_map after_blank (take n rest)) (flat_map after_blank (drop n rest)) ∙ ap (λ l. text ++ l) (sym (flat_map-append after_blank (take n rest) (drop n rest)) ∙ ap (flat_map after_blank) (take-append-drop n rest)))
 
 -- a row, and the rows after it
 pub row_more : (h k w : ℕ) (rest row after : List ℤ) (text new : List ℕ) → k < h → length rest ≡ (h - k) * w → row ≡ take w rest → after ≡ drop w rest → new ≡ text ++ row_text row
@@ -54,9 +49,9 @@ pub in_range : (z : ℤ) → SFits w64 z → Fits z
 in_range (pos n) h = lt-ltb n (2 ^ 63) h.sfits
 in_range (negsuc n) h = lt-ltb n (2 ^ 63) h.sfits
 
-pub row_fits : (row : List ℤ) (n : ℕ) → 0 < length row → length row - 1 ≤ n → SFits w64 (get_or row 0 (pos 0)) → AllFit (take n (drop 1 row)) → AllFit row
-row_fits [] n some end first fits = absurd (omega arith)
-row_fits (z ∷ zs) n some end first fits = All-cons Fits z zs (in_range z first) (rw (take_all n zs (omega arith)) at fits)
+pub row_fits : (row : List ℤ) → 0 < length row → SFits w64 (get_or row 0 (pos 0)) → AllFit (drop 1 row) → AllFit row
+row_fits [] some first fits = absurd (omega arith)
+row_fits (z ∷ zs) some first fits = All-cons Fits z zs (in_range z first) fits
 
 pub rest_fits : (w : ℕ) (rest row after : List ℤ) → row ≡ take w rest → after ≡ drop w rest → AllFit row → AllFit after → AllFit rest
 rest_fits w rest row after r b fits later = All-same Fits rest (row ++ after) (rw (r, b) (sym (take-append-drop w rest))) (All-append Fits row after fits later)

@@ -4,6 +4,7 @@
 //! the text of the cells. What is written is read as the same matrix.
 #![tactic(auto)]
 
+mod buffered;
 mod header;
 mod laws;
 mod matrix;

@@ -5,6 +5,7 @@ ghost use Rattle.pb_matrix.specs.Header.{IsMatrixShape, cell_count};
 ghost use Rattle.pb_matrix.specs.Reading.{matrix_read};
 ghost use Rattle.pb_matrix.specs.Text.{header_words, line_text, row_text, matrix_text};
 
+use crate::buffered::{BYTES_AT_ONCE, write_numbers};
 use itoa::Buffer;
 use pb_values::Shape;
 use std::alloc::{AllocError, Global};
@@ -37,16 +38,17 @@ fn write_number(text: &mut Vec<u8>, number: i64) -> Result<(), AllocError>
     Ok(())
 }
 
-fn write_row(text: &mut Vec<u8>, row: &[i64]) -> Result<(), AllocError>
+fn write_row(
+    text: &mut Vec<u8>,
+    row: &[i64],
+    buffer: &mut [u8; BYTES_AT_ONCE],
+) -> Result<(), AllocError>
     requires { 0 < length row.now }
     ensures text { OnOk result (text.new.items ≡ text.old.items ++ row_text row.now) }
     ensures fits { OnOk result (All (λ z. IsTrue (fits_i64 z)) row.now) }
 {
     write_number(text, row[0])?;
-    for cell in &row[1..] {
-        text.push(b' ')?;
-        write_number(text, *cell)?;
-    }
+    write_numbers(text, &row[1..], buffer)?;
     text.push(b'\n')?;
     Ok(())
 }
@@ -64,10 +66,11 @@ pub fn write_matrix(alloc: Global, shape: &Shape, cells: &[i64]) -> Result<Vec<u
     if cells.is_empty() {
         return Ok(text);
     }
+    let mut buffer = [0u8; BYTES_AT_ONCE];
     let mut rest = cells;
     'rows: for _ in 0..shape.h {
         let (row, after) = rest.split_at(shape.w as usize);
-        write_row(&mut text, row)?;
+        write_row(&mut text, row, &mut buffer)?;
         rest = after;
     }
     Ok(text)

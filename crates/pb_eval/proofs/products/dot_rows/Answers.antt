@@ -1,8 +1,9 @@
-use Rattle.std.proofs.Common.{◌≡◌, ◌<◌, ◌∙◌, ap, Err, sym, refl, rules, arith, to_z, of_z, w64, length}
+use Rattle.std.proofs.Common.{◌≡◌, ◌<◌, ◌∙◌, ap, Err, sym, refl, drop, rules, arith, to_z, of_z, w64, length}
+use Rattle.pb_model.specs.Bodies.{products}
 use Rattle.pb_eval.specs.Places.{grid_shown}
 use Rattle.pb_eval.specs.declared.shown.Shown.TheVariants.{Told}
 use Rattle.pb_eval.proofs.CellLemmas.{in_row, length_row}
-use Rattle.pb_eval.proofs.ProductLemmas.{dot_end, dot_err, dot_ok, dot_other, dot_start}
+use Rattle.pb_eval.proofs.ProductLemmas.{dot_end, dot_err, dot_ok, dot_other}
 use Rattle.pb_eval.proofs.products.dot_rows.Goals as goal
 
 pub returns-then-cells-right-clause-dot : goal.returns-then-cells-right-clause-dot
@@ -13,9 +14,14 @@ returns-then-cells-right-clause-dot g c =
 
 pub loop-i-init : goal.loop-i-init
 loop-i-init g c =
-    let l = length_row g.N.NamesTurn.turn c.args.scratch.now.numbers.items c.args.left.now c.requires.one_left in
-    let r = length_row g.N.NamesTurn.turn c.args.scratch.now.numbers.items c.args.right.now c.requires.one_right in
-    record { dot = dot_start _ _ (l ∙ c.if-cells-right.false ∙ sym r); same_reference = refl }
+    let vs = (grid_shown g.N.NamesTurn.turn c.args.scratch.now.numbers.items (Told c.args.left.now)).cells in
+    let ws = (grid_shown g.N.NamesTurn.turn c.args.scratch.now.numbers.items (Told c.args.right.now)).cells in
+    let small = c.dot_small-from in
+    let total : to_z w64 (of_z w64 small.result.1) ≡ small.result.1 = search rules in
+    record {
+      dot = ap (λ t. products t (drop small.result.0 vs) (drop small.result.0 ws)) total ∙ small.ensures.dot c.args.scratch.now.numbers.items;
+      same_reference = refl;
+    }
 
 pub returns-in-Err-clause-dot : goal.returns-in-Err-clause-dot
 returns-in-Err-clause-dot g c =

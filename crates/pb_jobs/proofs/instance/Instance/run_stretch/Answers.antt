@@ -1,4 +1,4 @@
-use Rattle.std.proofs.Common.{◌∙◌, ◌+◌, ◌<◌, ℕ, length, subst, sym}
+use Rattle.std.proofs.Common.{◌∙◌, ◌+◌, ◌<◌, ℕ, length, subst, sym, true≢false}
 use Rattle.std.specs.Prelude.{IfSome, IsTrue}
 use Rattle.pb_eval.specs.Formulas.{IsBlank}
 use Rattle.pb_eval.specs.Terms.{StandFor}
@@ -8,7 +8,7 @@ use Rattle.pb_jobs.specs.Shown.{AreShown}
 use Rattle.pb_jobs.specs.declared.scratch.RuleScratch.{RuleScratch}
 use Rattle.pb_program.specs.Trees.{bare_prog}
 use Rattle.pb_taskgraph.proofs.TurnLemmas.{some-none}
-use Rattle.pb_jobs.specs.Advances.{AreAdvances}
+use Rattle.pb_jobs.specs.Advances.{AreAdvances, AreShaped}
 use Rattle.pb_jobs.specs.Instances.{of_sizes}
 use Rattle.pb_jobs.specs.Rooms.{IsEnough}
 use Rattle.pb_jobs.proofs.LineLemmas.{as_many_along, may_here, one_later, place_inside, within_along}
@@ -28,6 +28,7 @@ loop-i-init g c = record {
   blank = c.begin_formula-formula.ensures.blank;
   shown = λ h. c.begin-moves.ensures.shown;
   advances = c.begin-moves.ensures.advances;
+  shaped = c.begin-moves.ensures.shaped;
   terms = c.take_terms.ensures;
 }
 
@@ -67,5 +68,6 @@ loop-i-preserved g c =
       blank = elim c.if-moves.branch [ then-moves w ↦ subst (λ (s : RuleScratch). IfSome c.begin_formula-formula.result (λ e. IsBlank s.body)) (sym w.scratch-is) (c.cell-outcome.ensures.blank) | else-moves w ↦ subst (λ (s : RuleScratch). IfSome c.begin_formula-formula.result (λ e. IsBlank s.body)) (sym w.scratch-is) (c.cell-outcome.ensures.blank) ];
       shown = elim c.if-moves.branch [ then-moves w ↦ subst (λ (s : RuleScratch). c.loop-i.i + 1 < c.args.stretch.now.count → AreShown c.views-matrices.result.now (place_on c.args.stretch.now (c.loop-i.i + 1)).x (place_on c.args.stretch.now (c.loop-i.i + 1)).y c.reads-reads.result.now c.read_windows-windows.result.now (length c.reads-reads.result.now) s.shown.views.items) (sym w.scratch-is) (w.go_on.ensures.shown) | else-moves w ↦ subst (λ (s : RuleScratch). c.loop-i.i + 1 < c.args.stretch.now.count → AreShown c.views-matrices.result.now (place_on c.args.stretch.now (c.loop-i.i + 1)).x (place_on c.args.stretch.now (c.loop-i.i + 1)).y c.reads-reads.result.now c.read_windows-windows.result.now (length c.reads-reads.result.now) s.shown.views.items) (sym w.scratch-is) (w.show_next.ensures.shown) ];
       advances = elim c.if-moves.branch [ then-moves w ↦ subst (λ (s : RuleScratch). IsTrue c.begin-moves.result → AreAdvances c.views-matrices.result.now c.args.stretch.now c.reads-reads.result.now c.read_windows-windows.result.now (length c.reads-reads.result.now) s.shown.advances.items) (sym w.scratch-is) (λ m. subst (λ l. AreAdvances c.views-matrices.result.now c.args.stretch.now c.reads-reads.result.now c.read_windows-windows.result.now (length c.reads-reads.result.now) l.items) (sym w.go_on.ensures.advances) (c.loop-i.invariant.advances m)) | else-moves w ↦ subst (λ (s : RuleScratch). IsTrue c.begin-moves.result → AreAdvances c.views-matrices.result.now c.args.stretch.now c.reads-reads.result.now c.read_windows-windows.result.now (length c.reads-reads.result.now) s.shown.advances.items) (sym w.scratch-is) (λ m. subst (λ l. AreAdvances c.views-matrices.result.now c.args.stretch.now c.reads-reads.result.now c.read_windows-windows.result.now (length c.reads-reads.result.now) l.items) (sym w.show_next.ensures.advances) (c.loop-i.invariant.advances m)) ];
+      shaped = elim c.if-moves.branch [ then-moves w ↦ subst (λ (s : RuleScratch). IsTrue c.begin-moves.result → AreShaped s.shown.advances.items s.shown.views.items) (sym w.scratch-is) (λ m. w.go_on.ensures.shaped) | else-moves w ↦ subst (λ (s : RuleScratch). IsTrue c.begin-moves.result → AreShaped s.shown.advances.items s.shown.views.items) (sym w.scratch-is) (λ m. absurd (true≢false (sym m ∙ w.if-moves.false))) ];
       terms = elim c.if-moves.branch [ then-moves w ↦ subst (λ (s : RuleScratch). IfSome c.begin_formula-formula.result (λ e. StandFor e.now s.terms)) (sym w.scratch-is) (c.loop-i.invariant.terms) | else-moves w ↦ subst (λ (s : RuleScratch). IfSome c.begin_formula-formula.result (λ e. StandFor e.now s.terms)) (sym w.scratch-is) (c.loop-i.invariant.terms) ];
     }

@@ -4,7 +4,7 @@ use Rattle.pb_eval.specs.Formulas.{IsBlank}
 use Rattle.pb_eval.specs.Terms.{StandFor}
 use Rattle.pb_taskgraph.specs.Turns.{after_some}
 use Rattle.pb_walk.specs.Stretches.{place_on}
-use Rattle.pb_jobs.specs.Advances.{AreAdvances}
+use Rattle.pb_jobs.specs.Advances.{AreAdvances, AreShaped}
 use Rattle.pb_jobs.specs.Rooms.{SameRoom}
 use Rattle.pb_jobs.specs.Shown.{AreShown}
 use Rattle.pb_jobs.proofs.instance.Instance.run_stretch.Given as goal
@@ -16,5 +16,6 @@ invariant-loop-i g l = record {
   blank : IfSome l.formula (λ e. IsBlank l.scratch.body);
   shown : l.i < l.stretch.count → AreShown l.matrices (place_on l.stretch l.i).x (place_on l.stretch l.i).y l.reads l.windows (length l.reads) l.scratch.shown.views.items;
   advances : IsTrue l.moves → AreAdvances l.matrices l.stretch l.reads l.windows (length l.reads) l.scratch.shown.advances.items;
+  shaped : IsTrue l.moves → AreShaped l.scratch.shown.advances.items l.scratch.shown.views.items;
   terms : IfSome l.formula (λ e. StandFor e.now l.scratch.terms);
 }
