@@ -209,7 +209,7 @@ module _ (b : Bindings) where
       ∙ ap (λ z. put_at b st m z p.1 n) (sym ei) ∙ ap (λ z. put_at b st m i z n) (sym ej) ∙ ap (put_at b st m i j) (sym ev)
 
   -- ---- statements from one on
-  stmts_next : (ss : List Stmt) (i : ℕ) (s : Stmt) (st : Store) → i < length ss → s ≡ get_or ss i s → stmts_in b (drop i ss) st ≡ if_ok (stmt_in b s st) (stmts_in b (drop (i + 1) ss))
+  pub stmts_next : (ss : List Stmt) (i : ℕ) (s : Stmt) (st : Store) → i < length ss → s ≡ get_or ss i s → stmts_in b (drop i ss) st ≡ if_ok (stmt_in b s st) (stmts_in b (drop (i + 1) ss))
   unfolding stmt_in stmts_in after_all
   stmts_next ss i s st below is = rw (add-one) (ap (λ l. stmts_in b l st) (drop-cons ss i s below ∙ ap (λ p. p ∷ drop (suc i) ss) (sym is)))
 
