@@ -4,10 +4,10 @@ use Rattle.pb_eval.proofs.TranslateLemmas.{action_leaf, action_waits, call_of, c
 use Rattle.pb_eval.proofs.scene.Scene.+translation.Goals as goal
 
 pub put_action-returns-in-Some-clause-code : goal.put_action-returns-in-Some-clause-code
-put_action-returns-in-Some-clause-code g t c = λ is. action_leaf _ _ _ _ c.in-Some.leaf _ _ c.in-Some.ensures.leaf (c.put.ensures is)
+put_action-returns-in-Some-clause-code g t c = λ is. action_leaf _ _ _ _ c.in-Some.leaf _ _ c.in-Some.ensures.leaf (c.put_with.ensures is)
 
 pub put_action-returns-clause-code : goal.put_action-returns-clause-code
-put_action-returns-clause-code g t c = λ is. action_waits _ _ _ _ _ _ _ _ c.if-depth.false (c.put-2.ensures c.if-not-put.false) (c.put_value.ensures.code c.if-not-put_value.false) (c.put-3.ensures is)
+put_action-returns-clause-code g t c = λ is. action_waits _ _ _ _ _ _ _ _ c.if-depth.false (c.put.ensures c.if-not-put.false) (c.put_value.ensures.code c.if-not-put_value.false) (c.put-2.ensures is)
 
 pub put_call-returns-clause-code : goal.put_call-returns-clause-code
 put_call-returns-clause-code g t c = λ is.
@@ -41,4 +41,4 @@ pub put_value-returns-in-Call-clause-code : goal.put_value-returns-in-Call-claus
 put_value-returns-in-Call-clause-code g t c = λ is. called_of _ _ _ c.in-Call.called c.in-Call.arguments _ _ _ c.in-Call.is c.deref-in-Call.ensures.value (c.put_call.ensures.code is)
 
 pub put_value-returns-in-Some : goal.put_value-returns-in-Some
-put_value-returns-in-Some g t c = record { code = λ is. load_of _ _ _ c.in-Some.leaf _ _ c.in-Some.ensures.leaf (c.put.ensures is); same_reference = c.leaf_of.ensures.same_reference }
+put_value-returns-in-Some g t c = record { code = λ is. load_of _ _ _ c.in-Some.leaf _ _ c.in-Some.ensures.leaf (c.put_load.ensures is); same_reference = c.leaf_of.ensures.same_reference }
