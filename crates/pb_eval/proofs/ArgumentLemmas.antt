@@ -23,7 +23,7 @@ one_item [] x some few is = absurd (omega arith)
 one_item (y ∷ []) x some few is = ap (λ z. z ∷ []) (sym is)
 one_item (y ∷ z ∷ l) x some few is = absurd (omega arith)
 
-two_items : (xs : List Expr) (x y : Expr) → 2 ≤ length xs → length xs < 3 → x ≡ get_or xs 0 x → y ≡ get_or xs 1 y → xs ≡ x ∷ y ∷ []
+pub two_items : (xs : List Expr) (x y : Expr) → 2 ≤ length xs → length xs < 3 → x ≡ get_or xs 0 x → y ≡ get_or xs 1 y → xs ≡ x ∷ y ∷ []
 two_items [] x y some few ix iy = absurd (omega arith)
 two_items (a ∷ []) x y some few ix iy = absurd (omega arith)
 two_items (a ∷ b ∷ []) x y some few ix iy = ap (λ z. z ∷ b ∷ []) (sym ix) ∙ ap (λ z. x ∷ z ∷ []) (sym iy)

@@ -51,7 +51,7 @@ module _ (b : Bindings) (st : Store) where
       seen = search (rules, the_lemmas)
 
   -- ---- operands from a place on
-  values_next : (rest : List (Operator × Expr)) (i : ℕ) (o : Operator × Expr) (total : ℤ) → i < length rest → o ≡ get_or rest i o
+  pub values_next : (rest : List (Operator × Expr)) (i : ℕ) (o : Operator × Expr) (total : ℤ) → i < length rest → o ≡ get_or rest i o
       → values_in b st total (drop i rest) ≡ if_ok (operand_in b st total o.0 o.1) (λ a. values_in b st a (drop (i + 1) rest))
   unfolding values_in operand_in value_in values
   values_next rest i o total below is = rw (add-one) (ap (values_in b st total) (drop-cons rest i o below ∙ ap (λ p. p ∷ drop (suc i) rest) (sym is)))

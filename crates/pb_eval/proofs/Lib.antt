@@ -22,3 +22,6 @@ pub mod RegionLemmas
 pub mod RoomLemmas
 pub mod FormulaLemmas
 pub mod TermLemmas
+pub mod CodeLemmas
+pub mod TranslateLemmas
+pub mod MachineLemmas

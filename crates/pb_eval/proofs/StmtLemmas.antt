@@ -13,12 +13,13 @@ use Rattle.pb_program.specs.Exprs.{bare}
 use Rattle.pb_program.specs.Stmts.{assign, assign_cell, bare_stmt, call_stmt, stmts, if_stmt, if_else, for_stmt, let_matrix, let_number}
 use Rattle.pb_program.specs.Forms.{LocalFormValue}
 use Rattle.pb_program.specs.declared.meaning.Called.{Called}
-use Rattle.pb_model.specs.Bodies.{Bindings, Store, after, after_all, assigned, each_turn, if_ok, is_zero, place_of, put_at, turns}
+use Rattle.pb_model.specs.Bodies.{Bindings, Store, after, after_all, assigned, if_ok, is_zero, place_of, put_at, turns}
 use Rattle.pb_eval.specs.Rooms.{local_room, locals_in}
 use Rattle.pb_eval.specs.Shown.{Around}
 use Rattle.pb_eval.specs.Stored.{bound, SameRoom, sides_of}
 use Rattle.pb_eval.specs.declared.scratch.Scratch.{Scratch}
 use Rattle.pb_eval.proofs.ArgumentLemmas.{assign_placed}
+use Rattle.pb_eval.proofs.TurnLemmas.{turns_end, turns_err, turns_ok}
 use Rattle.pb_eval.specs.Turns.{all_turns, count_of}
 use Rattle.pb_eval.specs.declared.turns.Turns.{Turns}
 use Rattle.pb_eval.specs.Working.{assign_cell_in, assign_in, place_in, repeated, room_in, rooms_in, stmt_in, stmts_in, turn_in, turns_in, value_in}
@@ -209,7 +210,7 @@ module _ (b : Bindings) where
       ∙ ap (λ z. put_at b st m z p.1 n) (sym ei) ∙ ap (λ z. put_at b st m i z n) (sym ej) ∙ ap (put_at b st m i j) (sym ev)
 
   -- ---- statements from one on
-  stmts_next : (ss : List Stmt) (i : ℕ) (s : Stmt) (st : Store) → i < length ss → s ≡ get_or ss i s → stmts_in b (drop i ss) st ≡ if_ok (stmt_in b s st) (stmts_in b (drop (i + 1) ss))
+  pub stmts_next : (ss : List Stmt) (i : ℕ) (s : Stmt) (st : Store) → i < length ss → s ≡ get_or ss i s → stmts_in b (drop i ss) st ≡ if_ok (stmt_in b s st) (stmts_in b (drop (i + 1) ss))
   unfolding stmt_in stmts_in after_all
   stmts_next ss i s st below is = rw (add-one) (ap (λ l. stmts_in b l st) (drop-cons ss i s below ∙ ap (λ p. p ∷ drop (suc i) ss) (sym is)))
 
@@ -231,22 +232,17 @@ module _ (b : Bindings) where
 
   -- ---- turns from one on
   module _ (m : Meaning) (ss : List Stmt) (low : ℤ) (count : ℕ) where
-    turns_next : (k : ℕ) (st : Store) → k < count → repeated b m ss (low +ℤ pos k) (count - k) st ≡ if_ok (turn_in b m ss (low +ℤ pos k) st) (repeated b m ss (low +ℤ pos (k + 1)) (count - (k + 1)))
-    unfolding repeated each_turn
-    turns_next k st below =
-        let e : count - k ≡ suc (count - (k + 1)) = omega arith in
-        let f : low +ℤ pos k +ℤ pos 1 ≡ low +ℤ pos (k + 1) = omega (arith, ints) in
-        ap (λ n. each_turn (turn_in b m ss) (low +ℤ pos k) n st) e ∙ ap (λ z. if_ok (turn_in b m ss (low +ℤ pos k) st) (each_turn (turn_in b m ss) z (count - (k + 1)))) f
-
     pub repeat_ok : (k : ℕ) (i : ℤ) (st next : Store) → k < count → i ≡ low +ℤ pos k → turn_in b m ss i st ≡ Ok next → repeated b m ss (low +ℤ pos (k + 1)) (count - (k + 1)) next ≡ repeated b m ss (low +ℤ pos k) (count - k) st
-    repeat_ok k i st next below is e = sym (turns_next k st below ∙ ap (λ r. if_ok r (repeated b m ss (low +ℤ pos (k + 1)) (count - (k + 1)))) (ap (λ z. turn_in b m ss z st) (sym is) ∙ e))
+    unfolding repeated
+    repeat_ok k i st next below is e = turns_ok (turn_in b m ss) low count k i st next below is e
 
     pub repeat_err : (k : ℕ) (i : ℤ) (st : Store) (t : Kind) → k < count → i ≡ low +ℤ pos k → turn_in b m ss i st ≡ Err t → repeated b m ss (low +ℤ pos k) (count - k) st ≡ Err t
-    repeat_err k i st t below is e = turns_next k st below ∙ ap (λ r. if_ok r (repeated b m ss (low +ℤ pos (k + 1)) (count - (k + 1)))) (ap (λ z. turn_in b m ss z st) (sym is) ∙ e)
+    unfolding repeated
+    repeat_err k i st t below is e = turns_err (turn_in b m ss) low count k i st t below is e
 
     pub repeat_end : (k : ℕ) (st : Store) → count ≤ k → repeated b m ss (low +ℤ pos k) (count - k) st ≡ Ok st
-    unfolding repeated each_turn
-    repeat_end k st past = let e : count - k ≡ 0 = omega arith in ap (λ n. each_turn (turn_in b m ss) (low +ℤ pos k) n st) e
+    unfolding repeated
+    repeat_end k st past = turns_end (turn_in b m ss) low count k st past
 
     pub repeat_start : (st : Store) → repeated b m ss (low +ℤ pos 0) (count - 0) st ≡ repeated b m ss low count st
     repeat_start st = let e : count - 0 ≡ count = omega arith in let f : low +ℤ pos 0 ≡ low = omega (arith, ints) in ap (λ n. repeated b m ss (low +ℤ pos 0) n st) e ∙ ap (λ z. repeated b m ss z count st) f

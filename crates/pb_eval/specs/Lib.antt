@@ -11,3 +11,4 @@ pub mod Running
 pub mod CanRun
 pub mod Formulas
 pub mod Terms
+pub mod Codes

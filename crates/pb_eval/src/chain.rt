@@ -17,7 +17,7 @@ use pb_values::CellReader;
 impl<'a, N: NamesTurn> Scene<'a, N> {
     /// The number of the first cell of a read that has one.
     #[tactic(auto, using(crate::proofs::FormulaLemmas::first_read))]
-    fn first_of_read<C: CellReader>(&self, k: u32, port: &mut Port<C, N>) -> Option<i64>
+    pub(crate) fn first_of_read<C: CellReader>(&self, k: u32, port: &mut Port<C, N>) -> Option<i64>
         ensures number { IfSome result (λ n. (s : Scratched) → number_of (bound self.now s) (store_of s) (Read k) ≡ n) }
         ensures same_reference { port.new.reader.ghost_name ≡ port.old.reader.ghost_name }
     {

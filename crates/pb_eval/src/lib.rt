@@ -8,10 +8,12 @@
 mod body;
 mod cell;
 mod chain;
+mod code;
 mod expression;
 mod formula;
 mod laws;
 mod laying;
+mod machine;
 mod place;
 mod port;
 mod products;
@@ -25,6 +27,7 @@ mod spot;
 mod statement;
 mod sums;
 mod terms;
+mod translate;
 mod traps;
 mod turns;
 

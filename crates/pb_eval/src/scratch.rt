@@ -4,6 +4,7 @@ ghost use Rattle.pb_syntax.specs.declared.limits.TheConstants.{MOST_VIEWS};
 ghost use Rattle.pb_eval.specs.Spots.{are_laid};
 
 use crate::cell::natural;
+use crate::code::Code;
 use crate::shown::Shown;
 use crate::spot::Spot;
 use pb_program::Meaning;
@@ -17,6 +18,7 @@ pub struct Scratch {
     pub(crate) locals: Vec<i64>,
     pub(crate) numbers: Vec<i64>,
     pub(crate) spots: Vec<Spot>,
+    pub(crate) code: Code,
     pub(crate) ghost laid: { IsTrue (are_laid 0 spots.items (length numbers.items)) },
     pub(crate) ghost room: { MOST_VIEWS ≤ vec_capacity spots },
 }
@@ -43,6 +45,7 @@ impl Scratch {
             locals: vec![in alloc; 0i64; locals as usize]?,
             numbers: vec![in alloc; 0i64; outs as usize]?,
             spots: Vec::with_capacity(alloc, MOST_VIEWS)?,
+            code: Code::new(alloc)?,
         })
     }
 

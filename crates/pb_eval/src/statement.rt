@@ -4,6 +4,7 @@ ghost use Rattle.pb_eval.specs.Stored.{bound, SameRoom, store_of};
 ghost use Rattle.pb_eval.specs.Working.{assign_cell_in, assign_in, left_in, repeated, room_in, rooms_in, stmt_in, stmts_in, turn_in, turns_in, value_in};
 ghost use Rattle.pb_eval.specs.Turns.{all_turns};
 
+use crate::machine::repeat_code;
 use crate::port::{NamesTurn, Port};
 use crate::scene::Scene;
 use crate::scratch::Scratch;
@@ -11,6 +12,9 @@ use crate::turns::Turns;
 use pb_numbers::is_true;
 use pb_program::{Expr, Meaning, Stmt};
 use pb_values::{CellReader, Kind};
+
+/// How many turns it takes for a translation to be worth it.
+const ENOUGH_TURNS: u64 = 8;
 
 impl<'a, N: NamesTurn> Scene<'a, N> {
     /// Assigns the value of an expression.
@@ -148,9 +152,44 @@ impl<'a, N: NamesTurn> Scene<'a, N> {
         Ok(())
     }
 
-    /// Runs the body of a loop for each of its numbers.
+    /// Runs the body of a loop for each of its numbers, by flat code where it can be translated and there are a few turns.
     #[cycle(statement)]
     fn repeat<C: CellReader>(
+        &self,
+        body: &[Stmt],
+        name: Meaning,
+        turns: &Turns,
+        scratch: &mut Scratch,
+        port: &mut Port<C, N>,
+    ) -> Result<(), Kind>
+        requires name { local_room name ≤ length scratch.old.locals.items }
+        requires body { rooms_in body.now ≤ length scratch.old.locals.items }
+        ensures after { repeated (bound self.now scratch.old) name body.now turns.now.low turns.now.count (store_of scratch.old) ≡ left_in result (store_of scratch.new) }
+        ensures room { SameRoom scratch.old scratch.new }
+        ensures same_reference { port.new.reader.ghost_name ≡ port.old.reader.ghost_name }
+    {
+        let Meaning::Number(k) = name else {
+            return self.walk(body, name, turns, scratch, port);
+        };
+        if turns.count < ENOUGH_TURNS {
+            return self.walk(body, name, turns, scratch, port);
+        }
+        let room = scratch.locals.len() as u64;
+        if !self.translate(body, room, &mut scratch.code, port) {
+            return self.walk(body, name, turns, scratch, port);
+        }
+        repeat_code(
+            &scratch.code.steps,
+            k,
+            turns,
+            &mut scratch.locals,
+            &mut scratch.code.stack,
+        )
+    }
+
+    /// Runs the body of a loop for each of its numbers, by walking over it.
+    #[cycle(statement)]
+    fn walk<C: CellReader>(
         &self,
         body: &[Stmt],
         name: Meaning,

@@ -1,10 +1,14 @@
 use Rattle.std.proofs.Common.{◌≡◌, ◌<◌, ◌≤◌, ◌∙◌, sym, ap, Err, rules, arith, length, not, to_z, of_z, w64}
 use Rattle.pb_program.specs.declared.statement.Stmt.{If, Stmt, the_lemmas}
 use Rattle.pb_model.specs.Bodies.{is_zero}
-use Rattle.pb_eval.specs.Stored.{bound, store_of}
+use Rattle.std.proofs.lemmas.List.{with_items_is}
+use Rattle.std.specs.Vec.{vec_len}
+use Rattle.pb_eval.specs.Codes.{steps_of}
+use Rattle.pb_eval.specs.Stored.{bound, store_of, stored}
 use Rattle.pb_eval.specs.Working.{assign_cell_in, left_in, repeated, room_in, rooms_in, stmt_in, stmts_in, turn_in}
 use Rattle.pb_eval.specs.Rooms.{local_room}
 use Rattle.pb_eval.specs.Turns.{all_turns}
+use Rattle.pb_eval.proofs.MachineLemmas.{repeated_by}
 use Rattle.pb_eval.proofs.StmtLemmas.{assign_room, assigned_in, bound_same, call_none, cell_assigned, else_in, else_room, for_err, for_ok, for_room, if_err, if_no, if_yes, let_in, let_room, matrix_in, repeat_end, repeat_err, repeat_ok, room_at, same_trans, stmts_end, stmts_err, stmts_ok, then_room, turn_err, turn_ok}
 use Rattle.pb_eval.proofs.scene.Scene.+statement.Goals as goal
 
@@ -91,15 +95,15 @@ statement-returns-in-Err-turns-clause-after g t c =
     let a = c.in-For in
     ap (λ (s : Stmt). stmt_in (bound c.args.self.now c.args.scratch.now) s (store_of c.args.scratch.now)) a.is ∙ for_err _ _ a.at a.name a.start a.end a.body c.in-Err-turns.kind (ap all_turns (sym c.in-Err-turns.is) ∙ c.turns.ensures.count)
 
-pub repeat-returns-in-Err-clause-after : goal.repeat-returns-in-Err-clause-after
-repeat-returns-in-Err-clause-after g t c =
+pub walk-returns-in-Err-clause-after : goal.walk-returns-in-Err-clause-after
+walk-returns-in-Err-clause-after g t c =
     let same : to_z w64 (of_z w64 c.number.result) ≡ c.number.result = search rules in
     let inside : c.loop-k.k < c.args.turns.now.count = c.loop-k-test.true in
     let made = ap (λ b. turn_in b c.args.name c.args.body.now (to_z w64 (of_z w64 c.number.result)) (store_of c.loop-k.scratch)) (sym (bound_same c.args.self.now _ _ c.loop-k.invariant.room)) ∙ c.turn.ensures.after in
     sym c.loop-k.invariant.after ∙ repeat_err _ _ _ _ _ c.loop-k.k _ _ c.in-Err.kind inside (same ∙ c.number.ensures) (made ∙ ap (λ r. left_in r (store_of c.turn.new.scratch)) c.in-Err.is)
 
-pub repeat-loop-k-preserved : goal.repeat-loop-k-preserved
-repeat-loop-k-preserved g t c =
+pub walk-loop-k-preserved : goal.walk-loop-k-preserved
+walk-loop-k-preserved g t c =
     let same : to_z w64 (of_z w64 c.number.result) ≡ c.number.result = search rules in
     let inside : c.loop-k.k < c.args.turns.now.count = c.loop-k-test.true in
     let made = ap (λ b. turn_in b c.args.name c.args.body.now (to_z w64 (of_z w64 c.number.result)) (store_of c.loop-k.scratch)) (sym (bound_same c.args.self.now _ _ c.loop-k.invariant.room)) ∙ c.turn.ensures.after in
@@ -109,8 +113,8 @@ repeat-loop-k-preserved g t c =
       same_reference = c.turn.ensures.same_reference ∙ c.loop-k.invariant.same_reference;
     }
 
-pub repeat-returns-clause-after : goal.repeat-returns-clause-after
-repeat-returns-clause-after g t c =
+pub walk-returns-clause-after : goal.walk-returns-clause-after
+walk-returns-clause-after g t c =
     let past : c.args.turns.now.count ≤ c.loop-k.k = c.loop-k-test.false in
     sym c.loop-k.invariant.after ∙ repeat_end _ _ _ _ _ c.loop-k.k _ past
 
@@ -151,3 +155,18 @@ pub turn-returns-in-Err-clause-after : goal.turn-returns-in-Err-clause-after
 turn-returns-in-Err-clause-after g t c =
     let same : to_z w64 (of_z w64 c.args.number) ≡ c.args.number = search rules in
     turn_err _ _ _ _ _ _ _ same (c.assign.ensures.after c.args.self.now ∙ ap (λ r. left_in r (store_of c.assign.new.self)) c.in-Err.is)
+
+pub repeat-returns-then-not-translate-clause-after : goal.repeat-returns-then-not-translate-clause-after
+unfolding bound store_of
+repeat-returns-then-not-translate-clause-after g t c =
+    let before = c.args.scratch.now in
+    ap (λ m. repeated (bound c.args.self.now before) m c.args.body.now c.args.turns.now.low c.args.turns.now.count (store_of before)) c.in-Number.is ∙ c.walk-then-not-translate.ensures.after
+
+pub repeat-returns-clause-after : goal.repeat-returns-clause-after
+unfolding steps_of store_of
+repeat-returns-clause-after g t c =
+    let before = c.args.scratch.now in
+    let same : vec_len before.locals ≡ length before.locals.items = search rules in
+    repeated_by _ before c.in-Number.k _ _ c.len-room.result c.translate.new.code.steps.items c.deref.result.now _ _ c.deref_mut.result.now before.locals.items before.numbers.items before.spots.items _ c.in-Number.is (c.len-room.ensures ∙ same)
+    (c.translate.ensures.code c.if-not-translate.false) c.deref.ensures.value c.deref_mut.ensures.value (c.repeat_code.ensures.locals _ _)
+    ∙ ap (λ l. left_in c.repeat_code.result (stored l before.numbers.items before.spots.items)) (sym (with_items_is before.locals c.repeat_code.new.locals (c.repeat_code.ensures.room ∙ ap length c.deref_mut.ensures.value ∙ sym before.locals.ok.0)))

@@ -10,8 +10,8 @@ invariant-statements-loop-next g l = record {
   same_reference : l.port.reader.ghost_name ≡ l.initial.port.reader.ghost_name;
 }
 
-abbrev pub invariant-repeat-loop-k : goal.invariant-repeat-loop-k
-invariant-repeat-loop-k g l = record {
+abbrev pub invariant-walk-loop-k : goal.invariant-walk-loop-k
+invariant-walk-loop-k g l = record {
   after : repeated (bound l.self l.initial.scratch) l.name l.body (l.turns.low +ℤ pos l.k) (l.turns.count - l.k) (store_of l.scratch) ≡ repeated (bound l.self l.initial.scratch) l.name l.body l.turns.low l.turns.count (store_of l.initial.scratch);
   room : SameRoom l.initial.scratch l.scratch;
   same_reference : l.port.reader.ghost_name ≡ l.initial.port.reader.ghost_name;
