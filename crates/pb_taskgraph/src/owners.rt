@@ -6,10 +6,11 @@ ghost use Rattle.pb_taskgraph.specs.Owners.{filled};
 use crate::task::Part;
 use pb_values::View;
 
-fn fill_row(owners: &mut Vec<u32>, view: &View, y: u64, task: u32)
-    requires row { y < view.now.shape.h }
-    requires inside { All (λ c. c < length owners.old.items) (row_cells view.now y) }
-    ensures { owners.new.items ≡ filled owners.old.items (row_cells view.now y) task }
+// The table is a slice here and the view a copy, so that the loop reads neither again.
+fn fill_row(owners: &mut [u32], view: View, y: u64, task: u32)
+    requires row { y < view.shape.h }
+    requires inside { All (λ c. c < length owners.old) (row_cells view y) }
+    ensures { owners.new ≡ filled owners.old (row_cells view y) task }
 {
     for x in 0..view.shape.w {
         owners[view.place(x, y) as usize] = task;
@@ -25,7 +26,7 @@ fn fill_view(owners: &mut Vec<u32>, view: &View, task: u32)
         return;
     }
     for y in 0..view.shape.h {
-        fill_row(owners, view, y, task);
+        fill_row(owners, *view, y, task);
     }
 }
 
