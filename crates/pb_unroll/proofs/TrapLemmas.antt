@@ -1,5 +1,5 @@
 -- The first trapped of some cells, by its place among them.
-use Rattle.std.proofs.Common.{◌≡◌, ◌∙◌, refl, sym, ap, ⊎_elim, ℕ, zero, suc, ◌+◌, ◌<◌, ◌≤◌, ℤ, true, false, List, [], ◌∷◌, ◌++◌, length, map, take, drop, get_or, slice_get, Option, Some, None, arith}
+use Rattle.std.proofs.Common.{◌≡◌, ◌∙◌, refl, sym, ap, subst, ⊎_elim, ℕ, zero, suc, ◌+◌, ◌<◌, ◌≤◌, ℤ, true, false, is_some, IsTrue, List, [], ◌∷◌, ◌++◌, length, map, take, drop, get_or, slice_get, Option, Some, None, arith}
 use Rattle.std.specs.Prelude.{nat_lt}
 use Rattle.std.specs.List.{position, position_or_len}
 use Rattle.std.specs.Option.{option_map}
@@ -9,10 +9,12 @@ use Rattle.std.proofs.lemmas.Bool.Decides.{nat_tests}
 use Rattle.std.proofs.lemmas.List.{get_or-drop, get_or-map, get_or-take, length-drop, length-map, length-take, map-append, take_more}
 use Rattle.std.proofs.lemmas.List.Quantifiers.{position-Some}
 use Rattle.std.proofs.lemmas.List.Sums.{fails_before_first, position_or_len_is}
-use Rattle.std.proofs.lemmas.Option.{get_or_from_slice_get, slice_get_within}
+use Rattle.std.proofs.lemmas.Option.{get_or_from_slice_get, slice_get-get_or, slice_get_within}
 use Rattle.pb_values.specs.declared.outcome.Outcome.{Outcome}
 use Rattle.pb_values.specs.declared.outcome.Outcome.TheVariants.{Value, Trapped}
 use Rattle.pb_values.specs.declared.outcome.Trap.{Trap}
+use Rattle.pb_values.specs.Cells.{is_number}
+use Rattle.pb_taskgraph.specs.Packed.{HasNumbers}
 use Rattle.pb_model.specs.Calls.{Outcomes, TrappedCell, first_trapped, no_outcome, or_trapped, outcome_in}
 use Rattle.pb_model.specs.Cells.{Cell}
 use Rattle.pb_model.specs.Equations.{number_in}
@@ -126,6 +128,19 @@ module _ (os : List Outcome) (from count : ℕ) (room : from + count ≤ length 
     none_left ended =
         sym (position_past those (position_or_len_is is_trapped those (length those) no_outcome (omega arith)
         (λ j below. ap is_trapped (at_those j (omega (arith, below, as_wanted))) ∙ before j (omega (arith, below, as_wanted, ended))) (λ below. absurd (omega (arith, below)))))
+
+  -- where all outcomes are numbers there is none
+  pub none_of : HasNumbers os → None ≡ position is_trapped those
+  none_of numbers = none_left count (λ j below. number_at (from + j) (omega (arith, room, below))) (omega arith)
+    where
+      is_clean : (o : Outcome) → IsTrue (is_number (Some o)) → is_trapped o ≡ false
+      is_clean (Value v) h = refl
+      is_clean (Trapped t) h = absurd (let no : false ≡ true = h in cc)
+
+      number_at : (i : ℕ) → i < length os → is_trapped (get_or os i no_outcome) ≡ false
+      number_at i inside =
+          let at : slice_get os i ≡ Some (get_or os i no_outcome) = slice_get-get_or os i no_outcome inside in
+          is_clean (get_or os i no_outcome) (subst (λ q. IsTrue (is_number q)) at (numbers i (subst (λ q. IsTrue (is_some q)) (sym at) refl)))
 
   -- the one at a place among them
   pub at_part : (k : ℕ) (o : Outcome) → k < count → slice_get os (from + k) ≡ Some o → get_or those k no_outcome ≡ o

@@ -40,6 +40,9 @@ fn first_trap(outcomes: &Outcomes, from: u64, count: u64) -> Option<u64>
     requires few { from + count ≤ MOST_CELLS }
     ensures { result ≡ position is_trapped (take count (drop from outcomes.now)) }
 {
+    if outcomes.is_untrapped() {
+        return None;
+    }
     for k in 0..count {
         let cell = from + k;
         if is_trapped(&outcomes.get(cell)) {
