@@ -5,8 +5,8 @@ ghost use Rattle.pb_program.specs.Trees.{bare_prog};
 use crate::programs::{accepted, program};
 use pb_check::Accepted;
 use pb_config::{ConfigRefusal, read_config};
-use pb_cost::cost;
 use pb_program::Config;
+use pb_unroll::cost;
 use std::alloc::{AllocError, Global};
 use std::test::Fail;
 

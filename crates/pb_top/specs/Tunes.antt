@@ -6,7 +6,7 @@ use Rattle.pb_config.specs.Texts.{config_text}
 use Rattle.pb_check.specs.Accepting.{HasName, IsNowhere}
 use Rattle.pb_check.specs.Orders.{AnalysisValue}
 use Rattle.pb_check.specs.Sites.{all_sites}
-use Rattle.pb_cost.specs.Costs.{cost}
+use Rattle.pb_unroll.specs.Handed.{cost}
 use Rattle.pb_entry.specs.declared.refusal.RunRefusal.TheVariants.{UnknownTransform}
 use Rattle.pb_run_lines.specs.RunLines.{run_line}
 use Rattle.pb_tuner.specs.Judged.{Costs}

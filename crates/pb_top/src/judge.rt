@@ -3,9 +3,9 @@ ghost use Rattle.std.specs.Prelude.{◌≡◌, ◌<◌, length};
 ghost use Rattle.pb_program.specs.Trees.{bare_prog};
 
 use pb_check::Accepted;
-use pb_cost::cost;
 use pb_program::Config;
 use pb_tuner::{Cost, Judge};
+use pb_unroll::cost;
 use std::alloc::{AllocError, Global};
 
 /// Tells what the configurations of an accepted program cost for one of its transforms. It never fails.

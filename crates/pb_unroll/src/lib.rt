@@ -4,7 +4,7 @@
 //! call, with the trap; and the matrices that this call gives, or their texts. The theorems are `first_trapped`, `result_matrices` and
 //! `results_text`.
 //! What a command needs before that is handed on from the crates below: the transform of a name (`enter`), and the run of a
-//! transform with matrices (`unroll`).
+//! transform with matrices (`unroll`); and the cost of a configuration (`cost`).
 #![tactic(auto)]
 
 mod places;
@@ -12,6 +12,7 @@ mod results;
 mod texts;
 mod trapped;
 
+pub use pb_cost::cost;
 pub use pb_entry::{Count, RunRefusal, enter};
 pub use pb_run_work::{Run, unroll};
 pub use results::{result_matrices, results_text};
