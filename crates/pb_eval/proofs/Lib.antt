@@ -21,6 +21,7 @@ pub mod SameLemmas
 pub mod RegionLemmas
 pub mod RoomLemmas
 pub mod FormulaLemmas
+pub mod FirstCellLemmas
 pub mod TermLemmas
 pub mod CodeLemmas
 pub mod TranslateLemmas

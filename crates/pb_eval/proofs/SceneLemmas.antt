@@ -55,7 +55,7 @@ module _ (turn : Turn) (sizes : Sizes) (x y : ℕ) (views : List View) (a : Arou
   y_is = to_z_pos w64 y h.small_y ∙ ap (λ (b : Around). b.y) e
 
 -- ---- what names of views stand for
-told_grid : (turn : Turn) (numbers : List ℤ) (v : View) → grid_told turn v ≡ grid_shown turn numbers (Told v)
+pub told_grid : (turn : Turn) (numbers : List ℤ) (v : View) → grid_told turn v ≡ grid_shown turn numbers (Told v)
 unfolding grid_told grid_shown row_of rows_of
 told_grid turn numbers v = λ i. record { width = v.shape.w; height = v.shape.h; cells = map_rows (number_told turn) (cell_of v) v.shape.w (range_with_len 0 v.shape.h) i }
 

@@ -11,4 +11,5 @@ pub mod Running
 pub mod CanRun
 pub mod Formulas
 pub mod Terms
+pub mod FirstCells
 pub mod Codes

@@ -1,18 +1,23 @@
-ghost use Rattle.std.specs.Prelude.{◌≡◌, ◌<◌, ◌^◌, ◌≤◌, IfNone, IfSome, List};
+ghost use Rattle.std.specs.Prelude.{◌≡◌, ◌<◌, ◌^◌, ◌≤◌, IfNone, IfSome, IsTrue, List, is_some, length};
 ghost use Rattle.std.specs.List.{All};
 ghost use Rattle.pb_linear.specs.Sizes.{sizes_of};
+ghost use Rattle.pb_linear.specs.declared.sizes.Sizes.{Sizes as SizesValue};
+ghost use Rattle.pb_values.specs.Cells.{HasNoTrap, is_number};
+ghost use Rattle.pb_values.specs.declared.view.View.{View as Seen};
 ghost use Rattle.pb_program.specs.Forms.{DeclValue};
 ghost use Rattle.pb_program.specs.Trees.{ProgRule, bare_rule};
 ghost use Rattle.pb_program.specs.declared.expression.Expr.{Expr as Held};
 ghost use Rattle.pb_program.specs.declared.rule.RuleKind.TheVariants as kind;
 ghost use Rattle.pb_model.specs.Equations.{own_outcome, rule_gives};
 ghost use Rattle.pb_eval.specs.CanRun.{AreReads, IsRunnable, at_variables};
+ghost use Rattle.pb_eval.specs.FirstCells.{AreOfCells, BeginAt};
 ghost use Rattle.pb_eval.specs.Formulas.{IsBlank, IsFormula};
 ghost use Rattle.pb_eval.specs.Shown.{IsTold, seen_by};
 ghost use Rattle.pb_eval.specs.Stored.{bound, store_of};
 ghost use Rattle.pb_eval.specs.Terms.{StandFor};
 ghost use Rattle.pb_eval.specs.Working.{value_in};
 
+use crate::cells::cells_value;
 use crate::place::body_of_rule;
 use crate::port::{NamesTurn, Port};
 use crate::scene::Scene;
@@ -141,4 +146,61 @@ pub fn run_formula<C: CellReader>(
     ensures stays { C.turn port.new ≡ C.turn port.old }
 {
     outcome_by::<C, Brand>(e, terms, t, r, s, x, y, views, port, scratch)
+}
+
+/// The outcome of a cell by terms, over the first cells of its reads, for a reader that tells just that, and no trap.
+fn outcome_of<C: CellReader, N: NamesTurn>(
+    terms: &Terms,
+    t: u32,
+    r: u32,
+    x: u64,
+    y: u64,
+    cells: &[u64],
+    port: &mut C,
+) -> Outcome
+    requires turn { C.turn port.old ≡ N.turn }
+    requires untrapped { HasNoTrap N.turn }
+    requires told { All (λ c. IsTrue (is_some (N.turn.outcomes c))) cells.now }
+    requires terms { AreOfCells (length cells.now) terms.now }
+    ensures outcome { (matrices : List DeclValue) (sizes : SizesValue) (rule : ProgRule) (e : Held) (views : List Seen) → IsRunnable matrices rule → rule.kind ≡ kind.Cell → IsFormula rule e → StandFor e terms.now
+        → BeginAt cells.now views → AreReads matrices (sizes_of sizes) (at_variables x y) rule views N.turn
+        → result ≡ own_outcome matrices (sizes_of sizes) (at_variables x y) rule (rule_gives matrices (sizes_of sizes) (at_variables x y) t r rule (seen_by N.turn views)) }
+    ensures stays { C.turn port.new ≡ C.turn port.old }
+{
+    let mut told = Port::<C, N> {
+        reader: port,
+        of: PhantomData,
+    };
+    match cells_value(terms, cells, &mut told) {
+        Ok(n) => Outcome::Value(n),
+        Err(kind) => Outcome::Trapped(Trap {
+            kind: kind.kind(),
+            transform: t,
+            rule: r,
+            x,
+            y,
+        }),
+    }
+}
+
+/// The outcome of a cell by rule `r` of transform `t`, a rule for single cells whose formula has these terms, numbers and first cells
+/// of reads alone, where the reads begin at these cells and no cell that is told is trapped.
+pub fn run_terms<C: CellReader>(
+    terms: &Terms,
+    t: u32,
+    r: u32,
+    x: u64,
+    y: u64,
+    cells: &[u64],
+    port: &mut C,
+) -> Outcome
+    requires untrapped { HasNoTrap (C.turn port.old) }
+    requires told { All (λ c. IsTrue (is_some ((C.turn port.old).outcomes c))) cells.now }
+    requires terms { AreOfCells (length cells.now) terms.now }
+    ensures outcome { (matrices : List DeclValue) (sizes : SizesValue) (rule : ProgRule) (e : Held) (views : List Seen) → IsRunnable matrices rule → rule.kind ≡ kind.Cell → IsFormula rule e → StandFor e terms.now
+        → BeginAt cells.now views → AreReads matrices (sizes_of sizes) (at_variables x y) rule views (C.turn port.old)
+        → result ≡ own_outcome matrices (sizes_of sizes) (at_variables x y) rule (rule_gives matrices (sizes_of sizes) (at_variables x y) t r rule (seen_by (C.turn port.old) views)) }
+    ensures stays { C.turn port.new ≡ C.turn port.old }
+{
+    outcome_of::<C, Brand>(terms, t, r, x, y, cells, port)
 }

@@ -7,6 +7,7 @@
 
 mod body;
 mod cell;
+mod cells;
 mod chain;
 mod code;
 mod expression;
@@ -32,7 +33,7 @@ mod traps;
 mod turns;
 
 pub use body::run_body;
-pub use formula::{formula_of, run_formula};
+pub use formula::{formula_of, run_formula, run_terms};
 pub use laws::{a_computing_rule_can_be_run, a_rule_for_regions_means_the_same_at_each_cell};
 pub use room::{locals_room, outs_room};
 pub use scratch::Scratch;

@@ -1,0 +1,13 @@
+use Rattle.std.proofs.Common.{◌≡◌, length, rules, to_z, of_z, w64}
+use Rattle.pb_eval.proofs.FirstCellLemmas.{cell_below, cell_is, number_is}
+use Rattle.pb_eval.proofs.cells.cell_number.Goals as goal
+
+pub returns-in-Number-clause-value : goal.returns-in-Number-clause-value
+returns-in-Number-clause-value g c b st tells =
+    let same : to_z w64 (of_z w64 c.in-Number.n) ≡ c.in-Number.n = search rules in
+    number_is b st c.args.term c.in-Number.n _ c.in-Number.is same
+
+pub returns-in-Cell-clause-value : goal.returns-in-Cell-clause-value
+returns-in-Cell-clause-value g c b st tells =
+    let same : to_z w64 (of_z w64 c.number.result) ≡ c.number.result = search rules in
+    cell_is b st g.N.NamesTurn.turn c.args.cells.now tells c.args.term c.in-Cell.k _ c.number.result _ c.in-Cell.is (cell_below (length c.args.cells.now) c.args.term c.in-Cell.k c.in-Cell.is c.requires.term) c.number.ensures.number same
