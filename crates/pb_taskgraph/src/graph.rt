@@ -29,7 +29,8 @@ impl TaskGraph {
     ghost use Rattle.std.specs.List.{Contains};
     ghost use Rattle.pb_taskgraph.specs.Graphs.{IsGraph, cells_of, link_count};
 
-    /// The graph of these tasks. It makes a table from cells to tasks, in one pass over the parts and the cells.
+    /// The graph of these tasks. It makes a table from the cells that tasks make to these tasks, in one pass over the parts and
+    /// these cells.
     pub fn new(
         alloc: Global,
         inputs: u64,
@@ -39,9 +40,9 @@ impl TaskGraph {
         requires { IsGraph (record { inputs = inputs; cells = cells; tasks = tasks.items }) }
         ensures { IfOk result (λ g. g ≡ record { inputs = inputs; cells = cells; tasks = tasks.items }) }
     {
-        let mut owners = vec![in alloc; 0u32; cells as usize]?;
+        let mut owners = vec![in alloc; 0u32; (cells - inputs) as usize]?;
         for task in 0..tasks.len() {
-            fill_task(&mut owners, &tasks[task].parts, task as u32);
+            fill_task(&mut owners, inputs, &tasks[task].parts, task as u32);
         }
         Ok(TaskGraph {
             inputs,
@@ -87,6 +88,6 @@ impl TaskGraph {
         ensures task { result < length self.now.tasks }
         ensures cell { Contains (cells_of self.now result) cell }
     {
-        self.owners[cell as usize]
+        self.owners[(cell - self.inputs) as usize]
     }
 }
