@@ -1,6 +1,5 @@
 -- Outcomes that are held as words: a number, or a trap as the number that its parts make, digit by digit.
-use Rattle.std.specs.Prelude.{◌≡◌, ℕ, ◌==◌, if◌then◌else◌, ◌^◌, ◌/◌, ◌%◌, ℤ, unsigned_abs, Bool, true, false, IsTrue, is_some, List, [], ◌∷◌, slice_get}
-use Rattle.std.specs.List.{list_any}
+use Rattle.std.specs.Prelude.{◌≡◌, ℕ, ◌==◌, ◌≤◌, if◌then◌else◌, ◌^◌, ◌/◌, ◌%◌, ℤ, unsigned_abs, Bool, true, false, IsTrue, is_some, List, [], ◌∷◌, length, slice_get}
 use Rattle.pb_values.specs.Cells.{is_number}
 use Rattle.pb_values.specs.declared.outcome.Kind.{Kind}
 use Rattle.pb_values.specs.declared.outcome.Kind.TheVariants as kind
@@ -27,13 +26,17 @@ unfoldable pub outcome_in : ℤ → Bool → Outcome
 outcome_in w false = Value w
 outcome_in w true = Trapped (trap_in (unsigned_abs w))
 
+-- the outcomes that words stand for: one is a trap where its flag is there and says so
 unfoldable pub outcomes_in : List ℤ → List Bool → List Outcome
+outcomes_in [] _ = []
+outcomes_in (w ∷ ws) [] = Value w ∷ outcomes_in ws []
 outcomes_in (w ∷ ws) (b ∷ bs) = outcome_in w b ∷ outcomes_in ws bs
-outcomes_in _ _ = []
 
--- none of these flags says that an outcome is a trap
-abbrev pub AreNumbers : List Bool → Type 0
-AreNumbers flags = list_any (λ b. b) flags ≡ false
+-- the flags of so many words: none until a trap is put, then one for each word; and there is room for them from the start
+pub record AreFlags (any : Bool) (flags : List Bool) (capacity count : ℕ) : Type 0 where
+  pub none : any ≡ false → flags ≡ []
+  pub each : any ≡ true → length flags ≡ count
+  pub room : count ≤ capacity
 
 -- each outcome that is there is a number
 abbrev pub HasNumbers : List Outcome → Type 0

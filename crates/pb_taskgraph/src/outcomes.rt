@@ -1,36 +1,33 @@
-ghost use Rattle.std.specs.Prelude.{◌≡◌, false};
-ghost use Rattle.pb_taskgraph.specs.Packed.{AreNumbers};
-
 use crate::packed::{trap_in, word_of};
-use pb_values::Outcome;
+use pb_values::{Outcome, Trap};
 use std::alloc::{AllocError, Global};
 use std::marker::Model;
 
-/// The outcomes of cells, by number. A cell takes nine bytes: its number or its trap as one word, and which of both it is. `any`
-/// tells whether a trap was ever put among them.
+/// The outcomes of cells, by number. A cell takes nine bytes: its number or its trap as one word, and a flag that tells which of
+/// both it is. `any` tells whether a trap was ever put among them. Until then there are no flags, and their room isn't touched.
 #[derive(Debug, Drop)]
 pub struct Outcomes {
     words: Vec<i64>,
     trapped: Vec<bool>,
     any: bool,
-    ghost none: { any ≡ false → AreNumbers trapped.items },
 }
 
 impl Model for Outcomes {
-    ghost use Rattle.std.specs.Prelude.{◌≡◌, List, length};
+    ghost use Rattle.std.specs.Prelude.{List, length};
+    ghost use Rattle.std.specs.Vec.{vec_capacity};
     ghost use Rattle.pb_values.specs.declared.outcome.Outcome.{Outcome};
-    ghost use Rattle.pb_taskgraph.specs.Packed.{outcomes_in};
+    ghost use Rattle.pb_taskgraph.specs.Packed.{AreFlags, outcomes_in};
 
     ghost Value = { List Outcome };
 
     ghost view = { λ o. outcomes_in o.words.items o.trapped.items };
 
-    ghost invariant = { λ o. length o.trapped.items ≡ length o.words.items };
+    ghost invariant = { λ o. AreFlags o.any o.trapped.items (vec_capacity o.trapped) (length o.words.items) };
 }
 
 impl Outcomes {
     ghost use Rattle.std.specs.Prelude.{◌≡◌, ◌<◌, ◌≤◌, ◌-◌, IfOk, IfSome, IsTrue, Some, drop, length, map, slice_get, slice_set, take};
-    ghost use Rattle.pb_values.specs.declared.outcome.Outcome.TheVariants.{Value};
+    ghost use Rattle.pb_values.specs.declared.outcome.Outcome.TheVariants.{Trapped, Value};
     ghost use Rattle.pb_values.specs.Cells.{is_number};
     ghost use Rattle.pb_taskgraph.specs.Packed.{HasNumbers};
     ghost use Rattle.pb_taskgraph.specs.Plans.{IsSmall};
@@ -42,7 +39,7 @@ impl Outcomes {
     {
         Ok(Outcomes {
             words: vec![in alloc; 0i64; cells as usize]?,
-            trapped: vec![in alloc; false; cells as usize]?,
+            trapped: Vec::with_capacity(alloc, cells as usize)?,
             any: false,
         })
     }
@@ -61,6 +58,9 @@ impl Outcomes {
         ensures { slice_get self.now cell ≡ Some result }
     {
         let word = self.words[cell as usize];
+        if !self.any {
+            return Outcome::Value(word);
+        }
         if self.trapped[cell as usize] {
             Outcome::Trapped(trap_in(word.unsigned_abs()))
         } else {
@@ -91,7 +91,7 @@ impl Outcomes {
         requires below { end ≤ length self.now }
         ensures { IfSome result (λ numbers. take (end - first) (drop first self.now) ≡ map (λ z. Value z) numbers.now) }
     {
-        if self.trapped[first..end].contains(&true) {
+        if self.any && self.trapped[first..end].contains(&true) {
             return None;
         }
         Some(&self.words[first..end])
@@ -107,13 +107,24 @@ impl Outcomes {
         match outcome {
             Outcome::Value(number) => {
                 self.words[cell as usize] = number;
-                self.trapped[cell as usize] = false;
+                if self.any {
+                    self.trapped[cell as usize] = false;
+                }
             }
-            Outcome::Trapped(trap) => {
-                self.words[cell as usize] = word_of(&trap);
-                self.trapped[cell as usize] = true;
-                self.any = true;
-            }
+            Outcome::Trapped(trap) => self.set_trap(cell, trap),
         }
+    }
+
+    // The first trap makes the flags, for which there is room.
+    #[inline(never)]
+    fn set_trap(&mut self, cell: u64, trap: Trap)
+        requires below { cell < length self.old }
+        requires small { IsSmall (Trapped trap) }
+        ensures { self.new ≡ slice_set self.old cell (Trapped trap) }
+    {
+        let _ = self.trapped.resize(self.words.len(), false);
+        self.any = true;
+        self.words[cell as usize] = word_of(&trap);
+        self.trapped[cell as usize] = true;
     }
 }

@@ -7,4 +7,4 @@ not_true false h = refl
 not_true true h = absurd (let wrong : false ≡ true = h in cc)
 
 pub returns : goal.returns
-returns c = λ h. numbers-all c.self.inside.words.items c.self.inside.trapped.items c.args.self.now c.self.invariant c.self.view_is (c.self.inside.none (not_true c.self.inside.any h))
+returns c = λ h. numbers-all c.self.inside.words.items c.self.inside.trapped.items c.args.self.now c.self.view_is (c.self.invariant.none (not_true c.self.inside.any h))
