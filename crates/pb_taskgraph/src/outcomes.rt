@@ -105,19 +105,25 @@ impl Outcomes {
         ensures { self.new ≡ slice_set self.old cell outcome }
     {
         match outcome {
-            Outcome::Value(number) => {
-                self.words[cell as usize] = number;
-                if self.any {
-                    self.trapped[cell as usize] = false;
-                }
-            }
+            Outcome::Value(number) => self.set_number(cell, number),
             Outcome::Trapped(trap) => self.set_trap(cell, trap),
         }
     }
 
-    // The first trap makes the flags, for which there is room.
-    #[inline(never)]
-    fn set_trap(&mut self, cell: u64, trap: Trap)
+    /// Puts a number in the place of the outcome of a cell.
+    #[inline(always)]
+    pub(crate) fn set_number(&mut self, cell: u64, number: i64)
+        requires { cell < length self.old }
+        ensures { self.new ≡ slice_set self.old cell (Value number) }
+    {
+        self.words[cell as usize] = number;
+        if self.any {
+            self.trapped[cell as usize] = false;
+        }
+    }
+
+    /// Puts a trap in the place of the outcome of a cell. The first one makes the flags, for which there is room.
+    pub(crate) fn set_trap(&mut self, cell: u64, trap: Trap)
         requires below { cell < length self.old }
         requires small { IsSmall (Trapped trap) }
         ensures { self.new ≡ slice_set self.old cell (Trapped trap) }

@@ -74,8 +74,11 @@ impl<N: NamesWork> CellReader for SerialPort<N> {
 
 impl<N: NamesWork> CellPort for SerialPort<N> {
     fn write(&mut self, cell: u64, v: Outcome) {
-        self.outcomes.set(cell, v);
         self.written += 1;
+        match v {
+            Outcome::Value(number) => self.outcomes.set_number(cell, number),
+            Outcome::Trapped(trap) => self.outcomes.set_trap(cell, trap),
+        }
     }
 }
 
