@@ -16,7 +16,7 @@ use crate::bracket::{name, open};
 use crate::make::{
     call, cell, chained, compared, height, named, number, one, parentheses, signed, two, width,
 };
-use pb_form_parser::{Cursor, Fault, name_in, number_in};
+use pb_form_parser::{Cursor, Fault, name_in, number_in, then, without};
 use pb_syntax::{
     ExprText, Item, Level, MOST_ARGUMENTS, MOST_NESTING, Name, Operator, Relation, TokenKind,
     UnarySign,
@@ -139,7 +139,7 @@ fn primary(alloc: Global, cursor: &mut Cursor<'_>, depth: u32) -> Result<ExprTex
             let at = cursor.place();
             let depth = open(cursor, TokenKind::Open, depth)?;
             let inner = expression(alloc, cursor, depth)?;
-            cursor.expect(TokenKind::Close)?;
+            let inner = then(cursor, TokenKind::Close, inner)?;
             parentheses(alloc, at, inner)
         }
         _ => Err(cursor.bad()),
@@ -226,11 +226,16 @@ pub fn coordinates(
     let x = expression(alloc, cursor, depth)?;
     if let TokenKind::Comma = cursor.peek() {
         cursor.take();
-        let y = expression(alloc, cursor, depth)?;
-        cursor.expect(TokenKind::Close)?;
-        return two(alloc, x, y);
+        let y = match expression(alloc, cursor, depth) {
+            Ok(y) => y,
+            Err(fault) => return Err(without(x, fault)),
+        };
+        return match cursor.expect(TokenKind::Close) {
+            Ok(_) => two(alloc, x, y),
+            Err(fault) => Err(without(x, without(y, fault))),
+        };
     }
-    cursor.expect(TokenKind::Close)?;
+    let x = then(cursor, TokenKind::Close, x)?;
     one(alloc, x)
 }
 
@@ -357,8 +362,13 @@ fn line(alloc: Global, cursor: &mut Cursor<'_>, depth: u32, level: Level) -> Res
     let first = operand(alloc, cursor, depth, level)?;
     let mut rest = Vec::new(alloc);
     while let Some(operator) = take_operator(cursor, level) {
-        let next = operand(alloc, cursor, depth, level)?;
-        rest.push((operator, next))?;
+        let next = match operand(alloc, cursor, depth, level) {
+            Ok(next) => next,
+            Err(fault) => return Err(without(first, fault)),
+        };
+        if let Err(failed) = rest.push((operator, next)) {
+            return Err(without(first, Fault::from(failed)));
+        }
     }
     chained(alloc, level, first, rest)
 }
@@ -374,8 +384,10 @@ fn comparison(alloc: Global, cursor: &mut Cursor<'_>, depth: u32) -> Result<Expr
     let left = line(alloc, cursor, depth, Level::Sum)?;
     match take_relation(cursor) {
         Some(relation) => {
-            let right = line(alloc, cursor, depth, Level::Sum)?;
-            compared(alloc, left, relation, right)
+            match line(alloc, cursor, depth, Level::Sum) {
+                Ok(right) => compared(alloc, left, relation, right),
+                Err(fault) => Err(without(left, fault)),
+            }
         }
         None => Ok(left),
     }

@@ -16,7 +16,7 @@ use crate::expression::{coordinates, expression, some_arguments};
 use crate::make::{
     assign, assign_cell, call_statement, for_each, if_holds, if_or_else, let_matrix, let_number,
 };
-use pb_form_parser::{Cursor, Fault, dims, name_in};
+use pb_form_parser::{Cursor, Fault, dims, name_in, then, without};
 use pb_syntax::{
     ExprText, FormText, Item, MOST_NESTING, MOST_STATEMENTS, MOST_TARGETS, Name, StmtText,
     TokenKind,
@@ -58,13 +58,13 @@ fn after_let(
         TokenKind::Assign => {
             cursor.take();
             let value = expression(alloc, cursor, depth)?;
-            cursor.expect(TokenKind::Semicolon)?;
+            let value = then(cursor, TokenKind::Semicolon, value)?;
             Ok(let_number(at, name, value))
         }
         TokenKind::OpenBracket => {
             cursor.take();
             let found = dimensions(alloc, cursor)?;
-            cursor.expect(TokenKind::Semicolon)?;
+            let found = then(cursor, TokenKind::Semicolon, found)?;
             Ok(let_matrix(at, name, found))
         }
         _ => Err(cursor.bad()),
@@ -87,7 +87,7 @@ fn after_target(
         TokenKind::Assign => {
             cursor.take();
             let value = expression(alloc, cursor, depth)?;
-            cursor.expect(TokenKind::Semicolon)?;
+            let value = then(cursor, TokenKind::Semicolon, value)?;
             Ok(assign(target, value))
         }
         TokenKind::Comma => {
@@ -130,7 +130,7 @@ fn after_dot(
     let place = coordinates(alloc, cursor, depth)?;
     cursor.expect(TokenKind::Assign)?;
     let value = expression(alloc, cursor, depth)?;
-    cursor.expect(TokenKind::Semicolon)?;
+    let value = then(cursor, TokenKind::Semicolon, value)?;
     Ok(assign_cell(target, place, value))
 }
 
@@ -227,9 +227,11 @@ fn after_if(
 {
     let inside = open(cursor, TokenKind::Open, depth)?;
     let test = expression(alloc, cursor, inside)?;
-    cursor.expect(TokenKind::Close)?;
-    let then = block(alloc, cursor, depth, count)?;
-    otherwise(alloc, cursor, depth, count, at, test, then)
+    let test = then(cursor, TokenKind::Close, test)?;
+    match block(alloc, cursor, depth, count) {
+        Ok(then) => otherwise(alloc, cursor, depth, count, at, test, then),
+        Err(fault) => Err(without(test, fault)),
+    }
 }
 
 /// The `else` block, if there is one.
@@ -253,8 +255,10 @@ fn otherwise(
     match cursor.peek() {
         TokenKind::Else => {
             cursor.take();
-            let other = block(alloc, cursor, depth, count)?;
-            Ok(if_or_else(at, test, then, other))
+            match block(alloc, cursor, depth, count) {
+                Ok(other) => Ok(if_or_else(at, test, then, other)),
+                Err(fault) => Err(without(test, fault)),
+            }
         }
         _ => Ok(if_holds(at, test, then)),
     }
@@ -280,11 +284,18 @@ fn after_for(
     let index = name(alloc, cursor)?;
     cursor.expect(TokenKind::Assign)?;
     let start = expression(alloc, cursor, inside)?;
-    cursor.expect(TokenKind::Dots)?;
-    let end = expression(alloc, cursor, inside)?;
-    cursor.expect(TokenKind::Close)?;
-    let body = block(alloc, cursor, depth, count)?;
-    Ok(for_each(at, index, start, end, body))
+    let start = then(cursor, TokenKind::Dots, start)?;
+    let end = match expression(alloc, cursor, inside) {
+        Ok(end) => end,
+        Err(fault) => return Err(without(start, fault)),
+    };
+    if let Err(fault) = cursor.expect(TokenKind::Close) {
+        return Err(without(start, without(end, fault)));
+    }
+    match block(alloc, cursor, depth, count) {
+        Ok(body) => Ok(for_each(at, index, start, end, body)),
+        Err(fault) => Err(without(start, without(end, fault))),
+    }
 }
 
 /// One statement.

@@ -5,12 +5,14 @@
 //! it ended.
 #![tactic(auto)]
 
+mod after;
 mod begin;
 mod cursor;
 mod dimensions;
 mod fault;
 mod forms;
 
+pub use after::{then, without};
 pub use begin::begin_name;
 pub use cursor::{Cursor, name_in, number_in};
 pub use dimensions::{counted_dims, dims};
