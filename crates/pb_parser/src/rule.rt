@@ -2,13 +2,13 @@ ghost use Rattle.std.specs.Prelude.{◌≡◌, ◌<◌, ◌≤◌, [], ◌∷◌
 ghost use Rattle.pb_syntax.specs.Trees.{bare_rule};
 ghost use Rattle.pb_syntax.specs.declared.refusal.Item.TheVariants.{Conditions, Rules};
 ghost use Rattle.pb_syntax.specs.declared.kind.TokenKind.TheVariants.{To};
-ghost use Rattle.pb_grammar.specs.Want.{a_use, uses, rules, reads, condition, conditions, more_conditions, relation, form, begin, after_mark, a_sign, rule};
+ghost use Rattle.pb_grammar.specs.Want.{a_use, uses, rules, reads, condition, conditions, more_conditions, relation, form, begin, after_mark, with_outs, a_sign, rule};
 ghost use Rattle.pb_syntax.specs.Limits.{over};
 ghost use Rattle.pb_form_parser.specs.Leads.{Leads, Shortens};
 
 use crate::view::view_or_none;
 use pb_body_parser::statements;
-use pb_form_parser::{Cursor, Fault, begin_name, form, name_in, small};
+use pb_form_parser::{Cursor, Fault, begin_name, form, name_in, small, without};
 use pb_syntax::{
     CondText, FormText, Item, MOST_CONDITIONS, MOST_RULES, MOST_VIEWS, MarkText, Relation,
     RuleText, TokenKind, UseText,
@@ -26,12 +26,18 @@ fn one_use(
 {
     let matrix = name_in(alloc, begin_name(cursor, MOST_VIEWS, before, what)?)?;
     let view = view_or_none(alloc, cursor)?;
-    let bound = name_in(alloc, cursor.expect(TokenKind::Name)?)?;
-    Ok(UseText {
-        matrix,
-        view,
-        bound,
-    })
+    let token = match cursor.expect(TokenKind::Name) {
+        Ok(token) => token,
+        Err(fault) => return Err(without(view, fault)),
+    };
+    match name_in(alloc, token) {
+        Ok(bound) => Ok(UseText {
+            matrix,
+            view,
+            bound,
+        }),
+        Err(fault) => Err(without(view, fault)),
+    }
 }
 
 fn uses(alloc: Global, cursor: &mut Cursor<'_>, what: Item) -> Result<Vec<UseText>, Fault>
@@ -175,6 +181,19 @@ fn after_mark(alloc: Global, cursor: &mut Cursor<'_>, mark: MarkText) -> Result<
 {
     cursor.expect(TokenKind::Open)?;
     let outs = uses(alloc, cursor, Item::Outputs)?;
+    after_outs(alloc, cursor, mark, outs)
+}
+
+/// What stands in a rule after its outputs.
+fn after_outs(
+    alloc: Global,
+    cursor: &mut Cursor<'_>,
+    mark: MarkText,
+    outs: Vec<UseText>,
+) -> Result<RuleText, Fault>
+    ensures leads { Leads bare_rule result (λ f. with_outs mark f outs.items) cursor.old cursor.new }
+    ensures shorter { Shortens result cursor.old cursor.new }
+{
     cursor.expect(TokenKind::From)?;
     cursor.expect(TokenKind::Open)?;
     let reads = reads(alloc, cursor)?;

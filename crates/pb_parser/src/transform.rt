@@ -1,9 +1,9 @@
-ghost use Rattle.std.specs.Prelude.{◌≡◌, ◌⊎◌, IfOk, IfErr};
+ghost use Rattle.std.specs.Prelude.{◌≡◌, ◌+◌, ◌≤◌, ◌⊎◌, length, IfOk, IfErr};
 ghost use Rattle.pb_syntax.specs.declared.refusal.Refusal.TheVariants.{Memory};
 ghost use Rattle.pb_syntax.specs.Trees.{bare_transform, bare_text};
 ghost use Rattle.pb_syntax.specs.Faults.{Accepted, AreRefused};
 ghost use Rattle.pb_syntax.specs.declared.refusal.Item.TheVariants.{Transforms};
-ghost use Rattle.pb_grammar.specs.Want.{a_transform, begin, program};
+ghost use Rattle.pb_grammar.specs.Want.{a_transform, with_minimums, with_kept, begin, program};
 ghost use Rattle.pb_syntax.specs.Limits.{over};
 ghost use Rattle.pb_grammar.specs.Reading.{read};
 ghost use Rattle.pb_form_parser.specs.Leads.{Leads, Shortens};
@@ -13,7 +13,9 @@ use crate::decl::{decls, minimums, through};
 use crate::refused::refused_with;
 use crate::rule::rules;
 use pb_form_parser::{Cursor, Fault, name_in};
-use pb_syntax::{Item, MOST_TRANSFORMS, Refusal, Text, Token, TokenKind, TransformText};
+use pb_syntax::{
+    DeclText, Item, MOST_TRANSFORMS, Name, Refusal, Text, Token, TokenKind, TransformText,
+};
 use std::alloc::Global;
 
 fn transform(alloc: Global, cursor: &mut Cursor<'_>) -> Result<TransformText, Fault>
@@ -23,8 +25,37 @@ fn transform(alloc: Global, cursor: &mut Cursor<'_>) -> Result<TransformText, Fa
     cursor.expect(TokenKind::Transform)?;
     let name = name_in(alloc, cursor.expect(TokenKind::Name)?)?;
     let minimums = minimums(alloc, cursor)?;
+    after_minimums(alloc, cursor, name, minimums)
+}
+
+/// What stands in a transform after its minimums.
+fn after_minimums(
+    alloc: Global,
+    cursor: &mut Cursor<'_>,
+    name: Name,
+    minimums: Vec<(Name, u64)>,
+) -> Result<TransformText, Fault>
+    ensures leads { Leads bare_transform result (λ f. with_minimums name f minimums.items) cursor.old cursor.new }
+    ensures shorter { Shortens result cursor.old cursor.new }
+{
     let from = decls(alloc, cursor, 0, true)?;
     let kept = through(alloc, cursor, from.len())?;
+    after_kept(alloc, cursor, name, minimums, from, kept)
+}
+
+/// What stands in a transform after the matrices that it keeps.
+fn after_kept(
+    alloc: Global,
+    cursor: &mut Cursor<'_>,
+    name: Name,
+    minimums: Vec<(Name, u64)>,
+    from: Vec<DeclText>,
+    kept: Vec<DeclText>,
+) -> Result<TransformText, Fault>
+    requires { length from.items + length kept.items ≤ 16 }
+    ensures leads { Leads bare_transform result (λ f. with_kept name minimums.items from.items f kept.items) cursor.old cursor.new }
+    ensures shorter { Shortens result cursor.old cursor.new }
+{
     let to = decls(alloc, cursor, from.len() + kept.len(), false)?;
     cursor.expect(TokenKind::OpenBrace)?;
     let rules = rules(alloc, cursor)?;

@@ -2,12 +2,12 @@ ghost use Rattle.std.specs.Prelude.{◌≡◌, ◌<◌, ◌≤◌, length, OnOk}
 ghost use Rattle.pb_syntax.specs.Kinds.{name_in};
 ghost use Rattle.pb_syntax.specs.declared.kind.TokenKind.TheVariants.{Open, Close};
 ghost use Rattle.pb_syntax.specs.declared.tree.view.ViewText.TheVariants.{Row, Column};
-ghost use Rattle.pb_grammar.specs.Want.{form, a_sign, after_x, view_or_none, view_name};
+ghost use Rattle.pb_grammar.specs.Want.{form, a_sign, after_x, after_high, view_or_none, view_name};
 ghost use Rattle.pb_grammar.specs.Reading.{between};
 ghost use Rattle.pb_form_parser.specs.Leads.{Leads, Shortens, NeverGrows};
 
-use pb_form_parser::{Cursor, Fault, form};
-use pb_syntax::{Token, TokenKind, TokenWhat, ViewText};
+use pb_form_parser::{Cursor, Fault, form, then};
+use pb_syntax::{FormText, Token, TokenKind, TokenWhat, ViewText};
 use std::alloc::Global;
 
 /// The bytes of the name that a token is.
@@ -26,7 +26,7 @@ fn row(alloc: Global, cursor: &mut Cursor<'_>) -> Result<ViewText, Fault>
 {
     cursor.expect(TokenKind::Open)?;
     let y = form(alloc, cursor)?;
-    cursor.expect(TokenKind::Close)?;
+    let y = then(cursor, TokenKind::Close, y)?;
     Ok(ViewText::Row(y))
 }
 
@@ -36,7 +36,7 @@ fn column(alloc: Global, cursor: &mut Cursor<'_>) -> Result<ViewText, Fault>
 {
     cursor.expect(TokenKind::Open)?;
     let x = form(alloc, cursor)?;
-    cursor.expect(TokenKind::Close)?;
+    let x = then(cursor, TokenKind::Close, x)?;
     Ok(ViewText::Column(x))
 }
 
@@ -46,11 +46,19 @@ fn cell(alloc: Global, cursor: &mut Cursor<'_>) -> Result<ViewText, Fault>
 {
     cursor.expect(TokenKind::Open)?;
     let x = form(alloc, cursor)?;
+    after_x(alloc, cursor, x)
+}
+
+/// The other coordinate of a cell, or none.
+fn after_x(alloc: Global, cursor: &mut Cursor<'_>, x: FormText) -> Result<ViewText, Fault>
+    ensures leads { Leads (λ v. v) result (after_x x) cursor.old cursor.new }
+    ensures shorter { Shortens result cursor.old cursor.new }
+{
     match cursor.peek() {
         TokenKind::Comma => {
             cursor.take();
             let y = form(alloc, cursor)?;
-            cursor.expect(TokenKind::Close)?;
+            let y = then(cursor, TokenKind::Close, y)?;
             Ok(ViewText::Cell { x, y: Some(y) })
         }
         TokenKind::Close => {
@@ -67,15 +75,28 @@ fn region(alloc: Global, cursor: &mut Cursor<'_>) -> Result<ViewText, Fault>
 {
     cursor.expect(TokenKind::Open)?;
     let first = form(alloc, cursor)?;
-    cursor.expect(TokenKind::Comma)?;
+    let first = then(cursor, TokenKind::Comma, first)?;
     let second = form(alloc, cursor)?;
+    after_two(alloc, cursor, first, second)
+}
+
+/// The upper corner of a region, or none where what stands before it are two bounds.
+fn after_two(
+    alloc: Global,
+    cursor: &mut Cursor<'_>,
+    first: FormText,
+    second: FormText,
+) -> Result<ViewText, Fault>
+    ensures leads { Leads (λ v. v) result (after_high first second) cursor.old cursor.new }
+    ensures shorter { Shortens result cursor.old cursor.new }
+{
     match cursor.peek() {
         TokenKind::Comma => {
             cursor.take();
             let third = form(alloc, cursor)?;
-            cursor.expect(TokenKind::Comma)?;
+            let third = then(cursor, TokenKind::Comma, third)?;
             let fourth = form(alloc, cursor)?;
-            cursor.expect(TokenKind::Close)?;
+            let fourth = then(cursor, TokenKind::Close, fourth)?;
             Ok(ViewText::Region {
                 x0: first,
                 y0: second,
