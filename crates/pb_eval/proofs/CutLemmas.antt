@@ -21,8 +21,8 @@ use Rattle.pb_program.specs.declared.rule.RuleKind.TheVariants as kind
 use Rattle.pb_model.specs.Cells.{Cell, natural}
 use Rattle.pb_model.specs.Equations.{cut_up, extent, number_in, sides_by, view_sides}
 use Rattle.pb_eval.specs.CanRun.{shape_sides}
-use Rattle.pb_eval.specs.Outputs.{free_by, free_sides, gap_of, low_by}
-use Rattle.pb_eval.specs.Shown.{grid_told, number_told, outcome_of, seen_by}
+use Rattle.pb_statements.specs.Outputs.{free_by, free_sides, gap_of, low_by}
+use Rattle.pb_statements.specs.Shown.{grid_told, number_told, outcome_of, seen_by}
 
 length-row : (f : ℕ → ℕ) (k n : ℕ) → length (map f (range_with_len k n)) ≡ n
 length-row f k zero = refl

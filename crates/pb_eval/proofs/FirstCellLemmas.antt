@@ -17,14 +17,13 @@ use Rattle.pb_model.specs.Bodies.{Bindings, Store, if_ok, number_of, value, view
 use Rattle.pb_model.specs.Grids.{Grid, no_grid}
 use Rattle.pb_eval.specs.FirstCells.{BeginAt, IsOfCell, TellsFirst, is_of_cell}
 use Rattle.pb_eval.specs.Running.{names_of}
-use Rattle.pb_eval.specs.Shown.{grid_told, number_told}
+use Rattle.pb_statements.specs.Shown.{grid_told, number_told}
 use Rattle.pb_eval.specs.Terms.{StandFor, TermsValue, steps_value, term_value, terms_value}
-use Rattle.pb_eval.specs.Working.{value_in}
-use Rattle.pb_eval.specs.declared.shown.Shown.TheVariants.{Told}
+use Rattle.pb_statements.specs.Working.{value_in}
 use Rattle.pb_eval.specs.declared.terms.Term.{Term}
 use Rattle.pb_eval.specs.declared.terms.Term.TheVariants.{Number, Cell}
-use Rattle.pb_eval.proofs.CellLemmas.{first_there}
-use Rattle.pb_eval.proofs.SceneLemmas.{get_or_any, told_grid}
+use Rattle.pb_statements.proofs.CellLemmas.{first_told}
+use Rattle.pb_statements.proofs.SceneLemmas.{get_or_any}
 
 module _ (b : Bindings) (st : Store) where
   pub number_is : (t : Term) (n m : ℤ) → t ≡ Number n → m ≡ n → term_value b st t ≡ Ok m
@@ -68,8 +67,8 @@ tells_first turn sizes x y (d ∷ vs) outs cells h k below st =
     let v = get_or views k d in
     let some = h.some k d there in
     let start : cell_of v 0 0 ≡ get_or cells k 0 = omega (arith, sym (get_or-map (λ (u : View). u.first) views k d 0 there) ∙ ap (λ (l : List ℕ). get_or l k 0) h.first) in
-    ap (λ (g : Grid ℤ). slice_index_or g.cells 0 (pos 0)) (get_or-map (grid_told turn) views k d no_grid there ∙ told_grid turn [] v)
-    ∙ sym (first_there turn [] (Told v) (number_told turn (cell_of v 0 0)) refl some.0 some.1) ∙ ap (number_told turn) start
+    ap (λ (g : Grid ℤ). slice_index_or g.cells 0 (pos 0)) (get_or-map (grid_told turn) views k d no_grid there)
+    ∙ first_told turn v some.0 some.1 ∙ ap (number_told turn) start
 
 pub value_by_terms : (b : Bindings) (st : Store) (e : Expr) (t : TermsValue) (r : Result ℤ Kind) → IsTrue t.is_whole → StandFor e t → r ≡ terms_value b st t → value b st (bare e) ≡ r
 unfolding value_in

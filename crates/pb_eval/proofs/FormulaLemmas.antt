@@ -26,26 +26,16 @@ use Rattle.pb_model.specs.Bodies.{Bindings, after_all, assigned, at_first, if_ok
 use Rattle.pb_model.specs.Equations.{after_body, first_trap, own_number, own_outcome, rule_gives, trap_of, trap_place, unless_trapped}
 use Rattle.pb_model.specs.Grids.{Grid}
 use Rattle.pb_eval.specs.CanRun.{AreReads, at_variables, IsRunnable}
-use Rattle.pb_eval.specs.Formulas.{IsBlank, IsFormula}
-use Rattle.pb_eval.specs.Outputs.{free_sides}
+use Rattle.pb_eval.specs.Formulas.{IsFormula}
+use Rattle.pb_statements.specs.Stored.{IsBlank, bound, store_of}
+use Rattle.pb_statements.specs.Outputs.{free_sides}
 use Rattle.pb_eval.specs.Running.{names_of}
-use Rattle.pb_eval.specs.Shown.{Around, around_of, number_told, seen_by}
-use Rattle.pb_eval.specs.Stored.{bound, store_of}
-use Rattle.pb_eval.specs.Working.{value_in}
-use Rattle.pb_eval.specs.declared.scratch.Scratch.{Scratch}
-use Rattle.pb_eval.specs.declared.shown.Shown.TheVariants.{Told}
-use Rattle.pb_eval.proofs.CellLemmas.{first_there}
+use Rattle.pb_statements.specs.Shown.{Around, around_of, number_told, seen_by}
+use Rattle.pb_statements.specs.Working.{value_in}
+use Rattle.pb_statements.specs.declared.scratch.Scratch.{Scratch}
 use Rattle.pb_eval.proofs.GiveLemmas.{rule_is}
-use Rattle.pb_eval.proofs.OutLemmas.{lone_cell}
+use Rattle.pb_statements.proofs.OutLemmas.{lone_cell}
 use Rattle.pb_eval.proofs.RunLemmas.{bound_names}
-use Rattle.pb_eval.proofs.SceneLemmas.{read_grid}
-
--- the first cell of a read
-pub first_read : (turn : Turn) (sizes : Sizes) (x y : ℕ) (views : List View) (a : Around) → around_of turn sizes x y views ≡ a → (k : ℕ) (v : View) (n : ℤ) → k < length views → v ≡ get_or views k v
-    → 0 < v.shape.w → 0 < v.shape.h → n ≡ number_told turn (cell_of v 0 0) → (s : Scratch) → number_of (bound a s) (store_of s) (meaning.Read k) ≡ n
-unfolding number_of
-first_read turn sizes x y views a e k v n below is across down h s =
-    ap (λ (g : Grid ℤ). slice_index_or g.cells 0 (pos 0)) (sym (read_grid turn sizes x y views a e s [] k v below is)) ∙ sym (first_there turn [] (Told v) n h across down)
 
 -- ---- a rule with a formula
 -- unless a trap is read, the value, or its trap

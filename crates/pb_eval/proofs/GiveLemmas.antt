@@ -14,12 +14,13 @@ use Rattle.pb_program.specs.Trees.{ProgRule}
 use Rattle.pb_model.specs.Bodies.{Store, left_by, outputs_from}
 use Rattle.pb_model.specs.Equations.{after_body, bindings, first_trap, number_in, rule_gives, trap_of, unless_trapped, view_sides}
 use Rattle.pb_eval.specs.CanRun.{AreReads, at_variables, IsRunnable, outs_needed}
-use Rattle.pb_eval.specs.Outputs.{free_sides, numbers_in}
-use Rattle.pb_eval.specs.Running.{AreLeft, Gives, names_of, numbers_of, outs_of, Runs}
-use Rattle.pb_eval.specs.Shown.{seen_by}
+use Rattle.pb_statements.specs.Outputs.{free_sides, numbers_in}
+use Rattle.pb_eval.specs.Running.{AreLeft, Gives, names_of, Runs}
+use Rattle.pb_statements.specs.Stored.{numbers_of, outs_of}
+use Rattle.pb_statements.specs.Shown.{seen_by}
 use Rattle.pb_eval.specs.declared.run.Fault.{Fault}
 use Rattle.pb_eval.specs.declared.run.Fault.TheVariants.{Body, Told}
-use Rattle.pb_eval.specs.declared.scratch.Scratch.{Scratch}
+use Rattle.pb_statements.specs.declared.scratch.Scratch.{Scratch}
 use Rattle.pb_eval.proofs.CutLemmas.{all_free, cut_is, outs_free}
 
 module _ (sides : List (ℕ × ℕ)) (T : Kind → Trap) (s : Scratch) where

@@ -12,8 +12,8 @@ use Rattle.pb_values.specs.declared.shape.TheConstants.{MOST_SIDE}
 use Rattle.pb_values.specs.declared.view.View.{View}
 use Rattle.pb_program.specs.Trees.{ProgRule, ProgTransform}
 use Rattle.pb_eval.specs.CanRun.{OfRule}
-use Rattle.pb_eval.specs.Shown.{IsTold}
-use Rattle.pb_eval.proofs.SceneLemmas.{get_or_any}
+use Rattle.pb_statements.specs.Shown.{IsTold}
+use Rattle.pb_statements.proofs.SceneLemmas.{get_or_any}
 
 pub held_at : {A B : Type 0} (f : A → B) (xs : List A) (k : ℕ) (x : A) → k < length xs → x ≡ get_or xs k x → slice_get (map f xs) k ≡ Some (f x)
 held_at f xs k x h e = rw (slice_get-map f xs k, slice_get-get_or xs k x h, ← e) refl

@@ -1,17 +1,4 @@
-pub mod ViewLemmas
-pub mod PlaceLemmas
-pub mod SceneLemmas
-pub mod CellLemmas
-pub mod SumLemmas
-pub mod ProductLemmas
-pub mod ExprLemmas
-pub mod ArgumentLemmas
-pub mod StoreLemmas
-pub mod TurnLemmas
-pub mod StmtLemmas
 pub mod TrapLemmas
-pub mod LayLemmas
-pub mod OutLemmas
 pub mod RunLemmas
 pub mod CutLemmas
 pub mod HeldLemmas
@@ -23,6 +10,3 @@ pub mod RoomLemmas
 pub mod FormulaLemmas
 pub mod FirstCellLemmas
 pub mod TermLemmas
-pub mod CodeLemmas
-pub mod TranslateLemmas
-pub mod MachineLemmas

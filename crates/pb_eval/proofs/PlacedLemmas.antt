@@ -11,7 +11,7 @@ use Rattle.pb_program.specs.Forms.{DeclValue}
 use Rattle.pb_program.specs.WellFormed.{KindFits}
 use Rattle.pb_model.specs.Cells.{Cell, natural}
 use Rattle.pb_model.specs.Equations.{trap_place}
-use Rattle.pb_eval.specs.Outputs.{low_by}
+use Rattle.pb_statements.specs.Outputs.{low_by}
 use Rattle.pb_eval.proofs.CutLemmas.{lows_are}
 
 some : (l : List DeclValue) (i : ℕ) → i < length l → (d : DeclValue) × (slice_get l i ≡ Some d)

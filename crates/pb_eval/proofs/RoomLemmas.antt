@@ -11,11 +11,11 @@ use Rattle.pb_program.specs.declared.statement.Stmt.{Stmt, AssignCell, Call, If,
 use Rattle.pb_program.specs.Forms.{DeclValue, LocalFormValue}
 use Rattle.pb_program.specs.Stmts.{bare_stmt, stmts}
 use Rattle.pb_eval.specs.CanRun.{at_variables, IsRunnable, outs_needed}
-use Rattle.pb_eval.specs.Outputs.{free_sides, numbers_in}
+use Rattle.pb_statements.specs.Outputs.{free_sides, numbers_in}
 use Rattle.pb_eval.proofs.CutLemmas.{all_free, outs_free}
-use Rattle.pb_eval.specs.Rooms.{locals_among, locals_in}
-use Rattle.pb_eval.specs.Working.{room_in, rooms_in}
-use Rattle.pb_eval.proofs.StmtLemmas.{else_seen, if_seen}
+use Rattle.pb_statements.specs.Rooms.{locals_among, locals_in}
+use Rattle.pb_statements.specs.Working.{room_in, rooms_in}
+use Rattle.pb_statements.proofs.StmtLemmas.{else_seen, if_seen}
 
 pub matrix_room : (at : ℕ) (n : Named) (dims : Vec LocalFormValue) → room_in (LetMatrix at n dims) ≡ 0
 unfolding room_in

@@ -8,14 +8,14 @@ use Rattle.pb_values.specs.declared.view.View.{View}
 use Rattle.pb_program.specs.declared.statement.Stmt.{Stmt}
 use Rattle.pb_program.specs.Stmts.{bare_stmt, stmts}
 use Rattle.pb_model.specs.Bodies.{Store, after_all, at_first, left_by, outputs_from}
-use Rattle.pb_eval.specs.Outputs.{end_of}
-use Rattle.pb_eval.specs.Running.{AreLeft, names_of, numbers_of, outs_of, Runs}
-use Rattle.pb_eval.specs.Shown.{around_of}
-use Rattle.pb_eval.specs.Stored.{bound, SameRoom, sides_of, store_of}
-use Rattle.pb_eval.specs.Working.{stmts_in}
+use Rattle.pb_statements.specs.Outputs.{end_of}
+use Rattle.pb_eval.specs.Running.{AreLeft, names_of, Runs}
+use Rattle.pb_statements.specs.Stored.{numbers_of, outs_of, bound, SameRoom, sides_of, store_of}
+use Rattle.pb_statements.specs.Shown.{around_of}
+use Rattle.pb_statements.specs.Working.{stmts_in}
 use Rattle.pb_eval.specs.declared.run.Fault.TheVariants.{Body, Told}
-use Rattle.pb_eval.specs.declared.scratch.Scratch.{Scratch}
-use Rattle.pb_eval.proofs.LayLemmas.{end_fits, outputs_are}
+use Rattle.pb_statements.specs.declared.scratch.Scratch.{Scratch}
+use Rattle.pb_statements.proofs.LayLemmas.{end_fits, outputs_are}
 
 pub runs_trap : (o : Option Trap) (t : Trap) (sides : List (ℕ × ℕ)) (body : Result Store Kind) (s : Scratch) → Some t ≡ o → Runs o sides body (Err (Told t)) s
 runs_trap o t sides body s e = subst (λ (o : Option Trap). Runs o sides body (Err (Told t)) s) e refl

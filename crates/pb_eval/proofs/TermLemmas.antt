@@ -16,11 +16,11 @@ use Rattle.pb_model.specs.Bodies.{Bindings, Store, by_operator, if_ok, operated,
 use Rattle.pb_model.specs.Grids.{Grid}
 use Rattle.pb_numbers.specs.Deciding.{decided}
 use Rattle.pb_eval.specs.Terms.{AreSteps, AreTerms, IsTerm, TermsValue, steps_value, term_value, terms_value}
-use Rattle.pb_eval.specs.Working.{called_in, function_in, operand_in, value_in, values_in, view_in}
+use Rattle.pb_statements.specs.Working.{called_in, function_in, operand_in, value_in, values_in, view_in}
 use Rattle.pb_eval.specs.declared.terms.Term.{Term}
 use Rattle.pb_eval.specs.declared.terms.Term.TheVariants.{Sum}
-use Rattle.pb_eval.proofs.ArgumentLemmas.{by_open, sum_there}
-use Rattle.pb_eval.proofs.ExprLemmas.{call_in}
+use Rattle.pb_statements.proofs.ArgumentLemmas.{by_open, sum_there}
+use Rattle.pb_statements.proofs.ExprLemmas.{call_in}
 
 last : (r : Result ℤ Kind) → r ≡ if_ok r (λ n. Ok n)
 last (Ok n) = refl

@@ -9,11 +9,11 @@ use Rattle.pb_values.specs.declared.outcome.Outcome.TheVariants.{Trapped, Value}
 use Rattle.pb_values.specs.declared.outcome.Trap.{Trap}
 use Rattle.pb_values.specs.declared.view.View.{View}
 use Rattle.pb_model.specs.Equations.{first_trap}
-use Rattle.pb_eval.specs.Shown.{outcome_of, seen_by}
+use Rattle.pb_statements.specs.Shown.{outcome_of, seen_by}
 use Rattle.pb_eval.specs.Traps.{outcomes_from, rows_seen, views_seen}
-use Rattle.pb_eval.proofs.PlaceLemmas.{map_rows}
-use Rattle.pb_eval.proofs.SumLemmas.{range_end, range_next}
-use Rattle.pb_eval.proofs.ViewLemmas.{has_trap, has_value}
+use Rattle.pb_statements.proofs.PlaceLemmas.{map_rows}
+use Rattle.pb_statements.proofs.SumLemmas.{range_end, range_next}
+use Rattle.pb_statements.proofs.ViewLemmas.{has_trap, has_value}
 
 trap_none : (l rest : List Outcome) → first_trap l ≡ None → first_trap (l ++ rest) ≡ first_trap rest
 unfolding first_trap

@@ -13,8 +13,8 @@ use Rattle.pb_program.specs.Trees.{ProgRule, ProgTransform}
 use Rattle.pb_program.specs.WellFormed.{KindFits}
 use Rattle.pb_model.specs.Cells.{Cell}
 use Rattle.pb_model.specs.Equations.{view_sides}
-use Rattle.pb_eval.specs.Outputs.{numbers_in}
-use Rattle.pb_eval.specs.Rooms.{locals_among}
+use Rattle.pb_statements.specs.Outputs.{numbers_in}
+use Rattle.pb_statements.specs.Rooms.{locals_among}
 
 -- the sides of a view
 abbrev pub shape_sides : View → ℕ × ℕ

@@ -5,7 +5,7 @@ use Rattle.pb_values.specs.Cells.{Turn}
 use Rattle.pb_values.specs.declared.view.View.{View}
 use Rattle.pb_program.specs.declared.meaning.Meaning.TheVariants.{Read}
 use Rattle.pb_model.specs.Bodies.{Bindings, Store, number_of}
-use Rattle.pb_eval.specs.Shown.{number_told}
+use Rattle.pb_statements.specs.Shown.{number_told}
 use Rattle.pb_eval.specs.Terms.{TermsValue}
 use Rattle.pb_eval.specs.declared.terms.Term.{Term}
 use Rattle.pb_eval.specs.declared.terms.Term.TheVariants.{Number, Cell, Sum}

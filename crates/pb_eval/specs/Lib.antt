@@ -1,15 +1,6 @@
-pub mod Shown
-pub mod Spots
-pub mod Places
-pub mod Stored
-pub mod Rooms
-pub mod Working
-pub mod Turns
-pub mod Outputs
 pub mod Traps
 pub mod Running
 pub mod CanRun
 pub mod Formulas
 pub mod Terms
 pub mod FirstCells
-pub mod Codes

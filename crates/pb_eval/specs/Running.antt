@@ -7,21 +7,11 @@ use Rattle.pb_linear.specs.Sizes.{sizes_of}
 use Rattle.pb_linear.specs.declared.sizes.Sizes.{Sizes}
 use Rattle.pb_values.specs.Cells.{Turn}
 use Rattle.pb_values.specs.declared.view.View.{View}
-use Rattle.pb_eval.specs.Shown.{grid_told}
-use Rattle.pb_eval.specs.declared.scratch.Scratch.{Scratch}
+use Rattle.pb_statements.specs.Shown.{grid_told}
+use Rattle.pb_statements.specs.Stored.{numbers_of, outs_of}
+use Rattle.pb_statements.specs.declared.scratch.Scratch.{Scratch}
 use Rattle.pb_eval.specs.declared.run.Fault.{Fault}
 use Rattle.pb_eval.specs.declared.run.Fault.TheVariants.{Body, Told}
-
--- room for locals and for the numbers of outputs
-unfoldable pub locals_of : Scratch → ℕ
-locals_of s = length s.locals.items
-
-unfoldable pub outs_of : Scratch → ℕ
-outs_of s = length s.numbers.items
-
--- the numbers in the room for outputs
-unfoldable pub numbers_of : Scratch → List ℤ
-numbers_of s = s.numbers.items
 
 -- so many numbers, which stand in the scratch
 pub record AreLeft (n : ℕ) (s : Scratch) (these : List ℤ) : Type 0 where

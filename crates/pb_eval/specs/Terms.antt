@@ -5,7 +5,7 @@ use Rattle.pb_values.specs.declared.outcome.Kind.{Kind}
 use Rattle.pb_program.specs.declared.expression.Expr.{Expr}
 use Rattle.pb_program.specs.declared.meaning.Meaning.TheVariants.{Read}
 use Rattle.pb_model.specs.Bodies.{Bindings, Store, by_operator, if_ok, number_of, summed, view_of}
-use Rattle.pb_eval.specs.Working.{value_in, values_in}
+use Rattle.pb_statements.specs.Working.{value_in, values_in}
 use Rattle.pb_eval.specs.declared.terms.Term.{Term}
 use Rattle.pb_eval.specs.declared.terms.Term.TheVariants.{Number, Cell, Sum}
 

@@ -5,7 +5,7 @@ use Rattle.pb_values.specs.Cells.{Turn}
 use Rattle.pb_values.specs.Views.{cell_of}
 use Rattle.pb_values.specs.declared.outcome.Outcome.{Outcome}
 use Rattle.pb_values.specs.declared.view.View.{View}
-use Rattle.pb_eval.specs.Shown.{outcome_of}
+use Rattle.pb_statements.specs.Shown.{outcome_of}
 
 -- of a row
 unfoldable pub outcomes_from : Turn → View → ℕ → ℕ → List Outcome

@@ -6,16 +6,15 @@ ghost use Rattle.pb_program.specs.Trees.{bare_prog, bare_rule, bare_transform};
 ghost use Rattle.pb_program.specs.WellFormed.{KindFits};
 ghost use Rattle.pb_model.specs.Equations.{rule_gives, trap_place};
 ghost use Rattle.pb_eval.specs.CanRun.{AreReads, at_variables, IsRunnable, locals_needed, OfRule, outs_needed};
-ghost use Rattle.pb_eval.specs.Running.{Gives, locals_of, outs_of};
-ghost use Rattle.pb_eval.specs.Shown.{seen_by};
+ghost use Rattle.pb_eval.specs.Running.{Gives};
+ghost use Rattle.pb_statements.specs.Stored.{locals_of, outs_of};
+ghost use Rattle.pb_statements.specs.Shown.{seen_by};
 
 use crate::place::{body_of_rule, matrices_of, outs_of_rule, rule_at, transform_at};
-use crate::port::NamesTurn;
 use crate::run::{Fault, run};
-use crate::scratch::Scratch;
-use crate::sides::{Sides, lowest};
 use pb_linear::{SIZE_TOP, Sizes};
 use pb_program::{Prog, Rule, RuleKind, Transform};
+use pb_statements::{NamesTurn, Scratch, Sides, lowest};
 use pb_values::{CellReader, Trap, View};
 use std::marker::Brand;
 

@@ -5,9 +5,9 @@ ghost use Rattle.pb_model.specs.Bodies.{Bindings, Store, by_operator};
 ghost use Rattle.pb_eval.specs.FirstCells.{AreOfCells, IsOfCell, TellsFirst, is_of_cell};
 ghost use Rattle.pb_eval.specs.Terms.{steps_value, term_value, terms_value};
 
-use crate::port::{NamesTurn, Port};
 use crate::terms::{Term, Terms};
 use pb_numbers::{KindWord, decided, operate};
+use pb_statements::{NamesTurn, Port};
 use pb_syntax::Operator;
 use pb_values::CellReader;
 
@@ -44,11 +44,7 @@ impl Terms {
 
 /// The number of a term, over the first cells of the reads.
 #[inline(always)]
-fn cell_number<C: CellReader, N: NamesTurn>(
-    term: Term,
-    cells: &[u64],
-    port: &mut Port<C, N>,
-) -> i64
+fn cell_number<C: CellReader, N: NamesTurn>(term: Term, cells: &[u64], port: &mut Port<C, N>) -> i64
     requires term { IsOfCell (length cells.now) term }
     requires told { All (λ c. IsTrue (is_number (N.turn.outcomes c))) cells.now }
     ensures value { (b : Bindings) (st : Store) → TellsFirst N.turn cells.now b → term_value b st term ≡ Ok result }

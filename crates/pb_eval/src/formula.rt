@@ -11,22 +11,21 @@ ghost use Rattle.pb_program.specs.declared.rule.RuleKind.TheVariants as kind;
 ghost use Rattle.pb_model.specs.Equations.{own_outcome, rule_gives};
 ghost use Rattle.pb_eval.specs.CanRun.{AreReads, IsRunnable, at_variables};
 ghost use Rattle.pb_eval.specs.FirstCells.{AreOfCells, BeginAt};
-ghost use Rattle.pb_eval.specs.Formulas.{IsBlank, IsFormula};
-ghost use Rattle.pb_eval.specs.Shown.{IsTold, seen_by};
-ghost use Rattle.pb_eval.specs.Stored.{bound, store_of};
+ghost use Rattle.pb_eval.specs.Formulas.{IsFormula};
+ghost use Rattle.pb_statements.specs.Stored.{IsBlank, bound, store_of};
+ghost use Rattle.pb_statements.specs.Shown.{IsTold, seen_by};
 ghost use Rattle.pb_eval.specs.Terms.{StandFor};
-ghost use Rattle.pb_eval.specs.Working.{value_in};
+ghost use Rattle.pb_statements.specs.Working.{value_in};
 
 use crate::cells::cells_value;
+use crate::chain::chain_value;
 use crate::place::body_of_rule;
-use crate::port::{NamesTurn, Port};
-use crate::scene::Scene;
-use crate::scratch::Scratch;
 use crate::terms::Terms;
 use crate::traps::first_trap;
 use pb_linear::{SIZE_TOP, Sizes};
 use pb_numbers::KindWord;
 use pb_program::{Expr, Meaning, Rule, Stmt};
+use pb_statements::{NamesTurn, Port, Scene, Scratch};
 use pb_values::{CellReader, Outcome, Trap, View};
 use std::marker::{Brand, PhantomData};
 
@@ -47,24 +46,22 @@ pub fn formula_of(rule: &Rule) -> Option<&Expr>
     }
 }
 
-impl<'a, N: NamesTurn> Scene<'a, N> {
-    /// The value of a formula, by its terms where they are whole.
-    fn formula_value<C: CellReader>(
-        &self,
-        e: &Expr,
-        terms: &Terms,
-        scratch: &Scratch,
-        port: &mut Port<C, N>,
-    ) -> Result<i64, KindWord>
-        requires terms { StandFor e.now terms.now }
-        ensures value { result ≡ value_in (bound self.now scratch.now) (store_of scratch.now) e.now }
-        ensures same_reference { port.new.reader.ghost_name ≡ port.old.reader.ghost_name }
-    {
-        if terms.is_whole {
-            return self.terms(terms, scratch, port);
-        }
-        self.value(e, scratch, port)
+/// The value of a formula, by its terms where they are whole.
+fn formula_value<C: CellReader, N: NamesTurn>(
+    scene: &Scene<N>,
+    e: &Expr,
+    terms: &Terms,
+    scratch: &Scratch,
+    port: &mut Port<C, N>,
+) -> Result<i64, KindWord>
+    requires terms { StandFor e.now terms.now }
+    ensures value { result ≡ value_in (bound scene.now scratch.now) (store_of scratch.now) e.now }
+    ensures same_reference { port.new.reader.ghost_name ≡ port.old.reader.ghost_name }
+{
+    if terms.is_whole {
+        return chain_value(scene, terms, scratch, port);
     }
+    scene.value(e, scratch, port)
 }
 
 /// The outcome of a cell by a formula, for a reader that tells just that.
@@ -106,7 +103,7 @@ fn outcome_by<C: CellReader, N: NamesTurn>(
         views,
         of: PhantomData,
     };
-    match scene.formula_value(e, terms, scratch, &mut told) {
+    match formula_value(&scene, e, terms, scratch, &mut told) {
         Ok(n) => Outcome::Value(n),
         Err(kind) => Outcome::Trapped(Trap {
             kind: kind.kind(),

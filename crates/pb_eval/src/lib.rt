@@ -6,35 +6,19 @@
 #![tactic(auto)]
 
 mod body;
-mod cell;
 mod cells;
 mod chain;
-mod code;
-mod expression;
 mod formula;
 mod laws;
-mod laying;
-mod machine;
 mod place;
-mod port;
-mod products;
 mod room;
 mod run;
-mod scene;
-mod scratch;
-mod shown;
-mod sides;
-mod spot;
-mod statement;
-mod sums;
 mod terms;
-mod translate;
 mod traps;
-mod turns;
 
 pub use body::run_body;
 pub use formula::{formula_of, run_formula, run_terms};
 pub use laws::{a_computing_rule_can_be_run, a_rule_for_regions_means_the_same_at_each_cell};
+pub use pb_statements::Scratch;
 pub use room::{locals_room, outs_room};
-pub use scratch::Scratch;
 pub use terms::Terms;

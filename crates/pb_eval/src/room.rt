@@ -3,13 +3,13 @@ ghost use Rattle.std.specs.List.{All};
 ghost use Rattle.pb_linear.specs.Sizes.{sizes_of};
 ghost use Rattle.pb_program.specs.Trees.{bare_prog};
 ghost use Rattle.pb_eval.specs.CanRun.{at_variables, IsRunnable, locals_needed, OfRule, outs_needed};
-ghost use Rattle.pb_eval.specs.Rooms.{local_room};
-ghost use Rattle.pb_eval.specs.Working.{room_in, rooms_in};
+ghost use Rattle.pb_statements.specs.Rooms.{local_room};
+ghost use Rattle.pb_statements.specs.Working.{room_in, rooms_in};
 
 use crate::place::{body_of_rule, matrices_of, outs_of_rule, rule_at, transform_at};
-use crate::sides::view_sides;
 use pb_linear::{SIZE_TOP, Sizes};
 use pb_program::{Meaning, Prog, Stmt};
+use pb_statements::view_sides;
 
 /// How many locals there have to be for this one to be assigned.
 fn local_room(what: Meaning) -> u64
@@ -23,7 +23,7 @@ fn local_room(what: Meaning) -> u64
 
 /// How many locals a statement needs.
 #[cycle(room)]
-#[tactic(auto, using(crate::proofs::StmtLemmas::let_room, crate::proofs::StmtLemmas::assign_room, crate::proofs::StmtLemmas::for_room, crate::proofs::RoomLemmas::matrix_room, crate::proofs::RoomLemmas::call_room, crate::proofs::RoomLemmas::cell_room, crate::proofs::RoomLemmas::if_room, crate::proofs::RoomLemmas::if_else_room))]
+#[tactic(auto, using(pb_statements::proofs::StmtLemmas::let_room, pb_statements::proofs::StmtLemmas::assign_room, pb_statements::proofs::StmtLemmas::for_room, crate::proofs::RoomLemmas::matrix_room, crate::proofs::RoomLemmas::call_room, crate::proofs::RoomLemmas::cell_room, crate::proofs::RoomLemmas::if_room, crate::proofs::RoomLemmas::if_else_room))]
 fn room(s: &Stmt) -> u64
     ensures { result ≡ room_in s.now }
 {

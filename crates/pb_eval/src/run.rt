@@ -5,17 +5,16 @@ ghost use Rattle.pb_syntax.specs.declared.limits.TheConstants.{MOST_VIEWS};
 ghost use Rattle.pb_program.specs.Stmts.{bare_stmt, stmts};
 ghost use Rattle.pb_model.specs.Bodies.{left_by};
 ghost use Rattle.pb_model.specs.Equations.{first_trap};
-ghost use Rattle.pb_eval.specs.Outputs.{free_sides, numbers_in};
-ghost use Rattle.pb_eval.specs.Running.{locals_of, names_of, outs_of, Runs};
-ghost use Rattle.pb_eval.specs.Shown.{IsTold, seen_by};
-ghost use Rattle.pb_eval.specs.Working.{rooms_in};
+ghost use Rattle.pb_statements.specs.Outputs.{free_sides, numbers_in};
+ghost use Rattle.pb_eval.specs.Running.{names_of, Runs};
+ghost use Rattle.pb_statements.specs.Stored.{locals_of, outs_of};
+ghost use Rattle.pb_statements.specs.Shown.{IsTold, seen_by};
+ghost use Rattle.pb_statements.specs.Working.{rooms_in};
 
-use crate::port::{NamesTurn, Port};
-use crate::scene::Scene;
-use crate::scratch::Scratch;
 use crate::traps::first_trap;
 use pb_linear::{SIZE_TOP, Sizes};
 use pb_program::{Decl, Read, Stmt};
+use pb_statements::{NamesTurn, Port, Scene, Scratch};
 use pb_values::{CellReader, Kind, Trap, View};
 use std::marker::PhantomData;
 
@@ -60,8 +59,7 @@ pub(crate) fn run<C: CellReader, N: NamesTurn>(
     if let Some(trap) = first_trap(views, &mut told) {
         return Err(Fault::Told(trap));
     }
-    let total = scratch.lay(outs, matrices, s);
-    scratch.clear(total);
+    let total = scratch.begin(outs, matrices, s);
     let scene = Scene::<N> {
         sizes: s,
         x,

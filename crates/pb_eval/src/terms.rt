@@ -1,9 +1,9 @@
 ghost use Rattle.std.specs.Prelude.{◌≤◌};
 ghost use Rattle.std.specs.Vec.{vec_capacity};
 
-use crate::expression::named_view;
 use pb_numbers::number;
 use pb_program::{Callee, Expr, Function, Meaning};
+use pb_statements::named_view;
 use pb_syntax::Operator;
 use std::alloc::{AllocError, Global};
 use std::marker::Model;
@@ -41,7 +41,7 @@ ghost use Rattle.pb_program.specs.declared.meaning.Callee.TheVariants.{Function 
 ghost use Rattle.pb_program.specs.declared.meaning.Function.TheVariants.{Sum as OfSum};
 ghost use Rattle.pb_program.specs.declared.meaning.Meaning.TheVariants.{Read};
 ghost use Rattle.pb_model.specs.Bodies.{Bindings, Store};
-ghost use Rattle.pb_eval.specs.Working.{function_in};
+ghost use Rattle.pb_statements.specs.Working.{function_in};
 ghost use Rattle.pb_eval.specs.Terms.{IsTerm, term_value};
 
 /// The number of the read that a name stands for, if it stands for one.
@@ -75,7 +75,7 @@ fn sum_term(arguments: &[Expr]) -> Option<Term>
 }
 
 /// An expression as a term, if it is one.
-#[tactic(auto, using(crate::proofs::ExprLemmas::call_in), unfolding(crate::specs::Working::value_in, pb_model::specs::Bodies::value, crate::specs::Terms::term_value))]
+#[tactic(auto, using(pb_statements::proofs::ExprLemmas::call_in), unfolding(pb_statements::specs::Working::value_in, pb_model::specs::Bodies::value, crate::specs::Terms::term_value))]
 fn term_of(e: &Expr) -> Option<Term>
     ensures { IfSome result (IsTerm e.now) }
 {

@@ -1,10 +1,10 @@
 ghost use Rattle.std.specs.Prelude.{◌≡◌, ◌<◌};
 ghost use Rattle.std.specs.List.{All};
 ghost use Rattle.pb_model.specs.Equations.{first_trap};
-ghost use Rattle.pb_eval.specs.Shown.{IsTold};
+ghost use Rattle.pb_statements.specs.Shown.{IsTold};
 ghost use Rattle.pb_eval.specs.Traps.{outcomes_from, rows_seen, views_seen};
 
-use crate::port::{NamesTurn, Port};
+use pb_statements::{NamesTurn, Port};
 use pb_values::{CellReader, Trap, View};
 
 /// The first trap in a row of a view.

@@ -3,11 +3,11 @@ use Rattle.pb_linear.specs.Sizes.{sizes_of}
 use Rattle.pb_program.specs.Trees.{bare_rule}
 use Rattle.pb_model.specs.Equations.{trap_of}
 use Rattle.pb_eval.specs.CanRun.{at_variables}
-use Rattle.pb_eval.specs.Outputs.{free_sides}
+use Rattle.pb_statements.specs.Outputs.{free_sides}
 use Rattle.pb_eval.specs.declared.run.Fault.TheVariants.{Body, Told}
 use Rattle.pb_program.specs.Stmts.{stmts}
-use Rattle.pb_eval.specs.Rooms.{locals_among}
-use Rattle.pb_eval.specs.Working.{rooms_in}
+use Rattle.pb_statements.specs.Rooms.{locals_among}
+use Rattle.pb_statements.specs.Working.{rooms_in}
 use Rattle.pb_eval.proofs.GiveLemmas.{given_by, gives_body, gives_ok, gives_told, room_here, runs_here}
 use Rattle.pb_eval.proofs.HeldLemmas.{told_views}
 use Rattle.pb_eval.proofs.body.run_rule.Goals as goal

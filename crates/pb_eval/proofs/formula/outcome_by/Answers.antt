@@ -1,10 +1,10 @@
 use Rattle.std.proofs.Common.{◌≡◌, ◌∙◌, sym, ap, None, rules, to_z, of_z, w64}
 use Rattle.pb_values.specs.declared.outcome.Outcome.TheVariants.{Value, Trapped}
 use Rattle.pb_model.specs.Equations.{first_trap}
-use Rattle.pb_eval.specs.Shown.{seen_by}
+use Rattle.pb_statements.specs.Shown.{seen_by}
 use Rattle.pb_eval.proofs.FormulaLemmas.{formula_gives, made_fault, made_trap, made_value, trap_at, value_is}
 use Rattle.pb_eval.proofs.TrapLemmas.{seen_is}
-use Rattle.pb_eval.proofs.ViewLemmas.{seen_numbers, small_sizes}
+use Rattle.pb_statements.proofs.ViewLemmas.{seen_numbers, small_sizes}
 use Rattle.pb_eval.proofs.formula.outcome_by.Goals as goal
 
 pub returns-in-Some-clause-outcome : goal.returns-in-Some-clause-outcome

@@ -4,7 +4,7 @@ use Rattle.pb_model.specs.Bodies.{at_first}
 use Rattle.pb_eval.proofs.FirstCellLemmas.{tells_first, value_by_terms}
 use Rattle.pb_eval.proofs.FormulaLemmas.{formula_gives, made_fault, made_value, trap_at}
 use Rattle.pb_eval.proofs.HeldLemmas.{told_views}
-use Rattle.pb_eval.proofs.ViewLemmas.{seen_none}
+use Rattle.pb_statements.proofs.ViewLemmas.{seen_none}
 use Rattle.pb_eval.proofs.formula.outcome_of.Goals as goal
 
 pub returns-in-Ok-clause-outcome : goal.returns-in-Ok-clause-outcome

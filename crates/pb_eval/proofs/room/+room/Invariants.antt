@@ -1,5 +1,5 @@
 use Rattle.std.proofs.Common.{◌≡◌, drop, max}
-use Rattle.pb_eval.specs.Working.{rooms_in}
+use Rattle.pb_statements.specs.Working.{rooms_in}
 use Rattle.pb_eval.proofs.room.+room.Given as goal
 
 abbrev pub invariant-rooms-loop-next : goal.invariant-rooms-loop-next

@@ -1,8 +1,8 @@
 use Rattle.std.proofs.Common.{◌∙◌, ap}
 use Rattle.pb_program.specs.Stmts.{stmts}
 use Rattle.pb_program.specs.Trees.{bare_prog}
-use Rattle.pb_eval.specs.Rooms.{locals_among}
-use Rattle.pb_eval.specs.Working.{rooms_in}
+use Rattle.pb_statements.specs.Rooms.{locals_among}
+use Rattle.pb_statements.specs.Working.{rooms_in}
 use Rattle.pb_eval.proofs.HeldLemmas.{of_rule}
 use Rattle.pb_eval.proofs.room.locals_room.Goals as goal
 

@@ -2,9 +2,9 @@ use Rattle.std.proofs.Common.{◌≡◌, ◌<◌, ◌≤◌, ◌*◌, ◌∙◌,
 use Rattle.pb_linear.specs.Sizes.{sizes_of}
 use Rattle.pb_program.specs.Trees.{bare_prog, bare_rule}
 use Rattle.pb_program.specs.declared.view.Read.{Read}
-use Rattle.pb_eval.specs.Outputs.{free_by, free_sides}
+use Rattle.pb_statements.specs.Outputs.{free_by, free_sides}
 use Rattle.pb_eval.proofs.HeldLemmas.{of_rule}
-use Rattle.pb_eval.proofs.OutLemmas.{at_matrix, rest_next, sides_here}
+use Rattle.pb_statements.proofs.OutLemmas.{at_matrix, rest_next, sides_here}
 use Rattle.pb_eval.proofs.RoomLemmas.{most_end, most_next, needed_is, there_here}
 use Rattle.pb_eval.proofs.room.outs_room.Goals as goal
 

@@ -1,6 +1,6 @@
 use Rattle.std.proofs.Common.{◌≡◌, ◌+◌, ◌-◌, ◌^◌, ◌<◌, drop, map, min}
 use Rattle.pb_linear.specs.Sizes.{sizes_of}
-use Rattle.pb_eval.specs.Outputs.{free_sides, numbers_in}
+use Rattle.pb_statements.specs.Outputs.{free_sides, numbers_in}
 use Rattle.pb_eval.proofs.room.outs_room.Given as goal
 
 abbrev pub invariant-loop-out : goal.invariant-loop-out

@@ -1,7 +1,7 @@
 use Rattle.std.proofs.Common.{◌∙◌, sym, ap}
 use Rattle.pb_model.specs.Equations.{first_trap}
 use Rattle.pb_eval.proofs.TrapLemmas.{seen_is}
-use Rattle.pb_eval.proofs.ViewLemmas.{seen_none}
+use Rattle.pb_statements.proofs.ViewLemmas.{seen_none}
 use Rattle.pb_eval.proofs.traps.first_trap.Goals as goal
 
 pub returns-then-is_untrapped-clause-trap : goal.returns-then-is_untrapped-clause-trap

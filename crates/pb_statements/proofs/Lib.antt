@@ -1,0 +1,16 @@
+pub mod ViewLemmas
+pub mod PlaceLemmas
+pub mod SceneLemmas
+pub mod CellLemmas
+pub mod SumLemmas
+pub mod ProductLemmas
+pub mod ExprLemmas
+pub mod ArgumentLemmas
+pub mod StoreLemmas
+pub mod TurnLemmas
+pub mod StmtLemmas
+pub mod LayLemmas
+pub mod OutLemmas
+pub mod CodeLemmas
+pub mod TranslateLemmas
+pub mod MachineLemmas
