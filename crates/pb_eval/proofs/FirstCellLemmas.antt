@@ -1,5 +1,5 @@
 -- Terms over the first cells of reads.
-use Rattle.std.proofs.Common.{◌≡◌, ◌∙◌, refl, sym, ap, subst, ℕ, ◌<◌, ℤ, pos, List, [], ◌∷◌, Result, ◌+◌, ◌≤◌, length, take, get_or, Bool, true, IsTrue, Ok, arith}
+use Rattle.std.proofs.Common.{◌≡◌, ◌∙◌, sym, ap, subst, ℕ, ◌<◌, ℤ, pos, List, [], ◌∷◌, Result, ◌+◌, ◌≤◌, length, take, get_or, Bool, true, IsTrue, Ok, arith}
 use Rattle.std.specs.Prelude.{slice_index_or}
 use Rattle.std.specs.List.{All}
 use Rattle.std.proofs.lemmas.List.{get_or-map, length-map, take_all}

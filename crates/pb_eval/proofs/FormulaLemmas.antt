@@ -1,19 +1,17 @@
 -- What a formula makes of a cell.
-use Rattle.std.proofs.Common.{◌≡◌, ◌∙◌, refl, sym, ap, ℕ, ◌<◌, ℤ, pos, List, [], ◌∷◌, length, map, get_or, Option, Some, None, Ok, Err, Result}
+use Rattle.std.proofs.Common.{◌≡◌, ◌∙◌, refl, sym, ap, ℕ, ◌<◌, ℤ, List, [], ◌∷◌, length, map, Option, Some, None, Ok, Err, Result}
 use Rattle.std.specs.Prelude.{slice_index_or}
 use Rattle.std.specs.List.{All}
 use Rattle.std.proofs.lemmas.List.Elements.{All-head}
 use Rattle.pb_linear.specs.Sizes.{sizes_of}
 use Rattle.pb_linear.specs.declared.sizes.Sizes.{Sizes}
 use Rattle.pb_values.specs.Cells.{Turn}
-use Rattle.pb_values.specs.Views.{cell_of}
 use Rattle.pb_values.specs.declared.outcome.Kind.{Kind}
 use Rattle.pb_values.specs.declared.outcome.Outcome.{Outcome}
 use Rattle.pb_values.specs.declared.outcome.Outcome.TheVariants.{Value, Trapped}
 use Rattle.pb_values.specs.declared.outcome.Trap.{Trap}
 use Rattle.pb_values.specs.declared.view.View.{View}
 use Rattle.pb_program.specs.declared.expression.Expr.{Expr}
-use Rattle.pb_program.specs.declared.meaning.Meaning.TheVariants as meaning
 use Rattle.pb_program.specs.declared.rule.RuleKind.{RuleKind}
 use Rattle.pb_program.specs.declared.rule.RuleKind.TheVariants as kind
 use Rattle.pb_program.specs.declared.view.Read.{Read}
@@ -22,15 +20,14 @@ use Rattle.pb_program.specs.Forms.{DeclValue}
 use Rattle.pb_program.specs.Stmts.{stmts}
 use Rattle.pb_program.specs.Trees.{ProgRule}
 use Rattle.pb_program.specs.WellFormed.{KindFits}
-use Rattle.pb_model.specs.Bodies.{Bindings, after_all, assigned, at_first, if_ok, left_by, number_of, only_place, output, outputs_from, place_of, value, with_number}
+use Rattle.pb_model.specs.Bodies.{Bindings, after_all, assigned, at_first, if_ok, left_by, only_place, output, outputs_from, place_of, value, with_number}
 use Rattle.pb_model.specs.Equations.{after_body, first_trap, own_number, own_outcome, rule_gives, trap_of, trap_place, unless_trapped}
-use Rattle.pb_model.specs.Grids.{Grid}
 use Rattle.pb_eval.specs.CanRun.{AreReads, at_variables, IsRunnable}
 use Rattle.pb_eval.specs.Formulas.{IsFormula}
 use Rattle.pb_statements.specs.Stored.{IsBlank, bound, store_of}
 use Rattle.pb_statements.specs.Outputs.{free_sides}
 use Rattle.pb_eval.specs.Running.{names_of}
-use Rattle.pb_statements.specs.Shown.{Around, around_of, number_told, seen_by}
+use Rattle.pb_statements.specs.Shown.{around_of, seen_by}
 use Rattle.pb_statements.specs.Working.{value_in}
 use Rattle.pb_statements.specs.declared.scratch.Scratch.{Scratch}
 use Rattle.pb_eval.proofs.GiveLemmas.{rule_is}

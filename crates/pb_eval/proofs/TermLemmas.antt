@@ -1,8 +1,7 @@
 -- Terms, and the expressions that they stand for.
-use Rattle.std.proofs.Common.{◌≡◌, ◌∙◌, refl, sym, ap, ℕ, zero, suc, ◌+◌, ◌<◌, ◌≤◌, ℤ, pos, List, [], ◌∷◌, ◌++◌, length, take, get_or, drop, drop-cons, add-one, map, Option, Some, None, IfSome, Ok, Err, Result, arith}
+use Rattle.std.proofs.Common.{◌≡◌, ◌∙◌, refl, sym, ap, ℕ, zero, suc, ◌+◌, ◌<◌, ◌≤◌, ℤ, pos, List, [], ◌∷◌, ◌++◌, length, take, get_or, drop, drop-cons, add-one, Option, Some, None, IfSome, Ok, Err, Result, arith}
 use Rattle.std.proofs.lemmas.List.{take_all, take_more}
 use Rattle.pb_syntax.specs.declared.tree.expression.Operator.{Operator}
-use Rattle.pb_values.specs.Checked.{checked_result}
 use Rattle.pb_values.specs.declared.outcome.Kind.{Kind}
 use Rattle.std.specs.Global.{Vec}
 use Rattle.pb_program.specs.declared.expression.Expr.{Expr, Call}

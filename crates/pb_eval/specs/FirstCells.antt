@@ -1,5 +1,5 @@
 -- Terms that are numbers and first cells of reads alone, which need no more of the reads than the numbers of these cells.
-use Rattle.std.specs.Prelude.{◌≡◌, ℕ, ◌<◌, nat_lt, Bool, true, false, IsTrue, Ok, List, length, map, slice_index}
+use Rattle.std.specs.Prelude.{◌≡◌, ℕ, ◌<◌, nat_lt, Bool, true, false, IsTrue, List, length, map, slice_index}
 use Rattle.std.specs.List.{All}
 use Rattle.pb_values.specs.Cells.{Turn}
 use Rattle.pb_values.specs.declared.view.View.{View}

@@ -1,8 +1,8 @@
-use Rattle.std.proofs.Common.{◌≡◌, ◌∙◌, sym, ap, arith, length, map, None}
+use Rattle.std.proofs.Common.{◌≡◌, ◌∙◌, sym, ap, arith, map, None}
 use Rattle.pb_linear.specs.Sizes.{sizes_of}
 use Rattle.pb_model.specs.Equations.{first_trap}
-use Rattle.pb_statements.specs.Outputs.{end_of, free_sides}
-use Rattle.pb_statements.specs.Stored.{locals_of, outs_of, sides_of, store_of}
+use Rattle.pb_statements.specs.Outputs.{free_sides}
+use Rattle.pb_statements.specs.Stored.{locals_of, outs_of, store_of}
 use Rattle.pb_statements.specs.Shown.{seen_by}
 use Rattle.pb_statements.specs.Working.{left_in}
 use Rattle.pb_eval.proofs.RunLemmas.{finished, left_names, runs_err, runs_ok, runs_trap}

@@ -1,4 +1,4 @@
-use Rattle.std.proofs.Common.{◌≡◌, ◌∙◌, ap, sym, subst}
+use Rattle.std.proofs.Common.{◌∙◌, ap, sym}
 use Rattle.pb_eval.specs.FirstCells.{is_of_cell}
 use Rattle.pb_eval.specs.Terms.{TermsValue}
 use Rattle.pb_eval.proofs.FirstCellLemmas.{all_of, more_of}

@@ -1,6 +1,6 @@
-use Rattle.std.proofs.Common.{◌≡◌, ◌∙◌, ◌++◌, ◌∷◌, [], ap, refl, length, arith}
+use Rattle.std.proofs.Common.{◌∙◌, ◌∷◌, [], ap, refl, length, arith}
 use Rattle.std.proofs.lemmas.List.{length-append}
-use Rattle.pb_eval.proofs.TermLemmas.{steps_all, steps_begin, steps_more}
+use Rattle.pb_eval.proofs.TermLemmas.{steps_begin, steps_more}
 use Rattle.pb_eval.proofs.terms.Terms.go_on.Goals as goal
 
 pub loop-next-init : goal.loop-next-init

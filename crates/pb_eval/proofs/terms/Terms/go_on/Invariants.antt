@@ -1,4 +1,4 @@
-use Rattle.std.proofs.Common.{◌≡◌, ◌≤◌, length, take}
+use Rattle.std.proofs.Common.{◌≡◌, length, take}
 use Rattle.pb_eval.specs.Terms.{AreSteps}
 use Rattle.pb_eval.proofs.terms.Terms.go_on.Given as goal
 

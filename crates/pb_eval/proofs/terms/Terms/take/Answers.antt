@@ -1,4 +1,4 @@
-use Rattle.std.proofs.Common.{ap, sym}
+use Rattle.std.proofs.Common.{ap}
 use Rattle.pb_eval.specs.Terms.{TermsValue}
 use Rattle.pb_eval.proofs.TermLemmas.{same_terms}
 use Rattle.pb_eval.proofs.terms.Terms.take.Goals as goal

@@ -3,7 +3,6 @@ use Rattle.pb_program.specs.declared.expression.Expr.{Expr}
 use Rattle.pb_syntax.specs.declared.tree.expression.Operator.{Operator}
 use Rattle.pb_eval.specs.Terms.{AreSteps, IsTerm}
 use Rattle.pb_statements.specs.Working.{value_in}
-use Rattle.pb_eval.specs.declared.terms.Term.{Term}
 use Rattle.pb_statements.proofs.ExprLemmas.{chain_in}
 use Rattle.pb_eval.proofs.TermLemmas.{alone, together}
 use Rattle.pb_eval.proofs.terms.Terms.take_all.Goals as goal
