@@ -24,9 +24,9 @@ use Rattle.pb_region.proofs.SmallLemmas.{at_place}
 use Rattle.pb_values.specs.Views.{view_cells}
 use Rattle.pb_values.specs.declared.shape.TheConstants.{MOST_SIDE}
 use Rattle.pb_instance_trials.specs.Tables.{told_by}
-use Rattle.pb_eval.specs.Outputs.{free_by}
+use Rattle.pb_statements.specs.Outputs.{free_by}
 use Rattle.pb_eval.proofs.CutLemmas.{sides_free}
-use Rattle.pb_eval.proofs.OutLemmas.{sides_here}
+use Rattle.pb_statements.proofs.OutLemmas.{sides_here}
 use Rattle.pb_eval.proofs.RegionLemmas.{runnable}
 
 pub two : (a b c d : ℕ) → a ≡ c → b ≡ d → ◌≡◌ {A = ℕ × ℕ} (a, b) (c, d)

@@ -11,7 +11,7 @@ ghost use Rattle.pb_values.specs.declared.outcome.Outcome.{Outcome};
 ghost use Rattle.pb_values.specs.declared.shape.TheConstants.{MOST_SIDE};
 ghost use Rattle.pb_linear.specs.declared.sizes.TheConstants.{SIZE_TOP};
 ghost use Rattle.pb_eval.specs.CanRun.{AreReads, IsRunnable, OfRule, shape_sides};
-ghost use Rattle.pb_eval.specs.Running.{outs_of};
+ghost use Rattle.pb_statements.specs.Stored.{outs_of};
 ghost use Rattle.pb_instance_trials.specs.Tables.{told_by};
 
 use crate::programs::{accepted, are_small, one, program};

@@ -25,9 +25,10 @@ use Rattle.pb_model.specs.Equations.{extent, own_number, own_outcome, shown_area
 use Rattle.pb_jobs.specs.Rooms.{HasRoomIn}
 use Rattle.pb_jobs.proofs.ListLemmas.{some_at, some_same}
 use Rattle.pb_eval.specs.CanRun.{at_variables, outs_needed}
-use Rattle.pb_eval.specs.Outputs.{numbers_in}
-use Rattle.pb_eval.specs.Running.{Gives, numbers_of, outs_of}
-use Rattle.pb_eval.specs.declared.scratch.Scratch.{Scratch}
+use Rattle.pb_statements.specs.Outputs.{numbers_in}
+use Rattle.pb_eval.specs.Running.{Gives}
+use Rattle.pb_statements.specs.Stored.{numbers_of, outs_of}
+use Rattle.pb_statements.specs.declared.scratch.Scratch.{Scratch}
 use Rattle.pb_jobs.specs.Instances.{CanRunRule, InstanceValue, IsReady, given_by, of_sizes, of_transform, told_of}
 use Rattle.pb_jobs.proofs.OutLemmas.{gives_count, left_index, left_room}
 use Rattle.pb_jobs.proofs.InstanceLemmas.{out_declared, rule_fits}

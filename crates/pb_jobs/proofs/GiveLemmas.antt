@@ -24,9 +24,10 @@ use Rattle.pb_program.specs.declared.view.Read.{Read}
 use Rattle.pb_model.specs.Cells.{reads as cells_read}
 use Rattle.pb_model.specs.Equations.{own_outcome, rule_gives, shown_area, sides_by}
 use Rattle.pb_eval.specs.CanRun.{AreReads, IsRunnable, OfRule, at_variables, locals_needed, outs_needed}
-use Rattle.pb_eval.specs.Running.{Gives, locals_of, outs_of}
-use Rattle.pb_eval.specs.Shown.{outcome_of, seen_by}
-use Rattle.pb_eval.specs.declared.scratch.Scratch.{Scratch}
+use Rattle.pb_eval.specs.Running.{Gives}
+use Rattle.pb_statements.specs.Stored.{locals_of, outs_of}
+use Rattle.pb_statements.specs.Shown.{outcome_of, seen_by}
+use Rattle.pb_statements.specs.declared.scratch.Scratch.{Scratch}
 use Rattle.pb_views.specs.Layouts.{HasShortSides}
 use Rattle.pb_views.specs.Windows.{number_in}
 use Rattle.pb_views.specs.declared.window.Window.{Window}

@@ -12,9 +12,10 @@ use Rattle.pb_model.specs.Bodies.{Store, left_by, output, output_cells, outputs_
 use Rattle.pb_model.specs.Cells.{Cell}
 use Rattle.pb_model.specs.Equations.{after_body, bindings, first_trap, number_in, rule_gives, trap_of, unless_trapped, view_sides}
 use Rattle.pb_eval.specs.CanRun.{outs_needed}
-use Rattle.pb_eval.specs.Outputs.{numbers_in}
-use Rattle.pb_eval.specs.Running.{AreLeft, numbers_of, outs_of}
-use Rattle.pb_eval.specs.declared.scratch.Scratch.{Scratch}
+use Rattle.pb_statements.specs.Outputs.{numbers_in}
+use Rattle.pb_eval.specs.Running.{AreLeft}
+use Rattle.pb_statements.specs.Stored.{numbers_of, outs_of}
+use Rattle.pb_statements.specs.declared.scratch.Scratch.{Scratch}
 
 row_count : {A : Type 0} (g : ℕ → A) (b n : ℕ) → length (map g (range_with_len b n)) ≡ n
 row_count g b zero = refl

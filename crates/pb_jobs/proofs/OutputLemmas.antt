@@ -26,7 +26,7 @@ use Rattle.pb_model.specs.Cells.{Cell, natural}
 use Rattle.pb_model.specs.Equations.{extent, shown_area, sides_by, view_sides}
 use Rattle.pb_model.specs.Lawful.{has, output_holds}
 use Rattle.pb_eval.specs.CanRun.{at_variables, outs_needed}
-use Rattle.pb_eval.specs.Outputs.{numbers_in}
+use Rattle.pb_statements.specs.Outputs.{numbers_in}
 use Rattle.pb_eval.proofs.RegionLemmas.{outs_are_free, shown_same, sides_same}
 use Rattle.pb_views.specs.Layouts.{HasShortSides}
 use Rattle.pb_views.specs.Windows.{IsRect, IsWindow, shown_by}

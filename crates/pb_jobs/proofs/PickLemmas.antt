@@ -11,9 +11,10 @@ use Rattle.pb_model.specs.Cells.{Cell, natural}
 use Rattle.pb_model.specs.Equations.{in_outputs, shown_area, view_sides}
 use Rattle.pb_model.specs.Lawful.{output_holds}
 use Rattle.pb_eval.specs.CanRun.{at_variables, outs_needed}
-use Rattle.pb_eval.specs.Outputs.{numbers_in}
-use Rattle.pb_eval.specs.Running.{AreLeft, numbers_of}
-use Rattle.pb_eval.specs.declared.scratch.Scratch.{Scratch}
+use Rattle.pb_statements.specs.Outputs.{numbers_in}
+use Rattle.pb_eval.specs.Running.{AreLeft}
+use Rattle.pb_statements.specs.Stored.{numbers_of}
+use Rattle.pb_statements.specs.declared.scratch.Scratch.{Scratch}
 use Rattle.pb_jobs.specs.Instances.{InstanceValue, IsReady, of_sizes, of_transform}
 use Rattle.pb_jobs.specs.Outputs.{CanGive, LiesAt}
 use Rattle.pb_jobs.proofs.ListLemmas.{some_same}

@@ -7,7 +7,7 @@ use Rattle.pb_values.specs.Cells.{Turn}
 use Rattle.pb_values.specs.Views.{IsInside, cell_of}
 use Rattle.pb_values.specs.declared.outcome.Outcome.{Outcome}
 use Rattle.pb_values.specs.declared.view.View.{View}
-use Rattle.pb_eval.specs.declared.scratch.Scratch.{Scratch}
+use Rattle.pb_statements.specs.declared.scratch.Scratch.{Scratch}
 use Rattle.pb_taskgraph.specs.Turns.{after_all, after_some, after_write}
 use Rattle.pb_taskgraph.proofs.TurnLemmas.{slice_get-drop, some-all, some-more, some-none}
 use Rattle.pb_walk.specs.declared.stop.Stop.{Stop}

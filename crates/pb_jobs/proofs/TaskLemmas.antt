@@ -12,7 +12,7 @@ use Rattle.pb_program.specs.Trees.{ProgRule}
 use Rattle.pb_model.specs.Cells.{Cell, reads}
 use Rattle.pb_model.specs.Equations.{own_outcome, rule_gives}
 use Rattle.pb_eval.specs.CanRun.{at_variables}
-use Rattle.pb_eval.specs.Shown.{outcome_of}
+use Rattle.pb_statements.specs.Shown.{outcome_of}
 use Rattle.pb_taskgraph.specs.Plans.{Plan, outcome_at}
 use Rattle.pb_taskgraph.specs.Turns.{Begins, after_some}
 use Rattle.pb_taskgraph.proofs.TurnLemmas.{may-read, may-read_some, some-none}

@@ -17,7 +17,7 @@ use Rattle.pb_model.specs.Cells.{Cell, reads}
 use Rattle.pb_model.specs.Equations.{rule_gives}
 use Rattle.pb_eval.specs.CanRun.{at_variables}
 use Rattle.pb_eval.specs.Formulas.{IsFormula}
-use Rattle.pb_eval.specs.Shown.{outcome_of}
+use Rattle.pb_statements.specs.Shown.{outcome_of}
 use Rattle.pb_views.specs.Layouts.{HasShortSides}
 use Rattle.pb_views.specs.Windows.{AreLaid, number_in}
 use Rattle.pb_views.specs.declared.window.Window.{Window}

@@ -3,8 +3,8 @@ use Rattle.std.specs.Prelude.{◌≡◌, ℕ, ◌^◌, ◌<◌, ◌≤◌, List,
 use Rattle.std.specs.List.{All}
 use Rattle.pb_program.specs.Trees.{ProgTransform, bare_prog}
 use Rattle.pb_eval.specs.CanRun.{IsRunnable, OfRule, at_variables, locals_needed, outs_needed}
-use Rattle.pb_eval.specs.Running.{locals_of, outs_of}
-use Rattle.pb_eval.specs.declared.scratch.Scratch.{Scratch}
+use Rattle.pb_statements.specs.Stored.{locals_of, outs_of}
+use Rattle.pb_statements.specs.declared.scratch.Scratch.{Scratch}
 use Rattle.pb_jobs.specs.Instances.{InstanceValue, of_sizes}
 use Rattle.pb_jobs.specs.Jobs.{JobValue}
 use Rattle.pb_jobs.specs.declared.room.Rooms.{Rooms}

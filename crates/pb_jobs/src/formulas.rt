@@ -3,7 +3,7 @@ ghost use Rattle.pb_program.specs.Trees.{ProgRule};
 ghost use Rattle.pb_program.specs.declared.rule.RuleKind.TheVariants as kind;
 ghost use Rattle.pb_model.specs.Equations.{own_outcome};
 ghost use Rattle.pb_eval.specs.CanRun.{at_variables};
-ghost use Rattle.pb_eval.specs.Formulas.{IsBlank};
+ghost use Rattle.pb_statements.specs.Stored.{IsBlank};
 ghost use Rattle.pb_eval.specs.Terms.{StandFor};
 ghost use Rattle.pb_jobs.specs.Instances.{AreReadsOf, CanRunRule, HasFormula, IsReady, given_by, of_sizes, of_transform};
 ghost use Rattle.pb_jobs.specs.Rooms.{HasRoomIn, SameRoom};

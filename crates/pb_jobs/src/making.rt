@@ -4,7 +4,7 @@ ghost use Rattle.pb_program.specs.declared.rule.RuleKind.TheVariants as kind;
 ghost use Rattle.pb_model.specs.Equations.{own_outcome, rule_gives};
 ghost use Rattle.pb_eval.specs.CanRun.{AreReads, at_variables};
 ghost use Rattle.pb_eval.specs.Running.{Gives};
-ghost use Rattle.pb_eval.specs.Shown.{seen_by};
+ghost use Rattle.pb_statements.specs.Shown.{seen_by};
 ghost use Rattle.pb_jobs.specs.Instances.{AreReadsOf, CanRunRule, IsReady, given_by, of_sizes, of_transform};
 ghost use Rattle.pb_jobs.specs.Rooms.{HasRoomIn, SameRoom};
 

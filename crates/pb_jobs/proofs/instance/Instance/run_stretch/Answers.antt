@@ -1,6 +1,6 @@
 use Rattle.std.proofs.Common.{◌∙◌, ◌+◌, ◌<◌, ℕ, length, subst, sym, true≢false}
 use Rattle.std.specs.Prelude.{IfSome, IsTrue}
-use Rattle.pb_eval.specs.Formulas.{IsBlank}
+use Rattle.pb_statements.specs.Stored.{IsBlank}
 use Rattle.pb_eval.specs.Terms.{StandFor}
 use Rattle.pb_walk.specs.Stretches.{place_on}
 use Rattle.pb_jobs.specs.Rooms.{SameRoom}

@@ -1,6 +1,6 @@
 use Rattle.std.proofs.Common.{◌≡◌, ◌<◌, length}
 use Rattle.std.specs.Prelude.{IfSome, IsTrue}
-use Rattle.pb_eval.specs.Formulas.{IsBlank}
+use Rattle.pb_statements.specs.Stored.{IsBlank}
 use Rattle.pb_eval.specs.Terms.{StandFor}
 use Rattle.pb_taskgraph.specs.Turns.{after_some}
 use Rattle.pb_walk.specs.Stretches.{place_on}
