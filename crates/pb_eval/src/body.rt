@@ -1,9 +1,7 @@
-ghost use Rattle.std.specs.Prelude.{◌≡◌, ◌≢◌, ◌≤◌, ◌<◌, ◌^◌};
+ghost use Rattle.std.specs.Prelude.{◌≡◌, ◌≤◌, ◌<◌, ◌^◌};
 ghost use Rattle.std.specs.List.{All};
 ghost use Rattle.pb_linear.specs.Sizes.{sizes_of};
-ghost use Rattle.pb_program.specs.declared.rule.RuleKind.TheVariants as kind;
 ghost use Rattle.pb_program.specs.Trees.{bare_prog, bare_rule, bare_transform};
-ghost use Rattle.pb_program.specs.WellFormed.{KindFits};
 ghost use Rattle.pb_model.specs.Equations.{rule_gives, trap_place};
 ghost use Rattle.pb_eval.specs.CanRun.{AreReads, at_variables, IsRunnable, locals_needed, OfRule, outs_needed};
 ghost use Rattle.pb_eval.specs.Running.{Gives};

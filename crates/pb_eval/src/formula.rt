@@ -2,7 +2,7 @@ ghost use Rattle.std.specs.Prelude.{◌≡◌, ◌<◌, ◌^◌, ◌≤◌, IfNo
 ghost use Rattle.std.specs.List.{All};
 ghost use Rattle.pb_linear.specs.Sizes.{sizes_of};
 ghost use Rattle.pb_linear.specs.declared.sizes.Sizes.{Sizes as SizesValue};
-ghost use Rattle.pb_values.specs.Cells.{HasNoTrap, is_number};
+ghost use Rattle.pb_values.specs.Cells.{HasNoTrap};
 ghost use Rattle.pb_values.specs.declared.view.View.{View as Seen};
 ghost use Rattle.pb_program.specs.Forms.{DeclValue};
 ghost use Rattle.pb_program.specs.Trees.{ProgRule, bare_rule};
