@@ -5,6 +5,7 @@ pub mod RoomLemmas
 pub mod PlaceLemmas
 pub mod SpanLemmas
 pub mod AdvanceLemmas
+pub mod FirstCellLemmas
 pub mod InstanceLemmas
 pub mod GiveLemmas
 pub mod OutLemmas

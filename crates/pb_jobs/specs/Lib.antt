@@ -1,6 +1,7 @@
 pub mod Distances
 pub mod Shown
 pub mod Advances
+pub mod Lines
 pub mod Instances
 pub mod Rooms
 pub mod Outputs

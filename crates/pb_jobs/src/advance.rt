@@ -46,6 +46,19 @@ impl Advance {
         }
     }
 
+    /// The first cell of the view after the one with this first cell.
+    #[inline(always)]
+    pub(crate) fn next(&self, first: u64) -> u64
+        requires { CanMove self.now first }
+        ensures far { IsFromTo first result self.now.far }
+        ensures small { result + (self.now.shape.w * self.now.step_x + self.now.shape.h * self.now.step_y) ≤ 2 ^ 63 }
+    {
+        match self.far {
+            Distance::Up(by) => first + by,
+            Distance::Down(by) => first - by,
+        }
+    }
+
     /// The view after one that moves so: only its first cell is another.
     #[inline(always)]
     pub(crate) fn after(&self, view: &View) -> View
@@ -53,12 +66,8 @@ impl Advance {
         requires shaped { IsShaped self.now view.now }
         ensures { IsMoved self.now view.now.first result }
     {
-        let next = match self.far {
-            Distance::Up(by) => view.first + by,
-            Distance::Down(by) => view.first - by,
-        };
         View {
-            first: next,
+            first: self.next(view.first),
             step_x: view.step_x,
             step_y: view.step_y,
             shape: Shape {

@@ -1,9 +1,10 @@
-ghost use Rattle.std.specs.Prelude.{◌≡◌, ◌<◌, IfSome, Some, length, slice_get};
+ghost use Rattle.std.specs.Prelude.{◌≡◌, ◌<◌, IfSome, IsTrue, Some, is_some, length, slice_get};
 ghost use Rattle.pb_program.specs.Trees.{ProgRule};
 ghost use Rattle.pb_program.specs.declared.rule.RuleKind.TheVariants as kind;
 ghost use Rattle.pb_model.specs.Equations.{own_outcome};
 ghost use Rattle.pb_eval.specs.CanRun.{at_variables};
 ghost use Rattle.pb_statements.specs.Stored.{IsBlank};
+ghost use Rattle.pb_eval.specs.FirstCells.{AreOfCells};
 ghost use Rattle.pb_eval.specs.Terms.{StandFor};
 ghost use Rattle.pb_jobs.specs.Instances.{AreReadsOf, CanRunRule, HasFormula, IsReady, given_by, of_sizes, of_transform};
 ghost use Rattle.pb_jobs.specs.Rooms.{HasRoomIn, SameRoom};
@@ -117,4 +118,19 @@ pub(crate) fn take_terms(formula: Option<&Expr>, terms: &mut Terms)
     if let Some(e) = formula {
         terms.take(e);
     }
+}
+
+/// Whether a line can be made by the terms of its rule's formula: it is known how what the rule reads moves, there is a formula, and its
+/// terms need only the first cells of so many reads.
+pub(crate) fn needs_cells_alone(
+    moves: bool,
+    formula: Option<&Expr>,
+    terms: &Terms,
+    reads: u64,
+) -> bool
+    ensures moves { IsTrue result → IsTrue moves }
+    ensures formula { IsTrue result → IsTrue (is_some formula.entry) }
+    ensures terms { IsTrue result → AreOfCells reads terms.now }
+{
+    moves && formula.is_some() && terms.are_of_cells(reads)
 }

@@ -10,10 +10,12 @@
 
 mod advance;
 mod block;
+mod cells;
 mod formulas;
 mod instance;
 mod job;
 mod laws;
+mod lines;
 mod making;
 mod outputs;
 mod room;

@@ -17,13 +17,15 @@ use pb_views::Window;
 use pb_walk::Stretch;
 use std::alloc::{AllocError, Global};
 
-/// Room for the views of a rule's reads, and for how they move along a line.
+/// Room for the views of a rule's reads, for how they move along a line, and for their first cells.
 #[derive(Drop)]
 pub struct Shown {
     pub(crate) views: Vec<View>,
     pub(crate) advances: Vec<Advance>,
+    pub(crate) cells: Vec<u64>,
     pub(crate) ghost room: { MOST_VIEWS ≤ vec_capacity views },
     pub(crate) ghost more_room: { MOST_VIEWS ≤ vec_capacity advances },
+    pub(crate) ghost cell_room: { MOST_VIEWS ≤ vec_capacity cells },
 }
 
 /// The same view, copied field by field: a copy as a whole takes the bytes between the fields along, which is slow.
@@ -48,6 +50,7 @@ impl Shown {
         Ok(Shown {
             views: Vec::with_capacity(alloc, MOST_VIEWS)?,
             advances: Vec::with_capacity(alloc, MOST_VIEWS)?,
+            cells: Vec::with_capacity(alloc, MOST_VIEWS)?,
         })
     }
 
@@ -55,6 +58,7 @@ impl Shown {
         requires { length self.old.views.items < MOST_VIEWS }
         ensures views { self.new.views.items ≡ self.old.views.items ++ view ∷ [] }
         ensures advances { self.new.advances ≡ self.old.advances }
+        ensures cells { self.new.cells ≡ self.old.cells }
     {
         let _ = self.views.push(view);
     }
@@ -83,6 +87,7 @@ impl Shown {
         requires within { AreWithin matrices.now x y reads.now windows.now }
         ensures shown { AreShown matrices.now x y reads.now windows.now (length reads.now) self.new.views.items }
         ensures advances { self.new.advances ≡ self.old.advances }
+        ensures cells { self.new.cells ≡ self.old.cells }
     {
         self.views.clear();
         for k in 0..reads.len() {

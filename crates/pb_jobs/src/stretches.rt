@@ -4,7 +4,7 @@ ghost use Rattle.pb_jobs.specs.Instances.{IsReady};
 ghost use Rattle.pb_jobs.specs.Jobs.{AreMadeHere};
 ghost use Rattle.pb_jobs.specs.Rooms.{HasRoomIn, SameRoom};
 
-use crate::formulas::take_terms;
+use crate::formulas::{needs_cells_alone, take_terms};
 use crate::instance::Instance;
 use crate::scratch::RuleScratch;
 use pb_taskgraph::CellPort;
@@ -33,6 +33,9 @@ impl<'a> Instance<'a> {
         let moves = scratch.shown.begin(reads, windows, matrices, stretch);
         let formula = self.begin_formula(rule, &mut scratch.body);
         take_terms(formula, &mut scratch.terms);
+        if needs_cells_alone(moves, formula, &scratch.terms, reads.len() as u64) {
+            return self.run_line(rule, reads, windows, stretch, port, scratch);
+        }
         for i in 0..stretch.count {
             let (x, y) = stretch.place(i);
             let shown = &mut scratch.shown;

@@ -11,7 +11,8 @@ use Rattle.pb_taskgraph.proofs.TurnLemmas.{some-none}
 use Rattle.pb_jobs.specs.Advances.{AreAdvances, AreShaped}
 use Rattle.pb_jobs.specs.Instances.{of_sizes}
 use Rattle.pb_jobs.specs.Rooms.{IsEnough}
-use Rattle.pb_jobs.proofs.LineLemmas.{as_many_along, may_here, one_later, place_inside, within_along}
+use Rattle.pb_jobs.proofs.FirstCellLemmas.{terms_of}
+use Rattle.pb_jobs.proofs.LineLemmas.{as_many_along, few_along, may_here, one_later, place_inside, within_along}
 use Rattle.pb_jobs.proofs.instance.Instance.run_stretch.Goals as goal
 use Rattle.pb_jobs.proofs.instance.Instance.run_stretch.Goals.{then-moves, else-moves}
 
@@ -71,3 +72,15 @@ loop-i-preserved g c =
       shaped = elim c.if-moves.branch [ then-moves w ↦ subst (λ (s : RuleScratch). IsTrue c.begin-moves.result → AreShaped s.shown.advances.items s.shown.views.items) (sym w.scratch-is) (λ m. w.go_on.ensures.shaped) | else-moves w ↦ subst (λ (s : RuleScratch). IsTrue c.begin-moves.result → AreShaped s.shown.advances.items s.shown.views.items) (sym w.scratch-is) (λ m. absurd (true≢false (sym m ∙ w.if-moves.false))) ];
       terms = elim c.if-moves.branch [ then-moves w ↦ subst (λ (s : RuleScratch). IfSome c.begin_formula-formula.result (λ e. StandFor e.now s.terms)) (sym w.scratch-is) (c.loop-i.invariant.terms) | else-moves w ↦ subst (λ (s : RuleScratch). IfSome c.begin_formula-formula.result (λ e. StandFor e.now s.terms)) (sym w.scratch-is) (c.loop-i.invariant.terms) ];
     }
+
+pub run_line-requires-clause-room : goal.run_line-requires-clause-room
+run_line-requires-clause-room g c =
+    let v = c.args.self.now in
+    let room = c.begin_formula-formula.ensures.room in
+    subst (λ (r : ℕ × ℕ). IsEnough (bare_prog v.program) v.number (of_sizes v) r.0 r.1 c.args.rule) (λ j. (sym room.locals j, sym room.outs j)) c.requires.room
+
+pub run_line-requires-clause-terms : goal.run_line-requires-clause-terms
+run_line-requires-clause-terms g c = terms_of (λ e. e.now) c.args.self.now c.args.rule c.take_terms.new.terms c.begin_formula-formula.result (c.needs_cells_alone.ensures.formula c.if-needs_cells_alone.true) c.begin_formula-formula.ensures.formula c.take_terms.ensures
+
+pub show_next-requires-clause-few : goal.show_next-requires-clause-few
+show_next-requires-clause-few g c = few_along c.args.self.now c.requires.ready c.args.rule _ c.args.stretch.now c.requires.made c.reads-reads.result.now c.reads-reads.ensures c.read_windows-windows.result.now c.read_windows-windows.ensures c.views-matrices.result.now c.views-matrices.ensures c.requires.some

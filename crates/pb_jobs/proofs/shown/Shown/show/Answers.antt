@@ -36,4 +36,5 @@ loop-k-preserved c =
     record {
       shown = shown_more c.args.matrices.now c.args.x c.args.y c.args.reads.now c.args.windows.now c.loop-k.k c.loop-k.self.views.items _ r w m c.show.result c.loop-k.invariant.shown at_r at_w at_m c.show.ensures (c.put.ensures.views ∙ ap (λ v. c.loop-k.self.views.items ++ v ∷ []) c.by_fields.ensures);
       advances = c.put.ensures.advances ∙ c.loop-k.invariant.advances;
+      cells = c.put.ensures.cells ∙ c.loop-k.invariant.cells;
     }

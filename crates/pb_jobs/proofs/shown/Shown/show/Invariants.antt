@@ -6,4 +6,5 @@ abbrev pub invariant-loop-k : goal.invariant-loop-k
 invariant-loop-k l = record {
   shown : AreShown l.matrices l.x l.y l.reads l.windows l.k l.self.views.items;
   advances : l.self.advances ≡ l.initial.self.advances;
+  cells : l.self.cells ≡ l.initial.self.cells;
 }
