@@ -47,6 +47,13 @@ const LATE: &str = "transform Late from A[n] to B[n] {
 }
 ";
 
+// A sum and a difference of cells, one of which the line has just made.
+const CHAINED: &str = "transform Chained from A[n] to B[n] {
+  to (B.cell(i) b) from (A.cell(i) a, B.cell(i - 1) l) where i >= 1 { b = a - l + 7; }
+  secondary to (B.cell(i) b) from (A.cell(i) a) { b = a; }
+}
+";
+
 const DOTS: &str =
     "transform T from A[c,h], D[w,c] to B[w,h] { to (B.cell(x,y) b) from (A.row(y) r, D.column(x) s) { b = dot(r, s); } }";
 
@@ -171,6 +178,31 @@ const COMPUTED_ROWS: Rows = &[
         "run --pool serial p - Late a",
         &[("p", LATE), ("a", "matrix 2\n1 100\n")],
         Trapped("T Overflow: Late.B (1,0), by Late rule 0 (1,0)\n"),
+    ),
+    // Sums and differences of cells: small ones, some about 2^58, and one that is no number of 64 bits.
+    (
+        "run --pool serial p - Chained a",
+        &[("p", CHAINED), ("a", "matrix 3\n5 3 10\n")],
+        Done("matrix 3\n5 5 12\n"),
+    ),
+    (
+        "run --pool serial p - Chained a",
+        &[
+            ("p", CHAINED),
+            (
+                "a",
+                "matrix 3\n288230376151711744 288230376151711745 -288230376151711745\n",
+            ),
+        ],
+        Done("matrix 3\n288230376151711744 8 -288230376151711746\n"),
+    ),
+    (
+        "run --pool serial p - Chained a",
+        &[
+            ("p", CHAINED),
+            ("a", "matrix 3\n-1 9223372036854775807 1\n"),
+        ],
+        Trapped("T Overflow: Chained.B (1,0), by Chained rule 0 (1,0)\n"),
     ),
 ];
 
