@@ -1,5 +1,5 @@
 -- Terms that are numbers and first cells of reads alone, which need no more of the reads than the numbers of these cells.
-use Rattle.std.specs.Prelude.{◌≡◌, ℕ, ◌<◌, nat_lt, Bool, true, false, IsTrue, List, length, map, slice_index}
+use Rattle.std.specs.Prelude.{◌≡◌, ℕ, ◌<◌, ◌≤◌, nat_lt, Bool, true, false, IsTrue, List, length, map, slice_index}
 use Rattle.std.specs.List.{All}
 use Rattle.pb_values.specs.Cells.{Turn}
 use Rattle.pb_values.specs.declared.view.View.{View}
@@ -19,9 +19,10 @@ is_of_cell reads (Sum k) = false
 abbrev pub IsOfCell : ℕ → Term → Type 0
 IsOfCell reads t = IsTrue (is_of_cell reads t)
 
--- there are terms, and each is one of these
+-- there are terms, at most 16, and each is one of these
 pub record AreOfCells (reads : ℕ) (t : TermsValue) : Type 0 where
   pub whole : IsTrue t.is_whole
+  pub few : length t.rest ≤ 15
   pub first : IsOfCell reads t.first
   pub rest : All (λ s. IsOfCell reads s.1) t.rest
 

@@ -1,4 +1,4 @@
-ghost use Rattle.std.specs.Prelude.{◌≡◌, IsTrue, length};
+ghost use Rattle.std.specs.Prelude.{◌≡◌, ◌≤◌, ◌+◌, ◌^◌, IfSome, IsTrue, Ok, length, unsigned_abs};
 ghost use Rattle.std.specs.List.{All};
 ghost use Rattle.pb_values.specs.Cells.{is_number};
 ghost use Rattle.pb_model.specs.Bodies.{Bindings, Store, by_operator};
@@ -10,6 +10,12 @@ use pb_numbers::{KindWord, decided, operate};
 use pb_statements::{NamesTurn, Port};
 use pb_syntax::Operator;
 use pb_values::CellReader;
+
+/// The most terms after the first that are added without a look at each sum.
+const MOST_ADDED: usize = 15;
+
+/// Numbers up to this, and above its negative, may be added so: sixteen of them stay within 64 bits.
+const SMALL: i64 = 288_230_376_151_711_744;
 
 /// Whether a term is a number, or the first cell of one of so many reads.
 fn is_of_cell(term: Term, reads: u64) -> bool
@@ -23,11 +29,14 @@ fn is_of_cell(term: Term, reads: u64) -> bool
 }
 
 impl Terms {
-    /// Whether there are terms, each a number or the first cell of one of so many reads.
+    /// Whether there are terms, at most 16, each a number or the first cell of one of so many reads.
     pub fn are_of_cells(&self, reads: u64) -> bool
         ensures { IsTrue result → AreOfCells reads self.now }
     {
         if !self.is_whole {
+            return false;
+        }
+        if self.rest.len() > MOST_ADDED {
             return false;
         }
         if !is_of_cell(self.first, reads) {
@@ -100,7 +109,59 @@ fn cell_steps<C: CellReader, N: NamesTurn>(
     Ok(total)
 }
 
-/// The value of terms, over the first cells of the reads.
+/// Whether a number is from -2^58 to 2^58.
+fn is_small(n: i64) -> bool
+    ensures { IsTrue result → unsigned_abs n ≤ 2 ^ 58 }
+{
+    n <= SMALL && n >= -SMALL
+}
+
+/// What a sum or a difference of small numbers is; none for another operator.
+fn small_step(operator: Operator, total: i64, n: i64) -> Option<i64>
+    requires total { unsigned_abs total ≤ 2 ^ 62 }
+    requires small { unsigned_abs n ≤ 2 ^ 58 }
+    ensures value { IfSome result (λ m. by_operator operator total (Ok n) ≡ Ok m) }
+    ensures small { IfSome result (λ m. unsigned_abs m ≤ unsigned_abs total + 2 ^ 58) }
+{
+    match operator {
+        Operator::Plus => Some(total + n),
+        Operator::Minus => Some(total - n),
+        _ => None,
+    }
+}
+
+/// What operators make of a number and of terms, over the first cells of the reads, where they are few and small, and are only added
+/// and subtracted.
+fn small_steps<C: CellReader, N: NamesTurn>(
+    rest: &[(Operator, Term)],
+    first: i64,
+    cells: &[u64],
+    port: &mut Port<C, N>,
+) -> Option<i64>
+    requires few { length rest.now ≤ 15 }
+    requires small { unsigned_abs first ≤ 2 ^ 58 }
+    requires terms { All (λ s. IsOfCell (length cells.now) s.1) rest.now }
+    requires told { All (λ c. IsTrue (is_number (N.turn.outcomes c))) cells.now }
+    ensures value { IfSome result (λ n. (b : Bindings) (st : Store) → TellsFirst N.turn cells.now b → steps_value b st first rest.now ≡ Ok n) }
+    ensures same_reference { port.new.reader.ghost_name ≡ port.old.reader.ghost_name }
+{
+    let mut total = first;
+    for next in rest {
+        let (operator, term) = *next;
+        let n = cell_number(term, cells, port);
+        if !is_small(n) {
+            return None;
+        }
+        match small_step(operator, total, n) {
+            Some(sum) => total = sum,
+            None => return None,
+        }
+    }
+    Some(total)
+}
+
+/// The value of terms, over the first cells of the reads: without a look at each sum where they are small and only added and
+/// subtracted.
 pub(crate) fn cells_value<C: CellReader, N: NamesTurn>(
     terms: &Terms,
     cells: &[u64],
@@ -112,5 +173,10 @@ pub(crate) fn cells_value<C: CellReader, N: NamesTurn>(
     ensures same_reference { port.new.reader.ghost_name ≡ port.old.reader.ghost_name }
 {
     let first = cell_number(terms.first, cells, port);
+    if terms.adds && is_small(first) {
+        if let Some(n) = small_steps(&terms.rest, first, cells, port) {
+            return Ok(n);
+        }
+    }
     cell_steps(&terms.rest, first, cells, port)
 }

@@ -19,10 +19,12 @@ pub enum Term {
 /// How many terms there may be after the first.
 const MOST_STEPS: usize = 15;
 
-/// A formula that is a chain of terms: the first, and each further one after its operator; or room for one.
+/// A formula that is a chain of terms: the first, and each further one after its operator; or room for one. `adds` tells whether it is
+/// worth a try to take them for a sum: no operator but `+` and `-` is among them.
 #[derive(Drop)]
 pub struct Terms {
     pub(crate) is_whole: bool,
+    pub(crate) adds: bool,
     pub(crate) first: Term,
     pub(crate) rest: Vec<(Operator, Term)>,
     pub(crate) ghost room: { 15 ≤ vec_capacity rest },
@@ -101,6 +103,7 @@ impl Terms {
     pub fn new(alloc: Global) -> Result<Terms, AllocError> {
         Ok(Terms {
             is_whole: false,
+            adds: false,
             first: Term::Number(0),
             rest: Vec::with_capacity(alloc, MOST_STEPS)?,
         })
@@ -111,6 +114,9 @@ impl Terms {
         ensures rest { self.new.rest ≡ self.old.rest ++ (operator, term) ∷ [] }
         ensures first { self.new.first ≡ self.old.first }
     {
+        if !matches!(operator, Operator::Plus | Operator::Minus) {
+            self.adds = false;
+        }
         let _ = self.rest.push((operator, term));
     }
 
@@ -120,6 +126,7 @@ impl Terms {
         ensures rest { self.new.rest ≡ [] }
     {
         self.rest.clear();
+        self.adds = true;
         match term_of(e) {
             Some(term) => {
                 self.first = term;

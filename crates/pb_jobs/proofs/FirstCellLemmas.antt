@@ -11,7 +11,7 @@ use Rattle.pb_values.specs.declared.view.View.{View}
 use Rattle.pb_program.specs.declared.expression.Expr.{Expr}
 use Rattle.pb_program.specs.declared.view.Read.{Read}
 use Rattle.pb_eval.specs.FirstCells.{BeginAt}
-use Rattle.pb_eval.specs.Shown.{IsTold}
+use Rattle.pb_statements.specs.Shown.{IsTold}
 use Rattle.pb_eval.specs.Terms.{StandFor, TermsValue}
 use Rattle.pb_views.specs.declared.window.Window.{Window}
 use Rattle.pb_walk.specs.declared.stretch.Stretch.{Stretch}
