@@ -26,7 +26,7 @@ pub record AreOfCells (reads : ℕ) (t : TermsValue) : Type 0 where
   pub first : IsOfCell reads t.first
   pub rest : All (λ s. IsOfCell reads s.1) t.rest
 
--- each view shows something, and these are the numbers of their first cells
+-- each view shows something, and begins at its cell of this list
 pub record BeginAt (cells : List ℕ) (views : List View) : Type 0 where
   pub first : map (λ (v : View). v.first) views ≡ cells
   pub some : All (λ v. (0 < v.shape.w) × (0 < v.shape.h)) views

@@ -14,7 +14,7 @@ use pb_values::CellReader;
 /// The most terms after the first that are added without a look at each sum.
 const MOST_ADDED: usize = 15;
 
-/// Numbers up to this, and above its negative, may be added so: sixteen of them stay within 64 bits.
+/// Numbers from its negative up to this may be added so: sixteen of them stay within 64 bits.
 const SMALL: i64 = 288_230_376_151_711_744;
 
 /// Whether a term is a number, or the first cell of one of so many reads.
@@ -29,7 +29,7 @@ fn is_of_cell(term: Term, reads: u64) -> bool
 }
 
 impl Terms {
-    /// Whether there are terms, at most 16, each a number or the first cell of one of so many reads.
+    /// True only where there are terms, at most 16, each a number or the first cell of one of so many reads.
     pub fn are_of_cells(&self, reads: u64) -> bool
         ensures { IsTrue result → AreOfCells reads self.now }
     {
@@ -116,7 +116,7 @@ fn is_small(n: i64) -> bool
     n <= SMALL && n >= -SMALL
 }
 
-/// What a sum or a difference of small numbers is; none for another operator.
+/// What a sum or a difference of small numbers is; none tells nothing.
 fn small_step(operator: Operator, total: i64, n: i64) -> Option<i64>
     requires total { unsigned_abs total ≤ 2 ^ 62 }
     requires small { unsigned_abs n ≤ 2 ^ 58 }
@@ -131,7 +131,7 @@ fn small_step(operator: Operator, total: i64, n: i64) -> Option<i64>
 }
 
 /// What operators make of a number and of terms, over the first cells of the reads, where they are few and small, and are only added
-/// and subtracted.
+/// and subtracted; none tells nothing.
 fn small_steps<C: CellReader, N: NamesTurn>(
     rest: &[(Operator, Term)],
     first: i64,

@@ -180,8 +180,9 @@ fn outcome_of<C: CellReader, N: NamesTurn>(
     }
 }
 
-/// The outcome of a cell by rule `r` of transform `t`, a rule for single cells whose formula has these terms, numbers and first cells
-/// of reads alone, where the reads begin at these cells and no cell that is told is trapped.
+/// The outcome of a cell by rule `r` of transform `t`, a rule for single cells whose formula has these terms: at most 16, numbers and
+/// first cells of reads alone. There is one cell for each read: no read is empty, and each begins at its cell. The reader tells
+/// each of these cells, and nothing that it tells is trapped.
 pub fn run_terms<C: CellReader>(
     terms: &Terms,
     t: u32,

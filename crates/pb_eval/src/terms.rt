@@ -168,8 +168,8 @@ impl Terms {
         self.go_on(rest)
     }
 
-    /// Takes the terms of a formula in the place of those that are there. It has none that are taken where it is no chain of at most
-    /// 16 terms.
+    /// Takes the terms of a formula in the place of those that are there, if they are seen to be its terms (`is_whole`). Those of a
+    /// chain of at most 16 are.
     pub fn take(&mut self, e: &Expr)
         ensures { StandFor e.now self.new }
     {

@@ -40,7 +40,7 @@ pub record IsAdvance (w : Window) (m : View) (s : Stretch) (a : Advance) : Type 
   pub down : (i : ℕ) → i < s.count → (area_on w m s i).y.low +ℤ pos a.shape.h ≡ (area_on w m s i).y.high
   pub far : (i : ℕ) → i + 1 < s.count → IsFurther (corner_cell m (area_on w m s i)) (corner_cell m (area_on w m s (i + 1))) a.far
 
--- and so those of the first reads do
+-- and so for each of the first reads; there are as many advances
 pub record AreAdvances (matrices : List View) (s : Stretch) (reads : List Read) (windows : List Window) (n : ℕ) (advances : List Advance) : Type 0 where
   pub count : length advances ≡ n
   pub each : (k : ℕ) (r : Read) (w : Window) (a : Advance) (m : View) → slice_get reads k ≡ Some r → slice_get windows k ≡ Some w → slice_get advances k ≡ Some a → slice_get matrices r.matrix ≡ Some m → IsAdvance w m s a

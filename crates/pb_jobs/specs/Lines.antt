@@ -16,7 +16,7 @@ use Rattle.pb_jobs.specs.declared.advance.Advance.{Advance}
 abbrev pub first_cells : List View → List ℕ
 first_cells views = map (λ (v : View). v.first) views
 
--- views with the steps and the shapes of advances begin at these cells, and show what is read at a place of a stretch
+-- there are views with the steps and the shapes of advances that begin at these cells and show what is read at a place of a stretch
 pub record ShowFrom (matrices : List View) (s : Stretch) (i : ℕ) (reads : List Read) (windows : List Window) (advances : List Advance) (cells : List ℕ) : Type 0 where
   pub views : List View
   pub shown : AreShown matrices (place_on s i).x (place_on s i).y reads windows (length reads) views

@@ -120,10 +120,11 @@ pub(crate) fn take_terms(formula: Option<&Expr>, terms: &mut Terms)
     }
 }
 
-/// Whether a line can be made by the terms of its rule's formula: it is known how what the rule reads moves, there is a formula, and its
-/// terms need only the first cells of so many reads.
+/// True only where a line can be made by the terms of its rule's formula: it is known how what the rule reads moves, there is a formula,
+/// and its terms need only the first cells of so many reads; and where that is worth it, since nothing is trapped as yet.
 pub(crate) fn needs_cells_alone(
     moves: bool,
+    untrapped: bool,
     formula: Option<&Expr>,
     terms: &Terms,
     reads: u64,
@@ -132,5 +133,5 @@ pub(crate) fn needs_cells_alone(
     ensures formula { IsTrue result → IsTrue (is_some formula.entry) }
     ensures terms { IsTrue result → AreOfCells reads terms.now }
 {
-    moves && formula.is_some() && terms.are_of_cells(reads)
+    moves && untrapped && formula.is_some() && terms.are_of_cells(reads)
 }

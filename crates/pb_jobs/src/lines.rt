@@ -81,7 +81,7 @@ impl<'a> Instance<'a> {
         self.by_body(rule, x, y, &shown.views, port, &mut scratch.body)
     }
 
-    /// The outcome of a cell of a line.
+    /// The outcome of a cell of a line: by the terms, or by the body where the port doesn't say that nothing is trapped.
     fn line_cell<C: CellReader>(
         &self,
         rule: u32,

@@ -96,7 +96,8 @@ impl Shown {
         }
     }
 
-    /// Shows the views of reads at the first place of a line of some places. Whether it is known how each moves from there, and how.
+    /// Shows the views of reads at the first place of a line of some places. True only where it is known how each moves from there; then
+    /// the advances say how.
     pub(crate) fn begin(
         &mut self,
         reads: &[Read],

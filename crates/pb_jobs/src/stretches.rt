@@ -33,7 +33,14 @@ impl<'a> Instance<'a> {
         let moves = scratch.shown.begin(reads, windows, matrices, stretch);
         let formula = self.begin_formula(rule, &mut scratch.body);
         take_terms(formula, &mut scratch.terms);
-        if needs_cells_alone(moves, formula, &scratch.terms, reads.len() as u64) {
+        let untrapped = port.is_untrapped();
+        if needs_cells_alone(
+            moves,
+            untrapped,
+            formula,
+            &scratch.terms,
+            reads.len() as u64,
+        ) {
             return self.run_line(rule, reads, windows, stretch, port, scratch);
         }
         for i in 0..stretch.count {

@@ -1,7 +1,7 @@
 //! What the expressions and the statements of a body come to, in a scratch.
 //!
 //! In: a body, a scene (the sizes, the rule variables, the reads as views), a reader that tells their cells, and a scratch where
-//! the outputs are laid. Out: the numbers of the locals and of the outputs, in the scratch, or a trap. The theorem is
+//! the outputs are laid. Out: the numbers of the locals and of the outputs, in the scratch, or the kind of a trap. The theorem is
 //! `Scene::statements`: they are just what the statements leave. Of an expression, `Scene::value` gives just its value.
 #![tactic(auto)]
 

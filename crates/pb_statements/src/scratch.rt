@@ -48,8 +48,8 @@ impl Scratch {
         })
     }
 
-    /// A number of the outputs, counted from 0, output by output, each row by row; after a run that answered more numbers than
-    /// `k`.
+    /// The number at place `k` of the room for outputs. Once they are laid, the outputs' numbers stand there from 0 on, output by
+    /// output, each row by row.
     #[tactic(auto, using(crate::proofs::SceneLemmas::get_or_any), unfolding(crate::specs::Stored::numbers_of, crate::specs::Stored::outs_of))]
     pub fn out(&self, k: u64) -> i64
         requires { k < outs_of self.now }

@@ -12,7 +12,7 @@ abbrev pub filled : ℕ → List ℕ → List ℕ → ℕ → List ℕ
 filled first xs [] n = xs
 filled first xs (c ∷ cs) n = filled first (slice_set xs (c - first) n) cs n
 
--- the table names the tasks with smaller numbers at their cells
+-- the table has an entry for each cell past the input cells, and names at their cells the tasks with numbers below this one
 pub record HasOwners (g : GraphValue) (t : ℕ) (owners : List ℕ) : Type 0 where
   pub room : length owners ≡ g.cells - g.inputs
   pub owner : (u c : ℕ) → u < t → Contains (cells_of g u) c → slice_index owners (c - g.inputs) ≡ u

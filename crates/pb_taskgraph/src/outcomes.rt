@@ -4,7 +4,7 @@ use std::alloc::{AllocError, Global};
 use std::marker::Model;
 
 /// The outcomes of cells, by number. A cell takes nine bytes: its number or its trap as one word, and a flag that tells which of
-/// both it is. `any` tells whether a trap was ever put among them. Until then there are no flags, and their room isn't touched.
+/// both it is. Where `any` is false each of them is a number, and there are no flags: their room isn't touched before a trap is put.
 #[derive(Debug, Drop)]
 pub struct Outcomes {
     words: Vec<i64>,
@@ -32,7 +32,7 @@ impl Outcomes {
     ghost use Rattle.pb_taskgraph.specs.Packed.{HasNumbers};
     ghost use Rattle.pb_taskgraph.specs.Plans.{IsSmall};
 
-    /// So many outcomes, of which each is 0.
+    /// So many outcomes. Nothing is said of what they are.
     #[tactic(auto, using(crate::proofs::PackedLemmas::length_in))]
     pub fn zeros(alloc: Global, cells: u64) -> Result<Outcomes, AllocError>
         ensures { IfOk result (λ o. length o ≡ cells) }
@@ -85,7 +85,7 @@ impl Outcomes {
         self.words[cell as usize]
     }
 
-    /// The numbers of the cells from `first` to before `end`, unless one of them is trapped.
+    /// The numbers of the cells from `first` to before `end`, if it is seen that none of them is trapped; none tells nothing.
     pub fn numbers(&self, first: usize, end: usize) -> Option<&[i64]>
         requires order { first ≤ end }
         requires below { end ≤ length self.now }

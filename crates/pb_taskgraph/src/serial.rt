@@ -107,7 +107,7 @@ fn run_task<N: NamesWork, W: Work>(
     port.into_outcomes()
 }
 
-/// The outcomes before a task is run: those of the input cells, and 0 for the others.
+/// The outcomes before a task is run: those of the input cells. Of the others nothing is said.
 fn given_outcomes<W: Work>(
     alloc: Global,
     work: &W,
