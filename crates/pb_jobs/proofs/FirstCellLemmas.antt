@@ -1,8 +1,8 @@
 -- The first cells of what a rule reads, along a line.
-use Rattle.std.proofs.Common.{◌≡◌, ◌∙◌, refl, sym, ap, subst, ℕ, ◌+◌, ◌*◌, ◌<◌, ◌≤◌, ◌^◌, List, [], ◌∷◌, ◌++◌, length, map, set, take, get_or, slice_get, Option, Some, None, IfSome, IsTrue, false, true, arith}
+use Rattle.std.proofs.Common.{◌≡◌, ◌∙◌, refl, sym, ap, subst, ℕ, ◌+◌, ◌*◌, ◌<◌, ◌≤◌, ◌^◌, List, length, set, get_or, slice_get, Option, Some, None, IfSome, IsTrue, false, true, arith}
 use Rattle.std.specs.Prelude.{is_some}
 use Rattle.std.specs.List.{All}
-use Rattle.std.proofs.lemmas.List.{get_or-map, length-map, map-append, map-set, take_all, take_more}
+use Rattle.std.proofs.lemmas.List.{get_or-map, length-map, map-set}
 use Rattle.std.proofs.lemmas.Option.{slice_get-get_or}
 use Rattle.pb_values.specs.Cells.{Turn}
 use Rattle.pb_values.specs.Views.{cell_of}
@@ -15,12 +15,10 @@ use Rattle.pb_statements.specs.Shown.{IsTold}
 use Rattle.pb_eval.specs.Terms.{StandFor, TermsValue}
 use Rattle.pb_views.specs.declared.window.Window.{Window}
 use Rattle.pb_walk.specs.declared.stretch.Stretch.{Stretch}
-use Rattle.pb_walk.specs.Stretches.{place_on}
 use Rattle.pb_jobs.specs.Advances.{AreAdvances, AreShaped, AreWithinAlong}
 use Rattle.pb_jobs.specs.Distances.{CanMove, IsFromTo, IsMoved, IsShaped}
 use Rattle.pb_jobs.specs.Instances.{HasFormula, InstanceValue}
 use Rattle.pb_jobs.specs.Lines.{AreTermsOf, ShowFrom, first_cells}
-use Rattle.pb_jobs.specs.Shown.{AreShown}
 use Rattle.pb_jobs.specs.declared.advance.Advance.{Advance}
 use Rattle.pb_jobs.proofs.AdvanceLemmas.{AreHalfShown, can_go, goes_on, half_begun, half_done, half_more, moved_shaped, shaped_set}
 use Rattle.pb_jobs.proofs.ListLemmas.{some_at, some_same}
@@ -39,14 +37,8 @@ module _ (matrices : List View) (rs : List Read) (ws : List Window) (s : Stretch
   pub from_half : (i k : ℕ) (advs : List Advance) (cells : List ℕ) → length rs ≤ k → ShowHalf matrices s i k rs ws advs cells → ShowFrom matrices s (i + 1) rs ws advs cells
   from_half i k advs cells all h = record { views = h.views; shown = half_done matrices rs ws s i k h.views all h.half; shaped = h.shaped; first = h.first }
 
-  pub as_many_cells : (i : ℕ) (advs : List Advance) (cells : List ℕ) → ShowFrom matrices s i rs ws advs cells → length cells ≡ length rs
-  as_many_cells i advs cells h = ap length (sym h.first) ∙ length-map h.views (λ (v : View). v.first) ∙ h.shown.count
-
   module _ (along : AreWithinAlong matrices rs ws s) (as_many : length ws ≡ length rs) (i : ℕ) (below : i + 1 < s.count) (k : ℕ) (there : k < length rs) (advs : List Advance) (are : AreAdvances matrices s rs ws (length rs) advs) (cells : List ℕ) (h : ShowHalf matrices s i k rs ws advs cells)
       (a : Advance) (at_a : slice_get advs k ≡ Some a) (d : ℕ) where
-    pub cell_there : k < length cells
-    cell_there = omega (arith, ap length (sym h.first), length-map h.views (λ (v : View). v.first), h.half.count, there)
-
     abbrev view : (v : View) × (slice_get h.views k ≡ Some v)
     view = some_at h.views k (omega (arith, h.half.count, there))
 
@@ -96,14 +88,6 @@ told_first turn cells views h told k d below =
     let start : cell_of (get_or views k v.0) 0 0 ≡ get_or cells k d = omega (arith, sym (get_or-map (λ (u : View). u.first) views k v.0 d there) ∙ ap (λ (l : List ℕ). get_or l k d) h.first) in
     let some = h.some k v.0 there in
     subst (λ n. IsTrue (is_some (turn.outcomes n))) start ((told k v.0 there).told 0 0 some.0 some.1)
-
--- ---- while they are noted
-pub first_more : (views : List View) (k : ℕ) (d : View) (old new : List ℕ) → k < length views → old ≡ first_cells (take k views) → new ≡ old ++ (get_or views k d).first ∷ [] → new ≡ first_cells (take (k + 1) views)
-first_more views k d old new below before e =
-    e ∙ ap (λ l. l ++ (get_or views k d).first ∷ []) before ∙ sym (map-append (λ (v : View). v.first) (take k views) (get_or views k d ∷ [])) ∙ ap first_cells (sym (take_more views k d below))
-
-pub first_whole : (views : List View) (k : ℕ) (cells : List ℕ) → length views ≤ k → cells ≡ first_cells (take k views) → cells ≡ first_cells views
-first_whole views k cells past e = e ∙ ap first_cells (take_all k views past)
 
 -- ---- the terms of a formula, if there is one
 pub terms_of : {A : Type 0} (value : A → Expr) (v : InstanceValue) (k : ℕ) (t : TermsValue) (o : Option A) → IsTrue (is_some o) → IfSome o (λ e. HasFormula v k (value e)) → IfSome o (λ e. StandFor (value e) t) → AreTermsOf v k t

@@ -1,4 +1,4 @@
-use Rattle.std.proofs.Common.{◌≡◌, ◌∙◌, ℕ, List, length, refl, subst, sym}
+use Rattle.std.proofs.Common.{◌∙◌, ℕ, List, length, refl, subst, sym}
 use Rattle.pb_values.specs.declared.view.View.{View}
 use Rattle.pb_program.specs.Trees.{bare_prog}
 use Rattle.pb_taskgraph.proofs.TurnLemmas.{some-none}

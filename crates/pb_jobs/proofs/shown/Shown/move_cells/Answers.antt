@@ -1,4 +1,4 @@
-use Rattle.std.proofs.Common.{◌≡◌, ◌∙◌, ◌<◌, ◌+◌, length, refl, sym, subst, slice_get, Some, arith}
+use Rattle.std.proofs.Common.{◌≡◌, length, refl, sym, subst, slice_get, Some, arith}
 use Rattle.pb_jobs.specs.Advances.{AreAdvances}
 use Rattle.pb_jobs.specs.Distances.{CanMove, IsFromTo}
 use Rattle.pb_jobs.proofs.AdvanceLemmas.{index_there}
