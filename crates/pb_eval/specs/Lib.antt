@@ -4,3 +4,4 @@ pub mod CanRun
 pub mod Formulas
 pub mod Terms
 pub mod FirstCells
+pub mod Moving

@@ -5,6 +5,7 @@ ghost use Rattle.pb_model.specs.Bodies.{Bindings, Store, by_operator};
 ghost use Rattle.pb_eval.specs.FirstCells.{AreOfCells, IsOfCell, TellsFirst, is_of_cell};
 ghost use Rattle.pb_eval.specs.Terms.{steps_value, term_value, terms_value};
 
+use crate::moving::Along;
 use crate::terms::{Term, Terms};
 use pb_numbers::{KindWord, decided, operate};
 use pb_statements::{NamesTurn, Port};
@@ -53,7 +54,11 @@ impl Terms {
 
 /// The number of a term, over the first cells of the reads.
 #[inline(always)]
-fn cell_number<C: CellReader, N: NamesTurn>(term: Term, cells: &[u64], port: &mut Port<C, N>) -> i64
+fn cell_number<C: CellReader, N: NamesTurn>(
+    term: Term,
+    cells: &Along<'_>,
+    port: &mut Port<C, N>,
+) -> i64
     requires term { IsOfCell (length cells.now) term }
     requires told { All (λ c. IsTrue (is_number (N.turn.outcomes c))) cells.now }
     ensures value { (b : Bindings) (st : Store) → TellsFirst N.turn cells.now b → term_value b st term ≡ Ok result }
@@ -61,7 +66,7 @@ fn cell_number<C: CellReader, N: NamesTurn>(term: Term, cells: &[u64], port: &mu
 {
     match term {
         Term::Number(n) => n,
-        Term::Cell(k) => port.number(cells[k as usize]),
+        Term::Cell(k) => port.number(cells.cell(k)),
         Term::Sum(_) => 0,
     }
 }
@@ -71,7 +76,7 @@ fn cell_number<C: CellReader, N: NamesTurn>(term: Term, cells: &[u64], port: &mu
 fn cell_step<C: CellReader, N: NamesTurn>(
     next: &(Operator, Term),
     left: i64,
-    cells: &[u64],
+    cells: &Along<'_>,
     port: &mut Port<C, N>,
 ) -> Result<i64, KindWord>
     requires term { IsOfCell (length cells.now) next.now.1 }
@@ -91,7 +96,7 @@ fn cell_step<C: CellReader, N: NamesTurn>(
 fn cell_steps<C: CellReader, N: NamesTurn>(
     rest: &[(Operator, Term)],
     first: i64,
-    cells: &[u64],
+    cells: &Along<'_>,
     port: &mut Port<C, N>,
 ) -> Result<i64, KindWord>
     requires terms { All (λ s. IsOfCell (length cells.now) s.1) rest.now }
@@ -135,7 +140,7 @@ fn small_step(operator: Operator, total: i64, n: i64) -> Option<i64>
 fn small_steps<C: CellReader, N: NamesTurn>(
     rest: &[(Operator, Term)],
     first: i64,
-    cells: &[u64],
+    cells: &Along<'_>,
     port: &mut Port<C, N>,
 ) -> Option<i64>
     requires few { length rest.now ≤ 15 }
@@ -164,7 +169,7 @@ fn small_steps<C: CellReader, N: NamesTurn>(
 /// subtracted.
 pub(crate) fn cells_value<C: CellReader, N: NamesTurn>(
     terms: &Terms,
-    cells: &[u64],
+    cells: &Along<'_>,
     port: &mut Port<C, N>,
 ) -> Result<i64, KindWord>
     requires terms { AreOfCells (length cells.now) terms.now }

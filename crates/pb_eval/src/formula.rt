@@ -19,6 +19,7 @@ ghost use Rattle.pb_statements.specs.Working.{value_in};
 
 use crate::cells::cells_value;
 use crate::chain::chain_value;
+use crate::moving::Along;
 use crate::place::body_of_rule;
 use crate::terms::Terms;
 use crate::traps::first_trap;
@@ -152,7 +153,7 @@ fn outcome_of<C: CellReader, N: NamesTurn>(
     r: u32,
     x: u64,
     y: u64,
-    cells: &[u64],
+    cells: &Along<'_>,
     port: &mut C,
 ) -> Outcome
     requires turn { C.turn port.old ≡ N.turn }
@@ -189,7 +190,7 @@ pub fn run_terms<C: CellReader>(
     r: u32,
     x: u64,
     y: u64,
-    cells: &[u64],
+    cells: &Along<'_>,
     port: &mut C,
 ) -> Outcome
     requires untrapped { HasNoTrap (C.turn port.old) }

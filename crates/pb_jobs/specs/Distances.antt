@@ -1,5 +1,5 @@
 -- How far it is from one cell to another, and how a view moves.
-use Rattle.std.specs.Prelude.{◌≡◌, ℕ, ◌+◌, ◌*◌, ◌<◌, ◌≤◌, ◌^◌}
+use Rattle.std.specs.Prelude.{◌≡◌, ℕ, ◌+◌, ◌*◌, ◌<◌, ◌≤◌, ◌^◌, ◌%◌}
 use Rattle.pb_values.specs.Views.{cell_of}
 use Rattle.pb_values.specs.declared.rect.Rect.{Rect}
 use Rattle.pb_values.specs.declared.view.View.{View}
@@ -10,6 +10,11 @@ use Rattle.pb_jobs.specs.declared.advance.Distance.TheVariants.{Up, Down}
 abbrev pub IsFromTo : ℕ → ℕ → Distance → Type 0
 IsFromTo here next (Up by) = here + by ≡ next
 IsFromTo here next (Down by) = next + by ≡ here
+
+-- and so many to add, modulo 2^64
+abbrev pub IsStep : Distance → ℕ → Type 0
+IsStep (Up by) step = step ≡ by
+IsStep (Down by) step = (step + by) % 2 ^ 64 ≡ 0
 
 -- there is a view after the one with this first cell: it goes so far, and ends among the cells of a run
 pub record CanMove (a : Advance) (first : ℕ) : Type 0 where

@@ -4,7 +4,7 @@ ghost use Rattle.pb_region.specs.Within.{IsWithin};
 ghost use Rattle.pb_views.specs.Windows.{IsRect, shown_by};
 ghost use Rattle.pb_walk.specs.Stretches.{place_on};
 ghost use Rattle.pb_jobs.specs.Advances.{IsAdvance, IsWindowOn};
-ghost use Rattle.pb_jobs.specs.Distances.{CanMove, IsBetween, IsFromTo, IsMoved, IsShaped};
+ghost use Rattle.pb_jobs.specs.Distances.{CanMove, IsBetween, IsFromTo, IsMoved, IsShaped, IsStep};
 
 use pb_program::ReadView;
 use pb_values::{Rect, Shape, View};
@@ -46,16 +46,13 @@ impl Advance {
         }
     }
 
-    /// The first cell of the view after the one with this first cell.
-    #[inline(always)]
-    pub(crate) fn next(&self, first: u64) -> u64
-        requires { CanMove self.now first }
-        ensures far { IsFromTo first result self.now.far }
-        ensures small { result + (self.now.shape.w * self.now.step_x + self.now.shape.h * self.now.step_y) ≤ 2 ^ 63 }
+    /// How much further the first cell of each next view is, modulo 2^64.
+    pub(crate) fn step(&self) -> u64
+        ensures { IsStep self.now.far result }
     {
         match self.far {
-            Distance::Up(by) => first + by,
-            Distance::Down(by) => first - by,
+            Distance::Up(by) => by,
+            Distance::Down(by) => by.wrapping_neg(),
         }
     }
 
@@ -66,8 +63,12 @@ impl Advance {
         requires shaped { IsShaped self.now view.now }
         ensures { IsMoved self.now view.now.first result }
     {
+        let next = match self.far {
+            Distance::Up(by) => view.first + by,
+            Distance::Down(by) => view.first - by,
+        };
         View {
-            first: self.next(view.first),
+            first: next,
             step_x: view.step_x,
             step_y: view.step_y,
             shape: Shape {

@@ -6,6 +6,7 @@ ghost use Rattle.pb_model.specs.Equations.{own_outcome};
 ghost use Rattle.pb_taskgraph.specs.Turns.{after_some};
 ghost use Rattle.pb_eval.specs.CanRun.{at_variables};
 ghost use Rattle.pb_eval.specs.FirstCells.{AreOfCells};
+ghost use Rattle.pb_eval.specs.Moving.{cells_at};
 ghost use Rattle.pb_jobs.specs.Advances.{AreAdvances, AreShaped};
 ghost use Rattle.pb_jobs.specs.Instances.{CanRunRule, IsReady, given_by, of_sizes, of_transform};
 ghost use Rattle.pb_jobs.specs.Jobs.{AreMadeHere};
@@ -16,7 +17,7 @@ ghost use Rattle.pb_walk.specs.Stretches.{place_on};
 
 use crate::instance::Instance;
 use crate::scratch::RuleScratch;
-use pb_eval::{Terms, run_terms};
+use pb_eval::{Along, Terms, run_terms};
 use pb_program::Read;
 use pb_taskgraph::CellPort;
 use pb_values::{CellReader, Outcome};
@@ -32,7 +33,7 @@ impl<'a> Instance<'a> {
         rule: u32,
         x: u64,
         y: u64,
-        cells: &[u64],
+        cells: &Along<'_>,
         port: &mut C,
     ) -> Outcome
         requires ready { IsReady self.now }
@@ -81,10 +82,12 @@ impl<'a> Instance<'a> {
         self.by_body(rule, x, y, &shown.views, port, &mut scratch.body)
     }
 
-    /// The outcome of a cell of a line: by the terms, or by the body where the port doesn't say that nothing is trapped.
+    /// The outcome of the cell at a place of a line, which is counted from 0: by the terms, or by the body where the port doesn't say that
+    /// nothing is trapped.
     fn line_cell<C: CellReader>(
         &self,
         rule: u32,
+        place: u64,
         x: u64,
         y: u64,
         port: &mut C,
@@ -96,7 +99,7 @@ impl<'a> Instance<'a> {
         requires room { HasRoomIn self.now rule scratch.old.body }
         requires terms { AreTermsOf self.now rule scratch.old.terms }
         requires of_cells { AreOfCells (length scratch.old.shown.cells.items) scratch.old.terms }
-        requires from { ReadFrom self.now rule x y scratch.old.shown.cells.items }
+        requires from { ReadFrom self.now rule x y (cells_at scratch.old.shown.cells.items place) }
         ensures outcome { (r : ProgRule) → slice_get (of_transform self.now).rules rule ≡ Some r
             → result ≡ own_outcome (of_transform self.now).matrices (of_sizes self.now) (at_variables x y) r (given_by self.now rule r x y (C.turn port.old)) }
         ensures room { SameRoom scratch.old.body scratch.new.body }
@@ -106,7 +109,12 @@ impl<'a> Instance<'a> {
         ensures cells { scratch.new.shown.cells ≡ scratch.old.shown.cells }
     {
         if port.is_untrapped() {
-            return self.by_cells(&scratch.terms, rule, x, y, &scratch.shown.cells, port);
+            let shown = &scratch.shown;
+            let cells = Along {
+                cells: &shown.cells,
+                place,
+            };
+            return self.by_cells(&scratch.terms, rule, x, y, &cells, port);
         }
         self.by_shown(rule, x, y, port, scratch)
     }
@@ -142,11 +150,8 @@ impl<'a> Instance<'a> {
         for i in 0..stretch.count {
             let (x, y) = stretch.place(i);
             let cell = view.place(x, y);
-            let outcome = self.line_cell(rule, x, y, port, scratch);
+            let outcome = self.line_cell(rule, i, x, y, port, scratch);
             port.write(cell, outcome);
-            scratch
-                .shown
-                .move_cells(reads, windows, matrices, stretch, i);
         }
     }
 }

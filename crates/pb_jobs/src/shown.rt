@@ -10,6 +10,7 @@ ghost use Rattle.pb_jobs.specs.declared.advance.Advance.{Advance};
 ghost use Rattle.pb_jobs.specs.Shown.{AreShown, AreWithin, IsShownFor};
 
 use crate::advance::{Advance, advance_along};
+use pb_eval::Moving;
 use pb_program::Read;
 use pb_syntax::MOST_VIEWS;
 use pb_values::{Shape, View};
@@ -22,7 +23,7 @@ use std::alloc::{AllocError, Global};
 pub struct Shown {
     pub(crate) views: Vec<View>,
     pub(crate) advances: Vec<Advance>,
-    pub(crate) cells: Vec<u64>,
+    pub(crate) cells: Vec<Moving>,
     pub(crate) ghost room: { MOST_VIEWS ≤ vec_capacity views },
     pub(crate) ghost more_room: { MOST_VIEWS ≤ vec_capacity advances },
     pub(crate) ghost cell_room: { MOST_VIEWS ≤ vec_capacity cells },

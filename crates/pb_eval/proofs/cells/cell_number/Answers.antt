@@ -1,4 +1,6 @@
-use Rattle.std.proofs.Common.{◌≡◌, length, rules, to_z, of_z, w64}
+use Rattle.std.proofs.Common.{◌≡◌, ◌∙◌, ap, length, subst, sym, IsTrue, rules, to_z, of_z, w64}
+use Rattle.pb_values.specs.Cells.{is_number}
+use Rattle.pb_statements.specs.Shown.{number_told}
 use Rattle.pb_eval.proofs.FirstCellLemmas.{cell_below, cell_is, number_is}
 use Rattle.pb_eval.proofs.cells.cell_number.Goals as goal
 
@@ -10,4 +12,11 @@ returns-in-Number-clause-value g c b st tells =
 pub returns-in-Cell-clause-value : goal.returns-in-Cell-clause-value
 returns-in-Cell-clause-value g c b st tells =
     let same : to_z w64 (of_z w64 c.number.result) ≡ c.number.result = search rules in
-    cell_is b st g.N.NamesTurn.turn c.args.cells.now tells c.args.term c.in-Cell.k _ c.number.result _ c.in-Cell.is (cell_below (length c.args.cells.now) c.args.term c.in-Cell.k c.in-Cell.is c.requires.term) c.number.ensures.number same
+    cell_is b st g.N.NamesTurn.turn c.args.cells.now tells c.args.term c.in-Cell.k 0 c.number.result _ c.in-Cell.is (cell_below (length c.args.cells.now) c.args.term c.in-Cell.k c.in-Cell.is c.requires.term) (c.number.ensures.number ∙ ap (number_told g.N.NamesTurn.turn) c.cell.ensures) same
+
+pub cell-requires : goal.cell-requires
+cell-requires g c = cell_below (length c.args.cells.now) c.args.term c.in-Cell.k c.in-Cell.is c.requires.term
+
+pub number-requires : goal.number-requires
+number-requires g c =
+    subst (λ n. IsTrue (is_number (g.N.NamesTurn.turn.outcomes n))) (sym c.cell.ensures) (c.requires.told c.in-Cell.k 0 (cell_below (length c.args.cells.now) c.args.term c.in-Cell.k c.in-Cell.is c.requires.term))
