@@ -10,3 +10,4 @@ pub mod RoomLemmas
 pub mod FormulaLemmas
 pub mod FirstCellLemmas
 pub mod TermLemmas
+pub mod SumLemmas

@@ -1,5 +1,6 @@
 pub mod Traps
 pub mod Running
+pub mod Sums
 pub mod CanRun
 pub mod Formulas
 pub mod Terms

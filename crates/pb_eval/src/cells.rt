@@ -1,4 +1,4 @@
-ghost use Rattle.std.specs.Prelude.{◌≡◌, ◌≤◌, ◌+◌, ◌^◌, IfSome, IsTrue, Ok, length, unsigned_abs};
+ghost use Rattle.std.specs.Prelude.{◌≡◌, IsTrue, Ok, length};
 ghost use Rattle.std.specs.List.{All};
 ghost use Rattle.pb_values.specs.Cells.{is_number};
 ghost use Rattle.pb_model.specs.Bodies.{Bindings, Store, by_operator};
@@ -12,11 +12,8 @@ use pb_statements::{NamesTurn, Port};
 use pb_syntax::Operator;
 use pb_values::CellReader;
 
-/// The most terms after the first that are added without a look at each sum.
+/// The most terms after the first.
 const MOST_ADDED: usize = 15;
-
-/// Numbers from its negative up to this may be added so: sixteen of them stay within 64 bits.
-const SMALL: i64 = 288_230_376_151_711_744;
 
 /// Whether a term is a number, or the first cell of one of so many reads.
 fn is_of_cell(term: Term, reads: u64) -> bool
@@ -114,59 +111,7 @@ fn cell_steps<C: CellReader, N: NamesTurn>(
     Ok(total)
 }
 
-/// Whether a number is from -2^58 to 2^58.
-fn is_small(n: i64) -> bool
-    ensures { IsTrue result → unsigned_abs n ≤ 2 ^ 58 }
-{
-    n <= SMALL && n >= -SMALL
-}
-
-/// What a sum or a difference of small numbers is; none tells nothing.
-fn small_step(operator: Operator, total: i64, n: i64) -> Option<i64>
-    requires total { unsigned_abs total ≤ 2 ^ 62 }
-    requires small { unsigned_abs n ≤ 2 ^ 58 }
-    ensures value { IfSome result (λ m. by_operator operator total (Ok n) ≡ Ok m) }
-    ensures small { IfSome result (λ m. unsigned_abs m ≤ unsigned_abs total + 2 ^ 58) }
-{
-    match operator {
-        Operator::Plus => Some(total + n),
-        Operator::Minus => Some(total - n),
-        _ => None,
-    }
-}
-
-/// What operators make of a number and of terms, over the first cells of the reads, where they are few and small, and are only added
-/// and subtracted; none tells nothing.
-fn small_steps<C: CellReader, N: NamesTurn>(
-    rest: &[(Operator, Term)],
-    first: i64,
-    cells: &Along<'_>,
-    port: &mut Port<C, N>,
-) -> Option<i64>
-    requires few { length rest.now ≤ 15 }
-    requires small { unsigned_abs first ≤ 2 ^ 58 }
-    requires terms { All (λ s. IsOfCell (length cells.now) s.1) rest.now }
-    requires told { All (λ c. IsTrue (is_number (N.turn.outcomes c))) cells.now }
-    ensures value { IfSome result (λ n. (b : Bindings) (st : Store) → TellsFirst N.turn cells.now b → steps_value b st first rest.now ≡ Ok n) }
-    ensures same_reference { port.new.reader.ghost_name ≡ port.old.reader.ghost_name }
-{
-    let mut total = first;
-    for next in rest {
-        let (operator, term) = *next;
-        let n = cell_number(term, cells, port);
-        if !is_small(n) {
-            return None;
-        }
-        match small_step(operator, total, n) {
-            Some(sum) => total = sum,
-            None => return None,
-        }
-    }
-    Some(total)
-}
-
-/// The value of terms, over the first cells of the reads: without a look at each sum where they are small and only added and
-/// subtracted.
+/// The value of terms, over the first cells of the reads.
 pub(crate) fn cells_value<C: CellReader, N: NamesTurn>(
     terms: &Terms,
     cells: &Along<'_>,
@@ -178,10 +123,5 @@ pub(crate) fn cells_value<C: CellReader, N: NamesTurn>(
     ensures same_reference { port.new.reader.ghost_name ≡ port.old.reader.ghost_name }
 {
     let first = cell_number(terms.first, cells, port);
-    if terms.adds && is_small(first) {
-        if let Some(n) = small_steps(&terms.rest, first, cells, port) {
-            return Ok(n);
-        }
-    }
     cell_steps(&terms.rest, first, cells, port)
 }

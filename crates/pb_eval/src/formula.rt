@@ -1,4 +1,4 @@
-ghost use Rattle.std.specs.Prelude.{◌≡◌, ◌<◌, ◌^◌, ◌≤◌, IfNone, IfSome, IsTrue, List, is_some, length};
+ghost use Rattle.std.specs.Prelude.{◌≡◌, ◌<◌, ◌^◌, ◌≤◌, IfNone, IfSome, IsTrue, List, is_some, length, ℕ};
 ghost use Rattle.std.specs.List.{All};
 ghost use Rattle.pb_linear.specs.Sizes.{sizes_of};
 ghost use Rattle.pb_linear.specs.declared.sizes.Sizes.{Sizes as SizesValue};
@@ -14,13 +14,18 @@ ghost use Rattle.pb_eval.specs.FirstCells.{AreOfCells, BeginAt};
 ghost use Rattle.pb_eval.specs.Formulas.{IsFormula};
 ghost use Rattle.pb_statements.specs.Stored.{IsBlank, bound, store_of};
 ghost use Rattle.pb_statements.specs.Shown.{IsTold, seen_by};
-ghost use Rattle.pb_eval.specs.Terms.{StandFor};
+ghost use Rattle.pb_eval.specs.Moving.{cells_at};
+ghost use Rattle.pb_eval.specs.Sums.{IsSumOf, IsToldAt};
+ghost use Rattle.pb_eval.specs.Terms.{StandFor, TermsValue};
+ghost use Rattle.pb_eval.specs.declared.moving.Moving.{Moving as Moves};
+ghost use Rattle.pb_values.specs.declared.outcome.Outcome.TheVariants.{Value};
 ghost use Rattle.pb_statements.specs.Working.{value_in};
 
 use crate::cells::cells_value;
 use crate::chain::chain_value;
 use crate::moving::Along;
 use crate::place::body_of_rule;
+use crate::sum::{Sum, small_sum};
 use crate::terms::Terms;
 use crate::traps::first_trap;
 use pb_linear::{SIZE_TOP, Sizes};
@@ -202,4 +207,36 @@ pub fn run_terms<C: CellReader>(
     ensures stays { C.turn port.new ≡ C.turn port.old }
 {
     outcome_of::<C, Brand>(terms, t, r, x, y, cells, port)
+}
+
+/// The sum at a place of a line, for a reader that tells just that, and no trap.
+fn sum_at<C: CellReader, N: NamesTurn>(sum: &Sum, place: u64, port: &mut C) -> Option<i64>
+    requires turn { C.turn port.old ≡ N.turn }
+    requires untrapped { HasNoTrap N.turn }
+    requires few { length sum.now.rest ≤ 15 }
+    requires told { IsToldAt N.turn place sum.now }
+    ensures outcome { IfSome result (λ n. (t r x y : ℕ) (ms : List Moves) (terms : TermsValue) (matrices : List DeclValue) (sizes : SizesValue) (rule : ProgRule) (e : Held) (views : List Seen) → IsSumOf ms terms sum.now → IsTrue terms.is_whole
+        → IsRunnable matrices rule → rule.kind ≡ kind.Cell → IsFormula rule e → StandFor e terms → BeginAt (cells_at ms place) views → AreReads matrices (sizes_of sizes) (at_variables x y) rule views N.turn
+        → Value n ≡ own_outcome matrices (sizes_of sizes) (at_variables x y) rule (rule_gives matrices (sizes_of sizes) (at_variables x y) t r rule (seen_by N.turn views))) }
+    ensures stays { C.turn port.new ≡ C.turn port.old }
+{
+    let mut told = Port::<C, N> {
+        reader: port,
+        of: PhantomData,
+    };
+    small_sum(sum, place, &mut told)
+}
+
+/// The number of a cell by a rule for single cells, where a sum stands in for the terms of its formula, and its reads begin at the cells of
+/// the sum at a place of the line; none tells nothing. The reader tells each of these cells, and nothing that it tells is trapped.
+pub fn run_sum<C: CellReader>(sum: &Sum, place: u64, port: &mut C) -> Option<i64>
+    requires untrapped { HasNoTrap (C.turn port.old) }
+    requires few { length sum.now.rest ≤ 15 }
+    requires told { IsToldAt (C.turn port.old) place sum.now }
+    ensures outcome { IfSome result (λ n. (t r x y : ℕ) (ms : List Moves) (terms : TermsValue) (matrices : List DeclValue) (sizes : SizesValue) (rule : ProgRule) (e : Held) (views : List Seen) → IsSumOf ms terms sum.now → IsTrue terms.is_whole
+        → IsRunnable matrices rule → rule.kind ≡ kind.Cell → IsFormula rule e → StandFor e terms → BeginAt (cells_at ms place) views → AreReads matrices (sizes_of sizes) (at_variables x y) rule views (C.turn port.old)
+        → Value n ≡ own_outcome matrices (sizes_of sizes) (at_variables x y) rule (rule_gives matrices (sizes_of sizes) (at_variables x y) t r rule (seen_by (C.turn port.old) views))) }
+    ensures stays { C.turn port.new ≡ C.turn port.old }
+{
+    sum_at::<C, Brand>(sum, place, port)
 }

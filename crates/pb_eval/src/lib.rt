@@ -14,13 +14,15 @@ mod moving;
 mod place;
 mod room;
 mod run;
+mod sum;
 mod terms;
 mod traps;
 
 pub use body::run_body;
-pub use formula::{formula_of, run_formula, run_terms};
+pub use formula::{formula_of, run_formula, run_sum, run_terms};
 pub use laws::{a_computing_rule_can_be_run, a_rule_for_regions_means_the_same_at_each_cell};
 pub use moving::{Along, Moving};
 pub use pb_statements::Scratch;
 pub use room::{locals_room, outs_room};
+pub use sum::Sum;
 pub use terms::Terms;

@@ -14,6 +14,19 @@ pub struct Along<'a> {
     pub place: u64,
 }
 
+impl Moving {
+    ghost use Rattle.std.specs.Prelude.{◌≡◌};
+    ghost use Rattle.pb_eval.specs.Moving.{cell_at};
+
+    /// Where it is at a place, which is counted from 0.
+    #[inline(always)]
+    pub fn at(&self, place: u64) -> u64
+        ensures { result ≡ cell_at place self.now }
+    {
+        self.from.wrapping_add(place.wrapping_mul(self.by))
+    }
+}
+
 impl<'a> Model for Along<'a> {
     ghost use Rattle.std.specs.Prelude.{ℕ, List};
     ghost use Rattle.pb_eval.specs.Moving.{cells_at};
@@ -33,6 +46,6 @@ impl<'a> Along<'a> {
         ensures { result ≡ slice_index self.now k }
     {
         let moving = self.cells[k as usize];
-        moving.from.wrapping_add(self.place.wrapping_mul(moving.by))
+        moving.at(self.place)
     }
 }

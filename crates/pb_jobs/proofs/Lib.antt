@@ -19,3 +19,4 @@ pub mod WholeLemmas
 pub mod JobLemmas
 pub mod TaskLemmas
 pub mod NeedLemmas
+pub mod OwnLemmas

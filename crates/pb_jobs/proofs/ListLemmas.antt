@@ -1,5 +1,5 @@
 -- Lists place by place, and side by side.
-use Rattle.std.proofs.Common.{◌≡◌, ◌∙◌, refl, sym, ap, subst, ⊎_elim, ℕ, zero, suc, ◌+◌, ◌<◌, ◌≤◌, List, [], ◌∷◌, ◌++◌, length, map, take, drop, get_or, slice_get, Some, None, add-one, add-zero, arith}
+use Rattle.std.proofs.Common.{◌≡◌, ◌∙◌, refl, sym, ap, subst, ⊎_elim, ℕ, zero, suc, ◌+◌, ◌<◌, ◌≤◌, List, [], ◌∷◌, ◌++◌, length, map, take, drop, get_or, slice_get, Option, Some, None, IfSome, add-one, add-zero, arith}
 use Rattle.std.specs.Prelude.{slice_index_or}
 use Rattle.std.specs.List.{All, AllZip, Contains, flat_map}
 use Rattle.std.proofs.Math.Seq.{take-suc}
@@ -101,3 +101,8 @@ pub zip_next : {A B C : Type 0} (f : C → A) (R : A → B → Type 0) (xs : Lis
 zip_next f R xs i x old y new below is r h e =
     let more : map f (take (i + 1) xs) ≡ map f (take i xs) ++ f x ∷ [] = ap (map f) (taken_next xs i x below is) ∙ map-append f (take i xs) (x ∷ []) in
     subst (AllZip R (map f (take (i + 1) xs))) (sym e) (subst (λ l. AllZip R l (old ++ y ∷ [])) (sym more) (zip_more R (map f (take i xs)) old (f x) y h r))
+
+-- what follows from what is so of something that is there
+pub some_else : {A : Type 0} {P Q : A → Type 0} (o : Option A) → ((a : A) → P a → Q a) → IfSome o P → IfSome o Q
+some_else None f h = h
+some_else (Some a) f h = f a h

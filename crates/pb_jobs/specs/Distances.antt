@@ -1,5 +1,7 @@
 -- How far it is from one cell to another, and how a view moves.
-use Rattle.std.specs.Prelude.{◌≡◌, ℕ, ◌+◌, ◌*◌, ◌<◌, ◌≤◌, ◌^◌, ◌%◌}
+use Rattle.std.specs.Prelude.{◌≡◌, ℕ, ◌+◌, ◌*◌, ◌<◌, ◌≤◌, ◌^◌, ◌%◌, Bool, if◌then◌else◌}
+use Rattle.pb_linear.specs.declared.boxes.Sign.{Sign}
+use Rattle.pb_linear.specs.declared.boxes.Sign.TheVariants.{Plus, Minus}
 use Rattle.pb_values.specs.Views.{cell_of}
 use Rattle.pb_values.specs.declared.rect.Rect.{Rect}
 use Rattle.pb_values.specs.declared.view.View.{View}
@@ -15,6 +17,15 @@ IsFromTo here next (Down by) = next + by ≡ here
 abbrev pub IsStep : Distance → ℕ → Type 0
 IsStep (Up by) step = step ≡ by
 IsStep (Down by) step = (step + by) % 2 ^ 64 ≡ 0
+
+-- so far along a line of cells that goes to greater numbers, or to smaller ones
+abbrev pub way_on : Sign → ℕ → Distance
+way_on Plus by = Up by
+way_on Minus by = Down by
+
+-- how far it is in a matrix from one place of a column, or of a row, to the next
+abbrev pub step_in : Bool → View → ℕ
+step_in down v = if down then v.step_y else v.step_x
 
 -- there is a view after the one with this first cell: it goes so far, and ends among the cells of a run
 pub record CanMove (a : Advance) (first : ℕ) : Type 0 where

@@ -27,6 +27,18 @@ pub struct Advance {
     pub shape: Shape,
 }
 
+impl Distance {
+    /// As much to add, modulo 2^64.
+    pub(crate) fn step(&self) -> u64
+        ensures { IsStep self.now result }
+    {
+        match self {
+            Distance::Up(by) => *by,
+            Distance::Down(by) => by.wrapping_neg(),
+        }
+    }
+}
+
 impl Advance {
     /// The view with this first cell that moves so.
     pub(crate) fn at(&self, first: u64) -> View
@@ -43,16 +55,6 @@ impl Advance {
                 w: self.shape.w,
                 h: self.shape.h,
             },
-        }
-    }
-
-    /// How much further the first cell of each next view is, modulo 2^64.
-    pub(crate) fn step(&self) -> u64
-        ensures { IsStep self.now.far result }
-    {
-        match self.far {
-            Distance::Up(by) => by,
-            Distance::Down(by) => by.wrapping_neg(),
         }
     }
 

@@ -26,7 +26,7 @@ impl Shown {
         for k in 0..self.views.len() {
             let moving = Moving {
                 from: self.views[k].first,
-                by: self.advances[k].step(),
+                by: self.advances[k].far.step(),
             };
             self.put_cell(moving);
         }

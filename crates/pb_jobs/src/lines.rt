@@ -1,5 +1,7 @@
-ghost use Rattle.std.specs.Prelude.{◌≡◌, ◌<◌, Some, length, slice_get};
+ghost use Rattle.std.specs.Prelude.{◌≡◌, ◌<◌, IfSome, Some, length, slice_get};
 ghost use Rattle.pb_values.specs.Cells.{HasNoTrap};
+ghost use Rattle.pb_values.specs.Views.{IsInside, cell_of};
+ghost use Rattle.pb_values.specs.declared.outcome.Outcome.TheVariants.{Value};
 ghost use Rattle.pb_program.specs.Trees.{ProgRule};
 ghost use Rattle.pb_program.specs.declared.rule.RuleKind.TheVariants as kind;
 ghost use Rattle.pb_model.specs.Equations.{own_outcome};
@@ -7,7 +9,9 @@ ghost use Rattle.pb_taskgraph.specs.Turns.{after_some};
 ghost use Rattle.pb_eval.specs.CanRun.{at_variables};
 ghost use Rattle.pb_eval.specs.FirstCells.{AreOfCells};
 ghost use Rattle.pb_eval.specs.Moving.{cells_at};
+ghost use Rattle.pb_eval.specs.Sums.{StandsInFor};
 ghost use Rattle.pb_jobs.specs.Advances.{AreAdvances, AreShaped};
+ghost use Rattle.pb_jobs.specs.Distances.{IsStep, step_in, way_on};
 ghost use Rattle.pb_jobs.specs.Instances.{CanRunRule, IsReady, given_by, of_sizes, of_transform};
 ghost use Rattle.pb_jobs.specs.Jobs.{AreMadeHere};
 ghost use Rattle.pb_jobs.specs.Lines.{AreTermsOf, ReadFrom};
@@ -15,14 +19,39 @@ ghost use Rattle.pb_jobs.specs.Rooms.{HasRoomIn, SameRoom};
 ghost use Rattle.pb_jobs.specs.Shown.{AreShown, AreWindows};
 ghost use Rattle.pb_walk.specs.Stretches.{place_on};
 
+use crate::advance::Distance;
 use crate::instance::Instance;
 use crate::scratch::RuleScratch;
-use pb_eval::{Along, Terms, run_terms};
+use pb_eval::{Along, Moving, Terms, run_sum, run_terms};
+use pb_linear::Sign;
 use pb_program::Read;
 use pb_taskgraph::CellPort;
-use pb_values::{CellReader, Outcome};
+use pb_values::{CellReader, Outcome, View};
 use pb_views::Window;
 use pb_walk::Stretch;
+
+/// Where the cells of a line are, which are made one after another.
+fn own_cells(view: &View, stretch: &Stretch) -> Moving
+    requires some { 0 < stretch.now.count }
+    requires inside { IsInside view.now.shape (place_on stretch.now 0).x (place_on stretch.now 0).y }
+    ensures first { result.from ≡ cell_of view.now (place_on stretch.now 0).x (place_on stretch.now 0).y }
+    ensures by { IsStep (way_on stretch.now.sign (step_in stretch.now.down view.now)) result.by }
+{
+    let (x, y) = stretch.place(0);
+    let step = if stretch.down {
+        view.step_y
+    } else {
+        view.step_x
+    };
+    let far = match stretch.sign {
+        Sign::Plus => Distance::Up(step),
+        Sign::Minus => Distance::Down(step),
+    };
+    Moving {
+        from: view.place(x, y),
+        by: far.step(),
+    }
+}
 
 impl<'a> Instance<'a> {
     /// The outcome of a cell by the terms of its rule's formula, where what the rule reads begins at these cells and nothing that is
@@ -70,6 +99,7 @@ impl<'a> Instance<'a> {
         ensures terms { scratch.new.terms ≡ scratch.old.terms }
         ensures advances { scratch.new.shown.advances ≡ scratch.old.shown.advances }
         ensures cells { scratch.new.shown.cells ≡ scratch.old.shown.cells }
+        ensures sum { scratch.new.sum ≡ scratch.old.sum }
     {
         let shown = &mut scratch.shown;
         shown.show(
@@ -107,6 +137,7 @@ impl<'a> Instance<'a> {
         ensures terms { scratch.new.terms ≡ scratch.old.terms }
         ensures advances { scratch.new.shown.advances ≡ scratch.old.shown.advances }
         ensures cells { scratch.new.shown.cells ≡ scratch.old.shown.cells }
+        ensures sum { scratch.new.sum ≡ scratch.old.sum }
     {
         if port.is_untrapped() {
             let shown = &scratch.shown;
@@ -117,6 +148,37 @@ impl<'a> Instance<'a> {
             return self.by_cells(&scratch.terms, rule, x, y, &cells, port);
         }
         self.by_shown(rule, x, y, port, scratch)
+    }
+
+    /// The number of a cell at a place of a line, by the sum that stands in for the terms of its rule's formula; none tells nothing.
+    #[inline(always)]
+    fn by_sum<C: CellReader>(
+        &self,
+        rule: u32,
+        place: u64,
+        x: u64,
+        y: u64,
+        port: &mut C,
+        scratch: &RuleScratch,
+    ) -> Option<i64>
+        requires ready { IsReady self.now }
+        requires can { CanRunRule self.now rule x y (C.turn port.old) }
+        requires one { (r : ProgRule) → slice_get (of_transform self.now).rules rule ≡ Some r → r.kind ≡ kind.Cell }
+        requires terms { AreTermsOf self.now rule scratch.now.terms }
+        requires of_cells { AreOfCells (length scratch.now.shown.cells.items) scratch.now.terms }
+        requires from { ReadFrom self.now rule x y (cells_at scratch.now.shown.cells.items place) }
+        requires sum { StandsInFor scratch.now.shown.cells.items scratch.now.terms scratch.now.sum }
+        ensures outcome { IfSome result (λ n. (r : ProgRule) → slice_get (of_transform self.now).rules rule ≡ Some r
+            → Value n ≡ own_outcome (of_transform self.now).matrices (of_sizes self.now) (at_variables x y) r (given_by self.now rule r x y (C.turn port.old))) }
+        ensures stays { C.turn port.new ≡ C.turn port.old }
+    {
+        if !scratch.sum.is_known() {
+            return None;
+        }
+        if !port.is_untrapped() {
+            return None;
+        }
+        run_sum(&scratch.sum, place, port)
     }
 
     /// Makes the cells of a line by the terms of their rule's formula, which are numbers and first cells of reads alone, where it is
@@ -146,12 +208,18 @@ impl<'a> Instance<'a> {
     {
         let matrices = self.views();
         let view = matrices[stretch.base as usize];
+        let own = own_cells(&view, stretch);
         scratch.shown.begin_cells();
+        scratch.sum.take(&scratch.terms, &scratch.shown.cells);
         for i in 0..stretch.count {
             let (x, y) = stretch.place(i);
-            let cell = view.place(x, y);
-            let outcome = self.line_cell(rule, i, x, y, port, scratch);
-            port.write(cell, outcome);
+            let cell = own.at(i);
+            if let Some(n) = self.by_sum(rule, i, x, y, port, scratch) {
+                port.write(cell, Outcome::Value(n));
+            } else {
+                let outcome = self.line_cell(rule, i, x, y, port, scratch);
+                port.write(cell, outcome);
+            }
         }
     }
 }

@@ -1,5 +1,5 @@
 ghost use Rattle.std.specs.Prelude.{◌≡◌, ◌+ℤ◌, ◌*ℤ◌, not, pos};
-ghost use Rattle.pb_values.specs.Checked.{checked_result};
+ghost use Rattle.pb_values.specs.Checked.{checked_result, quotient, remainder};
 ghost use Rattle.pb_model.specs.Bodies.{greater, is_zero, lesser, operated, related, signed_by, truth};
 ghost use Rattle.pb_numbers.specs.Deciding.{decided};
 
@@ -35,6 +35,40 @@ pub fn times(left: i64, right: i64) -> Result<i64, KindWord>
     }
 }
 
+/// The quotient of two numbers, truncated toward zero, or the kind of its trap. It is that of the numbers without their signs, with the
+/// sign that it should have: small numbers without a sign are divided faster.
+fn over(left: i64, right: i64) -> Result<i64, KindWord>
+    ensures { result ≡ quotient left right }
+{
+    let size = left.unsigned_abs();
+    let by = right.unsigned_abs();
+    if by == 0 || size > i64::MAX as u64 {
+        return in_words(div(left, right));
+    }
+    let number = (size / by) as i64;
+    if (left < 0) == (right < 0) {
+        return Ok(number);
+    }
+    Ok(-number)
+}
+
+/// The remainder of a division truncated toward zero, or the kind of its trap: that of the numbers without their signs, with the sign of
+/// `left`.
+fn modulo(left: i64, right: i64) -> Result<i64, KindWord>
+    ensures { result ≡ remainder left right }
+{
+    let size = left.unsigned_abs();
+    let by = right.unsigned_abs();
+    if by == 0 || size > i64::MAX as u64 {
+        return in_words(rem(left, right));
+    }
+    let number = (size % by) as i64;
+    if left < 0 {
+        return Ok(-number);
+    }
+    Ok(number)
+}
+
 /// What an operator of a product or a sum gives, or the kind of its trap; of `&&` and `||` the right side as it is, which is what
 /// they give where the left side doesn't decide.
 pub fn operate(operator: Operator, left: i64, right: i64) -> Result<i64, KindWord>
@@ -42,8 +76,8 @@ pub fn operate(operator: Operator, left: i64, right: i64) -> Result<i64, KindWor
 {
     match operator {
         Operator::Times => times(left, right),
-        Operator::Over => in_words(div(left, right)),
-        Operator::Modulo => in_words(rem(left, right)),
+        Operator::Over => over(left, right),
+        Operator::Modulo => modulo(left, right),
         Operator::Plus => plus(left, right),
         Operator::Minus => in_words(sub(left, right)),
         Operator::And | Operator::Or => Ok(right),
