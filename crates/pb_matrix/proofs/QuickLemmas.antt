@@ -1,5 +1,5 @@
 -- Digits before a gap, one more digit at a time.
-use Rattle.std.proofs.Common.{◌≡◌, ℕ, ◌+◌, ◌-◌, ◌*◌, ◌<◌, true, false, List, [], ◌∷◌, ℤ, pos, neg_ℤ, Some, refl, ◌∙◌, length, get_or, take, drop, map, arith}
+use Rattle.std.proofs.Common.{◌≡◌, ℕ, ◌+◌, ◌-◌, ◌*◌, ◌<◌, ◌^◌, true, false, List, [], ◌∷◌, ℤ, pos, neg_ℤ, Some, refl, ◌∙◌, length, get_or, take, drop, map, arith}
 use Rattle.std.specs.Char.{is_ascii_digit}
 use Rattle.std.specs.List.{position_or_len, before_first, after_first}
 use Rattle.std.proofs.Math.Numerals.{one-add}
@@ -29,10 +29,24 @@ digit_before_gap v i ds h e =
 magnitude_negated : (ds : List ℕ) (v : ℕ) → magnitude ds ≡ Some v → cell_number (45 ∷ ds) ≡ Some (neg_ℤ (pos v))
 magnitude_negated ds v e = grind (arith, nat_tests)
 
-pub minus_number : (text : List ℕ) (v : ℕ) (z : ℤ) → 0 < length text → get_or text 0 0 ≡ 45 → magnitude (before_first is_gap (take (length text - 1) (drop 1 text))) ≡ Some v → z ≡ neg_ℤ (pos v)
+pub minus_number : (text : List ℕ) (v : ℕ) (z : ℤ) → get_or text 0 0 ≡ 45 → magnitude (before_first is_gap (take (length text - 1) (drop 1 text))) ≡ Some v → z ≡ neg_ℤ (pos v)
     → cell_number (before_first is_gap text) ≡ Some z
-minus_number [] v z some minus e n = absurd (omega arith)
-minus_number (c ∷ cs) v z some minus e n = rw (minus, one-add, n) (magnitude_negated (before_first is_gap cs) v (rw take_rest at e))
+minus_number [] v z minus e n = absurd (omega (arith, minus))
+minus_number (c ∷ cs) v z minus e n = rw (minus, one-add, n) (magnitude_negated (before_first is_gap cs) v (rw take_rest at e))
+
+-- a text as it is
+whole_text : (text : List ℕ) → take (length text - 0) (drop 0 text) ≡ text
+whole_text text = take_rest text 0
+
+magnitude_alone : (ds : List ℕ) (v : ℕ) → magnitude ds ≡ Some v → v < 2 ^ 63 → cell_number ds ≡ Some (pos v)
+magnitude_alone [] v e h = absurd (cc)
+magnitude_alone (c ∷ cs) v e h = grind (arith, nat_tests)
+
+pub plain_number : (text : List ℕ) (v : ℕ) (z : ℤ) → magnitude (before_first is_gap (take (length text - 0) (drop 0 text))) ≡ Some v → v < 2 ^ 63 → z ≡ pos v → cell_number (before_first is_gap text) ≡ Some z
+plain_number text v z e most n = rw (n) (magnitude_alone (before_first is_gap text) v (rw (whole_text text) at e) most)
+
+pub plain_after : (text after : List ℕ) → after ≡ after_first is_gap (take (length text - 0) (drop 0 text)) → after ≡ after_first is_gap text
+plain_after text after e = rw (whole_text text) at e
 
 -- a number before a gap is the first word
 word_some : (w : List ℕ) (z : ℤ) → cell_number w ≡ Some z → 0 < length w

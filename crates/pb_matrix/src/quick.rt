@@ -46,14 +46,13 @@ pub(crate) fn quick_number(text: &[u8]) -> Option<(i64, &[u8])>
     ensures after { IfSome result (λ found. found.1.now ≡ after_first is_gap text.now) }
     ensures shorter { IfSome result (λ found. length found.1.now < length text.now) }
 {
-    match text {
-        [b'-', digits @ ..] => {
-            let (value, after) = quick_digits(digits)?;
-            Some((negated(value), after))
-        }
-        digits => {
-            let (value, after) = quick_digits(digits)?;
-            Some((value as i64, after))
-        }
+    if text.is_empty() {
+        return None;
     }
+    let minus = text[0] == b'-';
+    let (value, after) = quick_digits(&text[minus as usize..])?;
+    if minus {
+        return Some((negated(value), after));
+    }
+    Some((value as i64, after))
 }
