@@ -1,5 +1,6 @@
 -- Numbers that are put into a buffer from the last to the first.
-use Rattle.std.proofs.Common.{◌≡◌, ◌∙◌, refl, ℕ, suc, ◌+◌, ◌-◌, ◌<◌, ◌≤◌, List, [], ◌∷◌, ◌++◌, length, get_or, set, take, drop, flat_map, ℤ, pos, ap, arith, drop-cons}
+use Rattle.std.proofs.Common.{◌≡◌, ◌∙◌, refl, ℕ, suc, ◌+◌, ◌-◌, ◌<◌, ◌≤◌, List, [], ◌∷◌, ◌++◌, length, get_or, set, take, drop, flat_map, ℤ, pos, negsuc, true, false, ap, arith, drop-cons}
+use Rattle.std.specs.Prelude.{decimal, int_lt, unsigned_abs}
 use Rattle.std.specs.Fmt.{signed_decimal}
 use Rattle.std.proofs.lemmas.List.{drop-set, drop_all, length-drop, take_all}
 use Rattle.std.proofs.lemmas.List.Elements.{All-cons}
@@ -33,3 +34,12 @@ one_put ns k at start z before buffer below is some within put was =
 
 pub one_fits : (ns : List ℤ) (k : ℕ) → k < length ns → Fits (get_or ns (length ns - 1 - k) (pos 0)) → AllFit (drop (length ns - k) ns) → AllFit (drop (length ns - (k + 1)) ns)
 one_fits ns k below fits later = rw (next_left ns k below) (All-cons Fits (get_or ns (length ns - 1 - k) (pos 0)) (drop (length ns - k) ns) fits later)
+
+-- ---- the sign of a number
+pub sign_put : (z : ℤ) → int_lt z (pos 0) ≡ true → 45 ∷ decimal (unsigned_abs z) ≡ signed_decimal z
+sign_put (pos n) e = absurd (grind (arith, e))
+sign_put (negsuc n) e = refl
+
+pub sign_left : (z : ℤ) → int_lt z (pos 0) ≡ false → decimal (unsigned_abs z) ≡ signed_decimal z
+sign_left (pos n) e = refl
+sign_left (negsuc n) e = absurd (cc)

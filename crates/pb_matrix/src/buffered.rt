@@ -20,11 +20,12 @@ fn put_number(number: i64, buffer: &mut [u8; BYTES_AT_ONCE], end: usize) -> usiz
     ensures written { drop result buffer.new ≡ signed_decimal number ++ drop end buffer.old }
 {
     let start = write_digits(number.unsigned_abs(), buffer, end);
-    if number >= 0 {
-        return start;
-    }
+    // It is put in any case, since the sign can't be guessed; what stands before the place that is told doesn't matter.
     buffer[start - 1] = b'-';
-    start - 1
+    if number < 0 {
+        return start - 1;
+    }
+    start
 }
 
 // Puts numbers at the end of a buffer, from the last to the first, each after a blank. Tells where the first blank stands.
