@@ -2,10 +2,11 @@
 use Rattle.std.proofs.Common.{◌≡◌, ◌∙◌, refl, sym, ap, ℕ, zero, suc, List, ◌++◌, Some, Result, Ok, Err, ◌⊎◌, inl, inr, All, length, ◌≤◌, arith}
 use Rattle.std.proofs.lemmas.Bool.{cases_eq}
 use Rattle.pb_matrix.specs.Value.{MatrixValue}
+use Rattle.pb_demo.specs.Demonstrations.{demo_config, demo_transform}
 use Rattle.pb_gen.specs.Examples.{IsInput, example_of}
 use Rattle.pb_gen.specs.Texts.{text_of}
 use Rattle.pb_unroll.specs.Handed.{IsWhole}
-use Rattle.pb_top.specs.Demos.{DemoAnswers, DemoRun, HasText, Summarizes, demo_config, demo_name, demo_transform}
+use Rattle.pb_top.specs.Demos.{DemoAnswers, DemoRun, HasText, Summarizes, demo_name}
 use Rattle.pb_top.specs.Reply.{Reply, done_reply}
 use Rattle.pb_top.specs.Steps.{Then}
 use Rattle.pb_top.specs.Working.{StopsWith}

@@ -15,4 +15,5 @@ pub mod CommandLemmas
 pub mod SiteLemmas
 pub mod TuneLemmas
 pub mod DemoLemmas
+pub mod UnrefusedLemmas
 pub mod StatusLemmas

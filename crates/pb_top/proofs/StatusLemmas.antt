@@ -1,7 +1,18 @@
 -- Each command has its statuses alone.
-use Rattle.std.proofs.Common.{refl, sym, subst, ℕ, List, [], ◌∷◌, drop, Option, Some, Result, Ok, Err, inl, inr, Contains, arith}
+use Rattle.std.proofs.Common.{◌≡◌, ◌∙◌, refl, sym, ap, subst, ℕ, length, slice_get, ◌&&◌, nat_le, None, List, [], ◌∷◌, drop, Option, Some, Result, Ok, Err, inl, inr, Contains, arith}
+use Rattle.std.specs.Str.Parse.{digits_value}
+use Rattle.std.proofs.lemmas.Bool.Decides.{nat_tests}
+use Rattle.std.proofs.lemmas.Option.{none-some, same_Some}
+use Rattle.pb_syntax.proofs.TestLemmas.{and_parts, if_parts}
 use Rattle.pb_check.specs.Orders.{AnalysisValue}
 use Rattle.pb_front.specs.Reading.{IsRefused}
+use Rattle.pb_check.specs.Accepting.{IsTextAccepted}
+use Rattle.pb_demo.specs.Demonstrations.{Takes, demo_config, demo_transform}
+use Rattle.pb_demo.proofs.Found.{accepted, formed, takes, valid}
+use Rattle.pb_entry.specs.Entering.{Enters}
+use Rattle.pb_entry.specs.Fitting.{AreUnfit}
+use Rattle.pb_entry.proofs.LawLemmas.{not_both as unfit_apart}
+use Rattle.pb_entry.proofs.NamedLemmas.{enters_or_not, one_number}
 use Rattle.pb_gen.specs.Examples.{example_of}
 use Rattle.pb_gen.specs.Texts.{text_of}
 use Rattle.pb_matrix.specs.Value.{MatrixValue}
@@ -18,22 +29,25 @@ use Rattle.pb_syntax.specs.declared.refusal.Refusal.{Refusal}
 use Rattle.pb_values.specs.declared.outcome.Kind.{Kind}
 use Rattle.pb_values.specs.declared.outcome.Kind.TheVariants as trap
 use Rattle.pb_words.specs.Files.{file_words}
-use Rattle.pb_words.specs.Line.{IsInside, Line}
+use Rattle.pb_words.specs.Line.{Asks, IsInside, Line, demo}
+use Rattle.pb_words.specs.Ranges.{IsWithin}
+use Rattle.pb_words.specs.Values.{is_number, number_within}
 use Rattle.pb_words.specs.declared.ask.Ask.{Ask}
 use Rattle.pb_words.specs.declared.ask.Ask.TheVariants.{Check, Choices, Run, Tune, Demo}
 use Rattle.pb_words.proofs.LineLemmas.{one_reading}
 use Rattle.pb_top.specs.Answer.{Answers, AskAnswers, Runs, RunLine, WorkAnswers, config_text, content_at, input_files, limited, run_line, tuned_name}
 use Rattle.pb_top.specs.Check.{Printed, Text, its_canonical, its_report}
-use Rattle.pb_top.specs.Demos.{DemoAnswers, DemoRun, HasText, Summarizes, demo_config, demo_name, demo_transform, summary_reply}
+use Rattle.pb_top.specs.Demos.{DemoAnswers, DemoRun, HasText, Summarizes, demo_name, summary_reply}
 use Rattle.pb_top.specs.Ends.{Ends, IsAnswered}
 use Rattle.pb_top.specs.Reply.{IsFaultyInput, Reply, refusal_reply}
-use Rattle.pb_top.specs.Runs.{AfterAccept, AfterAcceptWith, AfterFit, AfterInputs, Configures, FindsTransform, Fits, Fitting, IsWithin, ReadsInput, RunReplies, RunsProgram, answer_reply, run_answer, trap_status}
+use Rattle.pb_top.specs.Runs.{AfterAccept, AfterAcceptWith, AfterConfigWith, AfterFit, AfterInputs, Configures, FindsTransform, Fits, Fitting, IsWithin as HasFew, ReadsInput, RunReplies, RunsProgram, answer_reply, run_answer, trap_status}
 use Rattle.pb_top.specs.Sinks.{ShelfChange, SinkChange}
 use Rattle.pb_top.specs.Statuses.{check_statuses, demo_statuses, run_statuses, statuses, tune_statuses, usage_statuses}
-use Rattle.pb_top.specs.Steps.{Accepts, AfterProgram, Each, OfProgram, Reads, Refuses, RefusesProgram, Resolves, Takes, TakesFile, Then}
+use Rattle.pb_top.specs.Steps.{Accepts, AfterProgram, Each, OfProgram, Reads, Refuses, RefusesProgram, Resolves, Takes as TakesFiles, TakesFile, Then}
 use Rattle.pb_top.specs.Tunes.{FindsNamed, Tunes, TunesProgram}
 use Rattle.pb_top.specs.declared.reply.Status.TheVariants.{File, Program}
 use Rattle.pb_top.proofs.LawLemmas.{fault_or_not}
+use Rattle.pb_top.proofs.UnrefusedLemmas.{accepted_has, never_both, some_same}
 
 abbrev HasOne : List ℕ → Reply → Type 0
 HasOne ns reply = Contains ns reply.status
@@ -57,7 +71,7 @@ module _ (Has : Reply → Type 0) where
     file_has word limit reply (inl (none, is)) = subst Has (sym is) (of_file _)
     file_has word limit reply (inr (long, is)) = subst Has (sym is) (of_file _)
 
-    takes_has : (wanted : List (List ℕ × ℕ)) (reply : Reply) → Takes told wanted (Err reply) → Has reply
+    takes_has : (wanted : List (List ℕ × ℕ)) (reply : Reply) → TakesFiles told wanted (Err reply) → Has reply
     takes_has = each_has (λ file. TakesFile told file.0 file.1) (λ file. file_has file.0 file.1)
 
   -- a program
@@ -117,11 +131,11 @@ module _ (name : List ℕ) (depth grain : ℕ) where
   fits_has : (p : List ProgTransform) (number : ℕ) (t : ProgTransform) (inputs : List MatrixValue) (reply : Reply) → Fits p name number t inputs (Err reply) → RunHas reply
   fits_has p number t inputs reply (why, none, is) = subst RunHas (sym is) (3, omega arith, refl)
 
-  within_has : (r : Fitting) (reply : Reply) → IsWithin r name (Err reply) → RunHas reply
+  within_has : (r : Fitting) (reply : Reply) → HasFew r name (Err reply) → RunHas reply
   within_has r reply (why, large, is) = subst RunHas (sym is) (4, omega arith, refl)
 
   fitting_has : (r : Fitting) (reply : Reply) → AfterFit name depth grain RunReplies r reply → RunHas reply
-  fitting_has r = then_has RunHas (IsWithin r name) (λ u. RunReplies r) (within_has r) (λ u. replies_has r)
+  fitting_has r = then_has RunHas (HasFew r name) (λ u. RunReplies r) (within_has r) (λ u. replies_has r)
 
   inputs_has : (p : List ProgTransform) (found : List AnalysisValue) (config : ConfigValue) (number : ℕ) (inputs : List MatrixValue) (reply : Reply)
       → AfterInputs name depth grain RunReplies p found config number inputs reply → RunHas reply
@@ -155,68 +169,103 @@ abbrev DemoHas : Reply → Type 0
 DemoHas = HasOne demo_statuses
 
 demo_trap_has : (kind : Kind) (line : List ℕ) → DemoHas (refusal_reply (trap_status kind) line)
-demo_trap_has trap.Overflow line = (5, omega arith, refl)
-demo_trap_has trap.DivideByZero line = (5, omega arith, refl)
-demo_trap_has trap.OutOfView line = (5, omega arith, refl)
-demo_trap_has trap.LoopLimit line = (5, omega arith, refl)
-demo_trap_has trap.BadShape line = (5, omega arith, refl)
-demo_trap_has trap.DepthEnded line = (6, omega arith, refl)
+demo_trap_has trap.Overflow line = (2, omega arith, refl)
+demo_trap_has trap.DivideByZero line = (2, omega arith, refl)
+demo_trap_has trap.OutOfView line = (2, omega arith, refl)
+demo_trap_has trap.LoopLimit line = (2, omega arith, refl)
+demo_trap_has trap.BadShape line = (2, omega arith, refl)
+demo_trap_has trap.DepthEnded line = (3, omega arith, refl)
 
 summary_has : (name : List ℕ) (r : Fitting) (answer : Result (List MatrixValue) TrappedCell) → DemoHas (summary_reply name r answer)
 summary_has name r (Ok matrices) = (0, omega arith, refl)
 summary_has name r (Err cell) = demo_trap_has cell.trap.kind (trap_line r.program r.number cell)
 
-demo_configures : (p : List ProgTransform) (text : Option (List ℕ)) (reply : Reply) → Configures p text (Err reply) → DemoHas reply
-demo_configures p text reply (why, none, is) = subst DemoHas (sym is) (2, omega arith, refl)
+-- a size that can be asked for
+abbrev CanBeDrawn : ℕ → Type 0
+CanBeDrawn size = IsWithin 1 256 size
 
 module _ (which seed size : ℕ) where
   abbrev called : List ℕ
   called = demo_transform which
 
-  demo_finds : (p : List ProgTransform) (given : ℕ) (reply : Reply) → FindsTransform p called given (Err reply) → DemoHas reply
-  demo_finds p given reply (why, none, is) = subst DemoHas (sym is) (3, omega arith, refl)
-
-  demo_fits : (p : List ProgTransform) (number : ℕ) (t : ProgTransform) (inputs : List MatrixValue) (reply : Reply) → Fits p called number t inputs (Err reply) → DemoHas reply
-  demo_fits p number t inputs reply (why, none, is) = subst DemoHas (sym is) (3, omega arith, refl)
-
-  demo_within : (r : Fitting) (reply : Reply) → IsWithin r called (Err reply) → DemoHas reply
-  demo_within r reply (why, large, is) = subst DemoHas (sym is) (4, omega arith, refl)
+  demo_within : (r : Fitting) (reply : Reply) → HasFew r called (Err reply) → DemoHas reply
+  demo_within r reply (why, large, is) = subst DemoHas (sym is) (1, omega arith, refl)
 
   demo_fitting : (r : Fitting) (reply : Reply) → AfterFit called 64 16 (Summarizes (demo_name which)) r reply → DemoHas reply
   demo_fitting r =
-      then_has DemoHas (IsWithin r called) (λ u. Summarizes (demo_name which) r) (demo_within r)
+      then_has DemoHas (HasFew r called) (λ u. Summarizes (demo_name which) r) (demo_within r)
       (λ u reply is. subst DemoHas (sym is) (summary_has (demo_name which) r (run_answer r)))
 
-  demo_inputs : (p : List ProgTransform) (found : List AnalysisValue) (config : ConfigValue) (number : ℕ) (inputs : List MatrixValue) (reply : Reply)
-      → AfterInputs called 64 16 (Summarizes (demo_name which)) p found config number inputs reply → DemoHas reply
-  demo_inputs p found config number inputs reply (t, at, after) =
-      then_has DemoHas (Fits p called number t inputs) _ (demo_fits p number t inputs) (λ sizes. demo_fitting _) reply after
+  module _ (p : List ProgTransform) (a : IsTextAccepted (text_of which) p) (drawn : CanBeDrawn size) where
+    abbrev inputs : List MatrixValue
+    inputs = example_of which seed size
 
-  demo_accept : (p : List ProgTransform) (found : List AnalysisValue) (text : Option (List ℕ)) (inputs : List MatrixValue) (reply : Reply)
-      → AfterAcceptWith called 64 16 (Summarizes (demo_name which)) p found text inputs reply → DemoHas reply
-  demo_accept p found text inputs =
-      then_has DemoHas (Configures p text) _ (demo_configures p text)
-      (λ config. then_has DemoHas (FindsTransform p called _) _ (demo_finds p _) (λ number. demo_inputs p found config number inputs))
+    taken : Takes p called inputs
+    taken = takes which seed size p a drawn.0 (omega (arith, drawn.1))
 
-  demo_run_has : (reply : Reply) → DemoRun which seed size reply → DemoHas reply
-  demo_run_has =
-      program_has DemoHas (λ line. (1, omega arith, refl)) _ (λ tree p found. demo_accept p found (Some (demo_config which)) (example_of which seed size)) (text_of which)
+    demo_fits : (number : ℕ) → Enters p called (length inputs) number → (t : ProgTransform) → slice_get p number ≡ Some t → (reply : Reply) → Fits p called number t inputs (Err reply) → ⊥
+    demo_fits number enters t at reply (why, unfit, is) =
+        let same = one_number p called (formed (text_of which) p a) (length inputs) taken.number number taken.enters enters in
+        let it : t ≡ taken.transform = some_same t taken.transform (sym at ∙ ap (slice_get p) (sym same) ∙ taken.there) in
+        unfit_apart taken.transform inputs taken.sizes why taken.bound (subst (λ x. AreUnfit x inputs why) it unfit)
 
-demo_has : (seed size : ℕ) (reply : Reply) → DemoAnswers seed size reply → DemoHas reply
-demo_has seed size =
-    then_has DemoHas (HasText (DemoRun 0 seed size)) _ (λ reply stop. demo_run_has 0 seed size reply stop.0)
-    (λ first. then_has DemoHas (HasText (DemoRun 1 seed size)) _ (λ reply stop. demo_run_has 1 seed size reply stop.0)
+    demo_inputs : (found : List AnalysisValue) (config : ConfigValue) (number : ℕ) → Enters p called (length inputs) number → (reply : Reply)
+        → AfterInputs called 64 16 (Summarizes (demo_name which)) p found config number inputs reply → DemoHas reply
+    demo_inputs found config number enters reply (t, at, inl (sizes, bound, after)) = demo_fitting _ reply after
+    demo_inputs found config number enters reply (t, at, inr stop) = absurd (demo_fits number enters t at reply stop)
+
+    demo_named : (found : List AnalysisValue) (config : ConfigValue) (reply : Reply) → AfterConfigWith called 64 16 (Summarizes (demo_name which)) p found inputs config reply → DemoHas reply
+    demo_named found config reply (inl (number, enters, after)) = demo_inputs found config number enters reply after
+    demo_named found config reply (inr (why, cannot, is)) = absurd (enters_or_not p called (formed (text_of which) p a) (length inputs) taken.number why taken.enters cannot)
+
+    demo_accept : (found : List AnalysisValue) (reply : Reply) → AfterAcceptWith called 64 16 (Summarizes (demo_name which)) p found (Some (demo_config which)) inputs reply → DemoHas reply
+    demo_accept found reply (inl (config, said, after)) = demo_named found config reply after
+    demo_accept found reply (inr (why, bad, is)) = absurd (let said = (valid which p a).1 in never_both said bad)
+
+    demo_accepted : (tree : List TransformTree) (found : List AnalysisValue) (reply : Reply) → AfterAcceptWith called 64 16 (Summarizes (demo_name which)) p found (Some (demo_config which)) inputs reply → DemoHas reply
+    demo_accepted tree found = demo_accept found
+
+  demo_run_has : CanBeDrawn size → (reply : Reply) → DemoRun which seed size reply → DemoHas reply
+  demo_run_has drawn =
+      let p = accepted which in
+      accepted_has (text_of which) p.0 p.1 DemoHas (λ tree q found. AfterAcceptWith called 64 16 (Summarizes (demo_name which)) q found (Some (demo_config which)) (example_of which seed size)) (demo_accepted p.0 p.1 drawn)
+
+demo_has : (seed size : ℕ) → CanBeDrawn size → (reply : Reply) → DemoAnswers seed size reply → DemoHas reply
+demo_has seed size drawn =
+    then_has DemoHas (HasText (DemoRun 0 seed size)) _ (λ reply stop. demo_run_has 0 seed size drawn reply stop.0)
+    (λ first. then_has DemoHas (HasText (DemoRun 1 seed size)) _ (λ reply stop. demo_run_has 1 seed size drawn reply stop.0)
     (λ second reply is. subst DemoHas (sym is) (0, omega arith, refl)))
 
 -- ---- all commands
-work_has : (ask : Ask) (others contents : List (List ℕ)) (reply : Reply) → WorkAnswers ask others contents reply → HasOne (statuses ask) reply
-work_has Check others contents = prints_has its_canonical (content_at contents 0)
-work_has Choices others contents = prints_has its_report (content_at contents 0)
-work_has (Run workers depth grain pool trace) others contents = line_has depth grain (run_line others) contents
-work_has (Tune up_to) others contents = tunes_has (tuned_name others) up_to (content_at contents 0)
-work_has (Demo seed size workers) others contents = demo_has seed size
+-- the size of a demonstration can be drawn
+abbrev SizeIsDrawn : Ask → Type 0
+SizeIsDrawn (Demo seed size workers) = CanBeDrawn size
+SizeIsDrawn _ = Unit {0}
 
-files_has : (ask : Ask) (others : List (List ℕ)) (told : Option Files) (reply : Reply) → Takes told (limited (file_words ask others)) (Err reply) → HasOne (statuses ask) reply
+within_range : (word : List ℕ) (size : ℕ) → number_within 1 256 word ≡ Some size → IsWithin 1 256 size
+within_range word size e =
+    elim (if_parts (is_number word && (nat_le 1 (digits_value 10 word) && nat_le (digits_value 10 word) 256)) (Some (digits_value 10 word)) None (Some size) e) [
+      | inl p ↦ (let both = and_parts (is_number word) (nat_le 1 (digits_value 10 word) && nat_le (digits_value 10 word) 256) p.0 in
+          let ends = and_parts (nat_le 1 (digits_value 10 word)) (nat_le (digits_value 10 word) 256) both.1 in
+          subst (IsWithin 1 256) (same_Some _ _ p.1) (grind (arith, nat_tests, ends.0), grind (arith, nat_tests, ends.1)))
+      | inr p ↦ absurd (none-some size p.1)
+    ]
+
+asks_within : (command : List ℕ) (settings : _) (others : List (List ℕ)) (ask : Ask) → Asks command settings others ask → SizeIsDrawn ask
+asks_within command settings others Check a = tt
+asks_within command settings others Choices a = tt
+asks_within command settings others (Run workers depth grain pool trace) a = tt
+asks_within command settings others (Tune up_to) a = tt
+asks_within command settings others (Demo seed size workers) (demo {second} none first is third) = within_range second size is
+
+work_has : (ask : Ask) → SizeIsDrawn ask → (others contents : List (List ℕ)) (reply : Reply) → WorkAnswers ask others contents reply → HasOne (statuses ask) reply
+work_has Check drawn others contents = prints_has its_canonical (content_at contents 0)
+work_has Choices drawn others contents = prints_has its_report (content_at contents 0)
+work_has (Run workers depth grain pool trace) drawn others contents = line_has depth grain (run_line others) contents
+work_has (Tune up_to) drawn others contents = tunes_has (tuned_name others) up_to (content_at contents 0)
+work_has (Demo seed size workers) drawn others contents = demo_has seed size drawn
+
+files_has : (ask : Ask) (others : List (List ℕ)) (told : Option Files) (reply : Reply) → TakesFiles told (limited (file_words ask others)) (Err reply) → HasOne (statuses ask) reply
 files_has Check others told = takes_has (HasOne check_statuses) (λ line. (5, omega arith, refl)) told (limited (file_words Check others))
 files_has Choices others told = takes_has (HasOne check_statuses) (λ line. (5, omega arith, refl)) told (limited (file_words Choices others))
 files_has (Run workers depth grain pool trace) others told =
@@ -224,8 +273,8 @@ files_has (Run workers depth grain pool trace) others told =
 files_has (Tune up_to) others told = takes_has (HasOne tune_statuses) (λ line. (6, omega arith, refl)) told (limited (file_words (Tune up_to) others))
 files_has (Demo seed size workers) others told = λ reply stop. absurd stop
 
-asked_has : (ask : Ask) (others : List (List ℕ)) (told : Option Files) (reply : Reply) → AskAnswers ask others told reply → HasOne (statuses ask) reply
-asked_has ask others told = then_has (HasOne (statuses ask)) (Takes told (limited (file_words ask others))) (WorkAnswers ask others) (files_has ask others told) (work_has ask others)
+asked_has : (ask : Ask) → SizeIsDrawn ask → (others : List (List ℕ)) (told : Option Files) (reply : Reply) → AskAnswers ask others told reply → HasOne (statuses ask) reply
+asked_has ask drawn others told = then_has (HasOne (statuses ask)) (TakesFiles told (limited (file_words ask others))) (WorkAnswers ask others) (files_has ask others told) (work_has ask drawn others)
 
 -- a fault of a device, and no memory
 has_read_fault : (ask : Ask) (others : List (List ℕ)) (word : List ℕ) → Contains (file_words ask others) word → Contains (statuses ask) 9
@@ -240,20 +289,20 @@ has_write_fault Check = (3, omega arith, refl)
 has_write_fault Choices = (3, omega arith, refl)
 has_write_fault (Run workers depth grain pool trace) = (8, omega arith, refl)
 has_write_fault (Tune up_to) = (4, omega arith, refl)
-has_write_fault (Demo seed size workers) = (7, omega arith, refl)
+has_write_fault (Demo seed size workers) = (4, omega arith, refl)
 
 has_no_memory : (ask : Ask) → Contains (statuses ask) 11
 has_no_memory Check = (4, omega arith, refl)
 has_no_memory Choices = (4, omega arith, refl)
 has_no_memory (Run workers depth grain pool trace) = (9, omega arith, refl)
 has_no_memory (Tune up_to) = (5, omega arith, refl)
-has_no_memory (Demo seed size workers) = (8, omega arith, refl)
+has_no_memory (Demo seed size workers) = (5, omega arith, refl)
 
 module _ (words : List (List ℕ)) (shelf : ShelfChange) (out err : SinkChange) (status : ℕ) (ends : Ends words shelf out err status) where
   module _ (ask : Ask) (place : ℕ) (line : Line words ask place) where
     answers_has : (reply : Reply) → Answers words shelf.before reply → HasOne (statuses ask) reply
     answers_has reply (inl (other, there, again, answers)) =
-        subst (λ a. HasOne (statuses a) reply) (one_reading words other ask there place again line).0 (asked_has other (drop there words) shelf.before reply answers)
+        subst (λ a. HasOne (statuses a) reply) (one_reading words other ask there place again line).0 (asked_has other (asks_within again.command again.settings again.others other again.asks) (drop there words) shelf.before reply answers)
     answers_has reply (inr (outside, is)) = absurd (outside (ask, place, line))
 
     answered_has : IsAnswered words shelf.before out err status → Contains (statuses ask) status

@@ -2,6 +2,7 @@
 use Rattle.std.specs.Prelude.{◌≡◌, ◌≢◌, ℕ, zero, suc, List, ◌++◌, flat_map, codes, Some, Result, Ok, Err}
 use Rattle.pb_matrix.specs.Value.{MatrixValue}
 use Rattle.pb_model.specs.Calls.{TrappedCell}
+use Rattle.pb_demo.specs.Demonstrations.{demo_config, demo_transform}
 use Rattle.pb_gen.specs.Examples.{example_of}
 use Rattle.pb_gen.specs.Texts.{text_of}
 use Rattle.pb_summary.specs.Summary.{summary_text}
@@ -10,15 +11,7 @@ use Rattle.pb_top.specs.Runs.{Fitting, RunsWith, answer_reply, run_answer}
 use Rattle.pb_top.specs.Steps.{Then}
 
 -- ---- the runs: 0 multiplies two matrices, 1 makes a rolling sum
--- the transform, the text of the configuration, and the name that its summary begins with
-abbrev pub demo_transform : ℕ → List ℕ
-demo_transform zero = codes "MatrixMultiply"
-demo_transform (suc _) = codes "RollingSum"
-
-abbrev pub demo_config : ℕ → List ℕ
-demo_config zero = codes "choose MatrixMultiply.AB {0,1,2,3} = 0 until 32 then 3\n"
-demo_config (suc _) = codes "choose RollingSum.B {0,1} = 0 until 2 then 1\n"
-
+-- the name that a run's summary begins with
 abbrev pub demo_name : ℕ → List ℕ
 demo_name zero = codes "MatrixMultiply AB"
 demo_name (suc _) = codes "RollingSum B"

@@ -2,7 +2,8 @@ use Rattle.std.proofs.Common.{◌≡◌, Err, Ok, Some, arith, inl, inr, length,
 use Rattle.std.proofs.lemmas.Result.{err_from_is_err_and}
 use Rattle.pb_program.specs.Trees.{bare_prog}
 use Rattle.pb_entry.specs.Entering.{Enters}
-use Rattle.pb_top.specs.Demos.{Summarizes, demo_config, demo_name, demo_transform}
+use Rattle.pb_demo.specs.Demonstrations.{demo_config, demo_transform}
+use Rattle.pb_top.specs.Demos.{Summarizes, demo_name}
 use Rattle.pb_top.specs.Runs.{AfterAcceptWith, AfterInputs, Configures, FindsTransform}
 use Rattle.pb_top.specs.Working.{StopsWith}
 use Rattle.pb_top.proofs.StepLemmas.{replies_map, stops_map}

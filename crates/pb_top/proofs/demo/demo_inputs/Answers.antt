@@ -1,7 +1,8 @@
 use Rattle.std.proofs.Common.{subst}
 use Rattle.std.proofs.lemmas.Result.{err_from_is_err_and}
 use Rattle.pb_program.specs.Trees.{bare_prog}
-use Rattle.pb_top.specs.Demos.{Summarizes, demo_name, demo_transform}
+use Rattle.pb_demo.specs.Demonstrations.{demo_transform}
+use Rattle.pb_top.specs.Demos.{Summarizes, demo_name}
 use Rattle.pb_top.specs.Runs.{AfterInputs}
 use Rattle.pb_top.specs.Working.{CannotRun, Replies, StopsWith, fitting_of}
 use Rattle.pb_top.proofs.FinishLemmas.{cannot_run, has_run}

@@ -2,7 +2,8 @@ use Rattle.std.proofs.Common.{Err, Some, inl, inr, subst}
 use Rattle.std.proofs.lemmas.Result.{err_from_is_err_and}
 use Rattle.pb_program.specs.Trees.{bare_prog}
 use Rattle.pb_syntax.specs.Trees.{bare_text}
-use Rattle.pb_top.specs.Demos.{Summarizes, demo_config, demo_name, demo_transform}
+use Rattle.pb_demo.specs.Demonstrations.{demo_config, demo_transform}
+use Rattle.pb_top.specs.Demos.{Summarizes, demo_name}
 use Rattle.pb_top.specs.Runs.{AfterAcceptWith}
 use Rattle.pb_top.specs.Steps.{Accepts, AfterResolved, OfProgram}
 use Rattle.pb_top.specs.Working.{Replies}

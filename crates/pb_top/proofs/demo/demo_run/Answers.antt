@@ -5,7 +5,8 @@ use Rattle.pb_gen.specs.Texts.{text_of}
 use Rattle.pb_front.specs.Reading.{IsRead}
 use Rattle.pb_matrix.specs.Value.{MatrixValue}
 use Rattle.pb_syntax.specs.Trees.{bare_text}
-use Rattle.pb_top.specs.Demos.{DemoRun, Summarizes, demo_config, demo_name, demo_transform}
+use Rattle.pb_demo.specs.Demonstrations.{demo_config, demo_transform}
+use Rattle.pb_top.specs.Demos.{DemoRun, Summarizes, demo_name}
 use Rattle.pb_top.specs.Runs.{AfterAcceptWith}
 use Rattle.pb_top.specs.Steps.{AfterResolved, OfProgram, Reads}
 use Rattle.pb_top.specs.Working.{Replies, StopsWith}

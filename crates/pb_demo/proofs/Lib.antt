@@ -1,0 +1,11 @@
+pub mod Texts
+pub mod Trees
+pub mod Everywhere
+pub mod Grids
+pub mod Fine
+pub mod Product
+pub mod Sound
+pub mod Accepted
+pub mod Configs
+pub mod Entries
+pub mod Found
