@@ -1,0 +1,4 @@
+pub mod Roll
+pub mod Settled
+pub mod Rolls
+pub mod Found
