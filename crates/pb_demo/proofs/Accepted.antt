@@ -66,7 +66,7 @@ multiply_bounded = record { sides = are_sides written s.multiply_few s.multiply_
 multiply_cuts : AreCut written
 multiply_cuts = record { each = all_of (HasCut written) (made_matrices written) (s.multiply_cut, tt) }
 
-pair : program 0 ≡ add ∷ written ∷ []
+pub pair : program 0 ≡ add ∷ written ∷ []
 pair = subst (λ t. program 0 ≡ add ∷ t ∷ []) is_written s.multiply_is
 
 both_fit : AllByRecursion (IsTransform 2) (add ∷ written ∷ [])

@@ -1,2 +1,2 @@
-mod MatrixLemmas
+pub mod MatrixLemmas
 mod StreamLemmas
