@@ -1,11 +1,12 @@
 -- Which rule the configuration of the product chooses, where rows are halved: at sizes (n, h, n).
 use Rattle.std.proofs.Common.{◌≡◌, ◌∙◌, refl, sym, ap, subst, inl, inr, ◌⊎◌, ℕ, ◌/◌, ◌≤◌, ◌<◌, nat_lt, Bool, true, false, ◌&&◌, ◌||◌, not, List, [], ◌∷◌, filter, slice_get, Option, Some, Ok, ℤ, pos, ◌≤ℤ◌, ◌<ℤ◌, arith}
 use Rattle.std.specs.Prelude.{nat_le, int_le, int_lt, if◌then◌else◌}
-use Rattle.std.specs.List.{AllByRecursion, list_all, list_any}
+use Rattle.std.specs.List.{AllByRecursion, Contains, list_all, list_any, range_with_len}
 use Rattle.std.specs.Option.{option_map_or}
 use Rattle.std.proofs.lemmas.Int.{ints}
 use Rattle.std.proofs.lemmas.Bool.{cases_lt}
 use Rattle.std.proofs.lemmas.Bool.Decides.{nat_tests}
+use Rattle.pb_base.proofs.ListLemmas.{in_filter, in_range}
 use Rattle.pb_linear.specs.Numbers.{value_before}
 use Rattle.pb_config.specs.Choices.{levels_of, rules_next}
 use Rattle.pb_config.specs.Reading.{config_read}
@@ -206,3 +207,10 @@ module _ (config : ConfigValue) (said : config_read (program 0) (demo_config 0) 
 
   pub chosen_is : chosen_rule config 1 written (n ∷ h ∷ n ∷ []) (record { matrix = 2; x = x; y = y }) ≡ picks n h
   chosen_is = by_size (nat_lt n 32) (nat_lt h 2) refl refl
+
+-- the plan that halves columns may make each cell of a matrix of two columns
+pub columns_lawful : (n h x y : ℕ) → x < n → y < h → 2 ≤ n → Contains (lawful written (n ∷ h ∷ n ∷ []) (record { matrix = 2; x = x; y = y })) 2
+unfolding lawful
+columns_lawful n h x y across down wide =
+    in_filter (is_lawful written (n ∷ h ∷ n ∷ []) (cell n h x y across down)) (range_with_len 0 4) 2 (in_range 4 2 (omega arith))
+    (is_can (n ∷ h ∷ n ∷ []) (cell n h x y across down) 2 (nth_rule 2) refl refl ∙ second n h x y across down wide)

@@ -1,0 +1,2 @@
+//! The answers of the demonstration.
+#![tactic(auto)]
