@@ -1,3 +1,5 @@
 pub mod Lists
 pub mod Jobs
 pub mod Steps
+pub mod Links
+pub mod Products

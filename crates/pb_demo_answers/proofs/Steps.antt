@@ -75,7 +75,7 @@ few_append a b c d xs ys f g = record {
   read = all_append OfInputs xs ys f.read g.read;
 }
 
-few_more : (a b c d : ℕ) (xs : List Step) → AreFew a b xs → a ≤ c → b ≤ d → AreFew c d xs
+pub few_more : (a b c d : ℕ) (xs : List Step) → AreFew a b xs → a ≤ c → b ≤ d → AreFew c d xs
 few_more a b c d xs f p q = record { all = omega (arith, f.all, p, q); others = omega (arith, f.others, q); made = f.made; read = f.read }
 
 few_none : AreFew 0 0 []
@@ -103,7 +103,7 @@ all_kept P p (x ∷ xs) h = by (p x) refl (all_kept P p xs h.1)
     by true e rest = rw e (h.0, rest)
     by false e rest = rw e rest
 
-same_sides : {a b c d : ℕ} → a ≡ c → b ≡ d → (let p : Sides = (pos a, pos b) in p) ≡ (let p : Sides = (pos c, pos d) in p)
+pub same_sides : {a b c d : ℕ} → a ≡ c → b ≡ d → (let p : Sides = (pos a, pos b) in p) ≡ (let p : Sides = (pos c, pos d) in p)
 same_sides e f = cc
 
 if_true : {A : Type 0} (b : Bool) (x y : A) → b ≡ true → (if b then x else y) ≡ x
