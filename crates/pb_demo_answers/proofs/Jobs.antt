@@ -46,6 +46,17 @@ use Rattle.pb_demo_answers.proofs.Lists.{each_in, greatest_most, kept_fewer, non
 use Rattle.pb_demo_runs.proofs.Choice.{chosen_is, columns_lawful, picks}
 use Rattle.pb_demo_runs.proofs.Halves.{written_there}
 
+-- the one matrix that it makes
+pub matrix_is : (n h m : ℕ) (d : DeclValue) → 2 ≤ m → slice_get written.matrices m ≡ Some d → (m ≡ 2) × (exact_value d.w (n ∷ h ∷ n ∷ []) ≡ pos n) × (exact_value d.h (n ∷ h ∷ n ∷ []) ≡ pos h)
+unfolding value_before
+matrix_is n h zero d made at = absurd (omega (arith, made))
+matrix_is n h (suc zero) d made at = absurd (omega (arith, made))
+matrix_is n h (suc (suc zero)) d made at =
+    let two : ℕ = 2 in
+    let same = same_Some _ _ at in
+    subst (λ (e : DeclValue). (two ≡ two) × (exact_value e.w (n ∷ h ∷ n ∷ []) ≡ pos n) × (exact_value e.h (n ∷ h ∷ n ∷ []) ≡ pos h)) same (refl, omega (arith, ints), omega (arith, ints))
+matrix_is n h (suc (suc (suc m))) d made at = absurd (none-some d at)
+
 well : IsWellFormed (program 0)
 well = formed (text_of 0) (program 0) multiply_accepted
 
@@ -63,16 +74,6 @@ module _ (a : AnalysisValue) (is : IsAnalysis written a) (config : ConfigValue) 
   parts = parts_of config 1 written sizes a.nodes
 
   -- ---- its parts
-  matrix_is : (m : ℕ) (d : DeclValue) → 2 ≤ m → slice_get written.matrices m ≡ Some d → (m ≡ 2) × (exact_value d.w sizes ≡ pos n) × (exact_value d.h sizes ≡ pos h)
-  unfolding value_before
-  matrix_is zero d made at = absurd (omega (arith, made))
-  matrix_is (suc zero) d made at = absurd (omega (arith, made))
-  matrix_is (suc (suc zero)) d made at =
-      let two : ℕ = 2 in
-      let same = same_Some _ _ at in
-      subst (λ (e : DeclValue). (two ≡ two) × (exact_value e.w sizes ≡ pos n) × (exact_value e.h sizes ≡ pos h)) same (refl, omega (arith, ints), omega (arith, ints))
-  matrix_is (suc (suc (suc m))) d made at = absurd (none-some d at)
-
   -- a part of the matrix that is made
   pub record IsOwn (part : FramePart) : Type 0 where
     pub node : NodeValue
@@ -94,7 +95,7 @@ module _ (a : AnalysisValue) (is : IsAnalysis written a) (config : ConfigValue) 
   own_part part has =
       let of = of_part 1 written a sizes instance config part has in
       let made = corner_made 1 written a sizes instance part.node of.0 of.1 of.2 in
-      let sides = matrix_is of.0.matrix made.cell.decl made.made made.cell.there in
+      let sides = matrix_is n h of.0.matrix made.cell.decl made.made made.cell.there in
       let below = segment_below (program 0) 1 written a sizes well multiply_accepted.sound written_there is range part.node of.0 made.cell.decl of.1 made.cell.there in
       let across : (corner_of of.0 sizes).x < n = omega (arith, ints, made.cell.before_x, sides.1) in
       let down : (corner_of of.0 sizes).y < h = omega (arith, ints, made.cell.before_y, sides.2) in
@@ -119,7 +120,7 @@ module _ (a : AnalysisValue) (is : IsAnalysis written a) (config : ConfigValue) 
   columns_among two part has =
       let o = own_part part has in
       let made = corner_made 1 written a sizes instance part.node o.node o.there o.own in
-      let sides = matrix_is o.node.matrix made.cell.decl made.made made.cell.there in
+      let sides = matrix_is n h o.node.matrix made.cell.decl made.made made.cell.there in
       let across : (corner_of o.node sizes).x < n = omega (arith, ints, made.cell.before_x, sides.1) in
       let down : (corner_of o.node sizes).y < h = omega (arith, ints, made.cell.before_y, sides.2) in
       let may = subst (λ (m : ℕ). Contains (lawful written sizes (record { matrix = m; x = (corner_of o.node sizes).x; y = (corner_of o.node sizes).y })) 2) (sym o.matrix)

@@ -3,3 +3,5 @@ pub mod Jobs
 pub mod Steps
 pub mod Links
 pub mod Products
+pub mod Rolls
+pub mod Counts

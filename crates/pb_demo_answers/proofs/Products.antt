@@ -41,10 +41,10 @@ second_found [] are = absurd are
 second_found (a ∷ []) are = absurd are.1
 second_found (a ∷ b ∷ found) are = (b, refl, are.1.0)
 
-small_picks : (n h : ℕ) → n < 32 → picks n h ≡ 0
+pub small_picks : (n h : ℕ) → n < 32 → picks n h ≡ 0
 small_picks n h small = let e : nat_lt n 32 ≡ true = grind (arith, nat_tests, small) in rw e refl
 
-low_picks : (n h : ℕ) → h < 2 → picks n h ≡ 0
+pub low_picks : (n h : ℕ) → h < 2 → picks n h ≡ 0
 low_picks n h low = by (nat_lt n 32) refl
   where
     flat : nat_lt h 2 ≡ true
@@ -54,7 +54,7 @@ low_picks n h low = by (nat_lt n 32) refl
     by true e = rw e refl
     by false e = rw (e, flat) refl
 
-high_picks : (n h : ℕ) → 32 ≤ n → 2 ≤ h → picks n h ≡ 3
+pub high_picks : (n h : ℕ) → 32 ≤ n → 2 ≤ h → picks n h ≡ 3
 high_picks n h large tall =
     let e : nat_lt n 32 ≡ false = grind (arith, nat_tests, large) in
     let f : nat_lt h 2 ≡ false = grind (arith, nat_tests, tall) in

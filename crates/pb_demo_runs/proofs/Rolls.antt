@@ -38,31 +38,35 @@ use Rattle.pb_demo.proofs.Trees.{program}
 use Rattle.pb_demo_runs.proofs.Roll.{AreNine, row_of, sigma, the_cell}
 use Rattle.pb_demo_runs.proofs.Settled.{all_sums, given_cell, length_range}
 
-abbrev made : DeclValue
+abbrev pub made : DeclValue
 made = decl_or (slice_get roll.matrices 1)
 
-abbrev input : DeclValue
+abbrev pub input : DeclValue
 input = decl_or (slice_get roll.matrices 0)
 
-sides_of_input : (n : ℕ) → (exact_value input.w (n ∷ []) ≡ pos n) × (exact_value input.h (n ∷ []) ≡ pos 1)
+pub sides_of_input : (n : ℕ) → (exact_value input.w (n ∷ []) ≡ pos n) × (exact_value input.h (n ∷ []) ≡ pos 1)
 unfolding after_mark expression conjunction compared total product name_token dimensions value_before
 sides_of_input n = (omega (arith, ints), omega (arith, ints))
 
-sides_of_made : (n : ℕ) → (exact_value made.w (n ∷ []) ≡ pos n) × (exact_value made.h (n ∷ []) ≡ pos 1)
+pub sides_of_made : (n : ℕ) → (exact_value made.w (n ∷ []) ≡ pos n) × (exact_value made.h (n ∷ []) ≡ pos 1)
 unfolding after_mark expression conjunction compared total product name_token dimensions value_before
 sides_of_made n = (omega (arith, ints), omega (arith, ints))
 
-input_there : slice_get roll.matrices 0 ≡ Some input
+pub input_there : slice_get roll.matrices 0 ≡ Some input
 unfolding after_mark expression conjunction compared total product name_token dimensions
 input_there = refl
 
-made_there : slice_get roll.matrices 1 ≡ Some made
+pub made_there : slice_get roll.matrices 1 ≡ Some made
 unfolding after_mark expression conjunction compared total product name_token dimensions
 made_there = refl
 
-one_input : roll.inputs ≡ 1
+pub one_input : roll.inputs ≡ 1
 unfolding after_mark expression conjunction compared total product name_token dimensions
 one_input = refl
+
+pub no_third : (k : ℕ) → slice_get roll.matrices (suc (suc k)) ≡ None
+unfolding after_mark expression conjunction compared total product name_token dimensions
+no_third k = refl
 
 -- the cells that its rules make
 cells_are : (n : ℕ) → made_cells roll (n ∷ []) ≡ map the_cell (range_with_len 0 n)
