@@ -4,5 +4,6 @@ pub mod Halves
 pub mod Settled
 pub mod Nines
 pub mod Made
+pub mod Dots
 pub mod Rolls
 pub mod Found

@@ -29,7 +29,7 @@ rule_or None = record { priority = 0; kind = kind.Cell; outs = []; names = []; r
 abbrev pub rule : ℕ → ProgRule
 rule k = rule_or (slice_get roll.rules k)
 
-place_extent : (z : ℤ) → extent (one_place z) ≡ 1
+pub place_extent : (z : ℤ) → extent (one_place z) ≡ 1
 place_extent z = let one : (z +ℤ pos 1) -ℤ z ≡ pos 1 = omega (arith, ints) in ap natural one
 
 -- what the second rule's body leaves

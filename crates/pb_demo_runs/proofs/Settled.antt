@@ -70,7 +70,7 @@ row_reads n x =
     append-nil _
     ∙ row_of 0 _ 0 (x + 1) (numbers_are (record { low = here n x (nth_read 0 (rule 0)).x0; high = here n x (nth_read 0 (rule 0)).x1 }) 0 (x + 1) (sym (low_is_0 n x)) (sym (high_is_next n x)) (omega arith) ∙ ap (range_with_len 0) (omega arith)) refl
 
-numbers_one : (z : ℤ) (j : ℕ) → z ≡ pos j → numbers_of (one_place z) ≡ range_with_len j 1
+pub numbers_one : (z : ℤ) (j : ℕ) → z ≡ pos j → numbers_of (one_place z) ≡ range_with_len j 1
 numbers_one z j e = let one : (j + 1) - j ≡ 1 = omega arith in numbers_are (one_place z) j (j + 1) (sym e) (omega (arith, ints, e)) (omega arith) ∙ ap (range_with_len j) one
 
 own_place : (n x : ℕ) → here n x (nth_read 0 (rule 1)).x0 ≡ pos x
@@ -106,7 +106,7 @@ two_reads n j =
 
 -- ---- the rule of a cell
 module _ (config : ConfigValue) (plans : Plans) (number : ℕ) (t : ProgTransform) (sizes : List ℕ) (c : Cell) where
-  as_rule : (f : Cell → Outcome) (k : ℕ) (r : ProgRule) → chosen_rule config number t sizes c ≡ k → slice_get t.rules k ≡ Some r → r.kind ≡ kind.Cell
+  pub as_rule : (f : Cell → Outcome) (k : ℕ) (r : ProgRule) → chosen_rule config number t sizes c ≡ k → slice_get t.rules k ≡ Some r → r.kind ≡ kind.Cell
       → cell_equation config plans number t sizes c (map f (cell_reads config plans number t sizes c)) ≡ own_outcome t.matrices sizes c r (rule_gives t.matrices sizes c number k r (map f (reads t.matrices sizes c r)))
   unfolding cell_equation cell_reads
   as_rule f k r e at cell =
