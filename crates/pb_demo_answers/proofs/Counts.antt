@@ -28,11 +28,10 @@ use Rattle.pb_demo.proofs.Entries.{roll_there}
 use Rattle.pb_demo.proofs.Product.{written}
 use Rattle.pb_demo.proofs.Sound.{decl_or, roll}
 use Rattle.pb_demo.proofs.Trees.{program}
-use Rattle.pb_demo_runs.proofs.Choice.{chosen_is, picks}
+use Rattle.pb_demo_runs.proofs.Choice.{chosen_is, high_picks, low_picks, picks, small_picks}
 use Rattle.pb_demo_runs.proofs.Halves.{calls_are, halving, lower, lower_fits, lower_given, sizes_are, upper, upper_fits, upper_given, written_there}
 use Rattle.pb_demo_runs.proofs.Rolls.{made, sides_of_made}
-use Rattle.pb_demo_answers.proofs.Jobs.{matrix_is}
-use Rattle.pb_demo_answers.proofs.Products.{high_picks, low_picks, small_picks}
+use Rattle.pb_demo_runs.proofs.Places.{is_made, matrix_is, nth_decl}
 
 -- at most so many calls and cells, and no side over 256
 pub record IsBelow (most_calls most_cells : ℕ) (c : Counted) : Type 0 where
@@ -59,34 +58,15 @@ no_other : (f : Cell → ℕ) (k : ℕ) (cs : List Cell) → ((c : Cell) → Con
 no_other f k [] each = refl
 no_other f k (c ∷ cs) each = rw (each c (in_head c cs)) (no_other f k cs (λ d has. each d (in_tail c d cs has)))
 
-in_span : (z : ℤ) (n : ℕ) → z ≡ pos n → (x : ℕ) → Contains (numbers_of (from_start z)) x → x < n
-in_span z n e x has =
-    let kept = filter_in (λ (k : ℕ). int_le (pos 0) (pos k)) (range_with_len 0 (natural z)) x has in
-    omega (arith, range_in (natural z) x kept.0, ap natural e)
-
-abbrev nth_decl : ℕ → DeclValue
-nth_decl k = decl_or (slice_get written.matrices k)
-
 -- ---- the product
 module _ (config : ConfigValue) (said : config_read (program 0) (demo_config 0) ≡ Ok config) (n : ℕ) (some : 1 ≤ n) (few : n ≤ 256) where
   module _ (h : ℕ) (tall : 1 ≤ h) (low : h ≤ n) where
     abbrev sizes : List ℕ
     sizes = n ∷ h ∷ n ∷ []
 
-    is_made : (c : Cell) → Contains (made_cells written sizes) c → (c ≡ record { matrix = 2; x = c.x; y = c.y }) × (c.x < n) × (c.y < h)
-    unfolding made_cells cells_of
-    is_made c has =
-        let one = subst (λ cs. Contains cs c) (append-nil (matrix_cells sizes 2 (nth_decl 2))) has in
-        let row = flat_in (λ (y : ℕ). map (λ (x : ℕ). (let q : Cell = record { matrix = 2; x = x; y = y } in q)) (numbers_of (from_start (exact_value (nth_decl 2).w sizes)))) (numbers_of (from_start (exact_value (nth_decl 2).h sizes))) c one in
-        let from = map_in (λ (x : ℕ). (let q : Cell = record { matrix = 2; x = x; y = row.0 } in q)) (numbers_of (from_start (exact_value (nth_decl 2).w sizes))) c row.2 in
-        let sides = matrix_is n h 2 (nth_decl 2) (omega arith) refl in
-        let across = in_span (exact_value (nth_decl 2).w sizes) n sides.1 from.0 from.1 in
-        let down = in_span (exact_value (nth_decl 2).h sizes) h sides.2 row.0 row.1 in
-        subst (λ (q : Cell). (q ≡ record { matrix = 2; x = q.x; y = q.y }) × (q.x < n) × (q.y < h)) from.2 (refl, across, down)
-
     chosen_of : (c : Cell) → Contains (made_cells written sizes) c → chosen_rule config 1 written sizes c ≡ picks n h
     chosen_of c has =
-        let it = is_made c has in
+        let it = is_made n h c has in
         ap (chosen_rule config 1 written sizes) it.0 ∙ chosen_is config said n h low c.x c.y it.1 it.2
 
     not_chosen : (k other : ℕ) → picks n h ≡ k → (k == other) ≡ false → list_any (λ c. chosen_rule config 1 written sizes c == other) (made_cells written sizes) ≡ false

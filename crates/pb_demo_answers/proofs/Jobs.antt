@@ -45,17 +45,7 @@ use Rattle.pb_demo.proofs.Trees.{program}
 use Rattle.pb_demo_answers.proofs.Lists.{each_in, greatest_most, kept_fewer, none_kept, only_one, pairs_count}
 use Rattle.pb_demo_runs.proofs.Choice.{chosen_is, columns_lawful, picks}
 use Rattle.pb_demo_runs.proofs.Halves.{written_there}
-
--- the one matrix that it makes
-pub matrix_is : (n h m : ℕ) (d : DeclValue) → 2 ≤ m → slice_get written.matrices m ≡ Some d → (m ≡ 2) × (exact_value d.w (n ∷ h ∷ n ∷ []) ≡ pos n) × (exact_value d.h (n ∷ h ∷ n ∷ []) ≡ pos h)
-unfolding value_before
-matrix_is n h zero d made at = absurd (omega (arith, made))
-matrix_is n h (suc zero) d made at = absurd (omega (arith, made))
-matrix_is n h (suc (suc zero)) d made at =
-    let two : ℕ = 2 in
-    let same = same_Some _ _ at in
-    subst (λ (e : DeclValue). (two ≡ two) × (exact_value e.w (n ∷ h ∷ n ∷ []) ≡ pos n) × (exact_value e.h (n ∷ h ∷ n ∷ []) ≡ pos h)) same (refl, omega (arith, ints), omega (arith, ints))
-matrix_is n h (suc (suc (suc m))) d made at = absurd (none-some d at)
+use Rattle.pb_demo_runs.proofs.Places.{matrix_is}
 
 well : IsWellFormed (program 0)
 well = formed (text_of 0) (program 0) multiply_accepted

@@ -21,7 +21,7 @@ use Rattle.pb_demo.proofs.Accepted.{pair}
 use Rattle.pb_demo.proofs.Product.{written}
 use Rattle.pb_demo.proofs.Sound.{add}
 use Rattle.pb_demo.proofs.Trees.{program}
-use Rattle.pb_demo_runs.proofs.Choice.{picks}
+use Rattle.pb_demo_runs.proofs.Choice.{high_picks, low_picks, picks, small_picks}
 use Rattle.pb_demo_answers.proofs.Jobs.{one_span}
 use Rattle.pb_demo_answers.proofs.Links.{links_most}
 use Rattle.pb_demo_answers.proofs.Steps.{AreFew, few_more, halving_few, leaf_few, same_sides}
@@ -40,25 +40,6 @@ second_found : (found : List AnalysisValue) → AllZip IsAnalysis (add ∷ writt
 second_found [] are = absurd are
 second_found (a ∷ []) are = absurd are.1
 second_found (a ∷ b ∷ found) are = (b, refl, are.1.0)
-
-pub small_picks : (n h : ℕ) → n < 32 → picks n h ≡ 0
-small_picks n h small = let e : nat_lt n 32 ≡ true = grind (arith, nat_tests, small) in rw e refl
-
-pub low_picks : (n h : ℕ) → h < 2 → picks n h ≡ 0
-low_picks n h low = by (nat_lt n 32) refl
-  where
-    flat : nat_lt h 2 ≡ true
-    flat = grind (arith, nat_tests, low)
-
-    by : (b : Bool) → nat_lt n 32 ≡ b → picks n h ≡ 0
-    by true e = rw e refl
-    by false e = rw (e, flat) refl
-
-pub high_picks : (n h : ℕ) → 32 ≤ n → 2 ≤ h → picks n h ≡ 3
-high_picks n h large tall =
-    let e : nat_lt n 32 ≡ false = grind (arith, nat_tests, large) in
-    let f : nat_lt h 2 ≡ false = grind (arith, nat_tests, tall) in
-    rw (e, f) refl
 
 module _ (found : List AnalysisValue) (a : AnalysisValue) (there : slice_get found 1 ≡ Some a) (is : IsAnalysis written a) (config : ConfigValue) (said : config_read (program 0) (demo_config 0) ≡ Ok config) (n : ℕ) (some : 1 ≤ n) (few : n ≤ 256) where
   -- a call of the product with so many rows, by its depth

@@ -179,6 +179,25 @@ module _ (n h x y : ℕ) (across : x < n) (down : y < h) where
 abbrev pub picks : ℕ → ℕ → ℕ
 picks n h = if nat_lt n 32 then 0 else if nat_lt h 2 then 0 else 3
 
+pub small_picks : (n h : ℕ) → n < 32 → picks n h ≡ 0
+small_picks n h small = let e : nat_lt n 32 ≡ true = grind (arith, nat_tests, small) in rw e refl
+
+pub low_picks : (n h : ℕ) → h < 2 → picks n h ≡ 0
+low_picks n h low = by (nat_lt n 32) refl
+  where
+    flat : nat_lt h 2 ≡ true
+    flat = grind (arith, nat_tests, low)
+
+    by : (b : Bool) → nat_lt n 32 ≡ b → picks n h ≡ 0
+    by true e = rw e refl
+    by false e = rw (e, flat) refl
+
+pub high_picks : (n h : ℕ) → 32 ≤ n → 2 ≤ h → picks n h ≡ 3
+high_picks n h large tall =
+    let e : nat_lt n 32 ≡ false = grind (arith, nat_tests, large) in
+    let f : nat_lt h 2 ≡ false = grind (arith, nat_tests, tall) in
+    rw (e, f) refl
+
 module _ (config : ConfigValue) (said : config_read (program 0) (demo_config 0) ≡ Ok config) (n h : ℕ) (low : h ≤ n) (x y : ℕ) (across : x < n) (down : y < h) where
   abbrev of_set : List ℕ → ℕ
   of_set set = chosen the_config (record { transform = 1; matrix = 2; set = set }) n

@@ -71,7 +71,7 @@ area_count m a x0 x1 y0 y1 left right low high across down =
     ∙ ap₂ (λ (u v : ℕ). u * v) (ap length xs ∙ length_range x0 (x1 - x0)) (ap length ys ∙ length_range y0 (y1 - y0))
 
 -- ---- the rule
-pair_of : {a b c d : ℕ} → a ≡ c → b ≡ d → (let p : ℕ × ℕ = (a, b) in p) ≡ (let p : ℕ × ℕ = (c, d) in p)
+pub pair_of : {a b c d : ℕ} → a ≡ c → b ≡ d → (let p : ℕ × ℕ = (a, b) in p) ≡ (let p : ℕ × ℕ = (c, d) in p)
 pair_of e f = cc
 
 long_extent : (low high : ℤ) (k : ℕ) → high -ℤ low ≡ pos k → extent (record { low = low; high = high }) ≡ k

@@ -5,5 +5,7 @@ pub mod Settled
 pub mod Nines
 pub mod Made
 pub mod Dots
+pub mod Places
+pub mod Products
 pub mod Rolls
 pub mod Found
