@@ -1,12 +1,12 @@
 -- A cell of the product by its rule for single cells, at sizes (n, h, n): the dot product of a row and a column is a number.
-use Rattle.std.proofs.Common.{◌≡◌, ◌∙◌, refl, sym, ap, ap₂, subst, ℕ, zero, suc, ◌+◌, ◌-◌, ◌*◌, ◌^◌, ◌≤◌, ◌<◌, true, List, [], ◌∷◌, ◌++◌, length, map, take, drop, Option, None, Result, Ok, ℤ, pos, ◌+ℤ◌, ◌-ℤ◌, ◌*ℤ◌, unsigned_abs, arith}
+use Rattle.std.proofs.Common.{◌≡◌, ◌∙◌, refl, sym, ap, ap₂, subst, ℕ, zero, suc, ◌+◌, ◌-◌, ◌*◌, ◌≤◌, true, List, [], ◌∷◌, ◌++◌, length, map, take, drop, Option, Result, Ok, ℤ, pos, ◌+ℤ◌, ◌-ℤ◌, ◌*ℤ◌, unsigned_abs, arith}
 use Rattle.std.specs.List.{AllByRecursion, flat_map, range_with_len}
 use Rattle.std.proofs.Math.Nat.{mul-le-mul}
 use Rattle.std.proofs.lemmas.Int.{ints, unsigned_abs-mul}
 use Rattle.std.proofs.lemmas.Bool.Decides.{nat_tests}
 use Rattle.std.specs.Prelude.{◌==◌}
 use Rattle.std.proofs.lemmas.List.{append-nil, length-append, length-drop, length-map, length-take-le}
-use Rattle.pb_linear.specs.Numbers.{exact_value, value_before}
+use Rattle.pb_linear.specs.Numbers.{value_before}
 use Rattle.pb_values.specs.Checked.{checked_result}
 use Rattle.pb_values.specs.declared.outcome.Kind.{Kind}
 use Rattle.pb_values.specs.declared.outcome.Outcome.{Outcome}
@@ -15,7 +15,7 @@ use Rattle.pb_program.specs.Areas.{Area}
 use Rattle.pb_program.specs.Stmts.{stmts}
 use Rattle.pb_model.specs.Bodies.{Bindings, Store, after, after_all, at_first, called, dot_product, if_ok, left_by, number_of, output, outputs_from, products, value, view_of, with_number}
 use Rattle.pb_model.specs.Cells.{Cell, cells_of, natural, numbers_of, reads}
-use Rattle.pb_model.specs.Equations.{after_body, bindings, cut_up, extent, first_trap, number_in, own_outcome, rule_gives, shown_area, trap_of, unless_trapped, view_sides}
+use Rattle.pb_model.specs.Equations.{after_body, bindings, cut_up, extent, number_in, own_outcome, rule_gives, shown_area, trap_of, unless_trapped, view_sides}
 use Rattle.pb_views.proofs.CellLemmas.{numbers_are}
 use Rattle.pb_grammar.specs.Want.{after_mark, expression, conjunction, compared, total, product, name_token, dimensions}
 use Rattle.pb_demo.proofs.Product.{written}

@@ -1,20 +1,25 @@
--- The law on the rolling sum, for whatever program its text is.
-use Rattle.std.proofs.Common.{◌≡◌, ◌∙◌, refl, sym, ap, subst, ℕ, zero, suc, ◌+◌, ◌≤◌, ◌<◌, List, [], ◌∷◌, length, take, drop, get_or, slice_get, Some, None, ℤ, pos, ◌+ℤ◌, arith}
-use Rattle.std.proofs.lemmas.Option.{same_Some}
+-- The laws, for whatever programs the texts are.
+use Rattle.std.proofs.Common.{◌≡◌, ◌∙◌, refl, sym, ap, subst, ℕ, zero, suc, ◌+◌, ◌^◌, ◌≤◌, ◌<◌, List, [], ◌∷◌, length, map, take, drop, get_or, None, Ok, ℤ, pos, ◌+ℤ◌, unsigned_abs, arith}
+use Rattle.std.specs.List.{All, AllByRecursion}
+use Rattle.std.proofs.lemmas.List.{length-map}
 use Rattle.pb_values.specs.declared.outcome.Outcome.TheVariants.{Value}
 use Rattle.pb_program.specs.Configs.{ConfigValue, IsValid}
 use Rattle.pb_program.specs.Trees.{ProgTransform}
-use Rattle.pb_model.specs.Calls.{first_trapped, made_cells, outcome_in}
+use Rattle.pb_model.specs.Calls.{first_trapped, outcome_in}
+use Rattle.pb_model.specs.Cells.{Cell}
+use Rattle.pb_config.specs.Reading.{config_read}
+use Rattle.pb_config.proofs.ValidLemmas.{read_is_valid}
 use Rattle.pb_recursion.specs.Depths.{call_at}
 use Rattle.pb_check.specs.Accepting.{IsTextAccepted}
 use Rattle.pb_check.proofs.AcceptLemmas.{one_program}
 use Rattle.pb_gen.specs.Texts.{text_of}
-use Rattle.pb_demo.proofs.Accepted.{roll_accepted}
-use Rattle.pb_demo.proofs.Entries.{roll_there}
-use Rattle.pb_demo.proofs.Sound.{roll}
+use Rattle.pb_demo.specs.Demonstrations.{demo_config}
+use Rattle.pb_demo.proofs.Accepted.{multiply_accepted, roll_accepted}
 use Rattle.pb_demo.proofs.Trees.{program}
-use Rattle.pb_demo_runs.specs.Sums.{IsSmallRow, made_cell, row, sum_of, sum_to}
+use Rattle.pb_demo_runs.specs.Sums.{IsSmallMatrix, IsSmallRow, made_cell, matrix, row, sum_of, sum_to}
 use Rattle.pb_demo_runs.proofs.Roll.{sigma, sigma_more, sigma_none}
+use Rattle.pb_demo_runs.proofs.Nines.{All as AllMatrices, IsNine, IsNumber, each_mapped, none_trapped_of}
+use Rattle.pb_demo_runs.proofs.Products.{IsGiven, square_untrapped}
 use Rattle.pb_demo_runs.proofs.Rolls.{sums, untrapped}
 
 -- the sum of the first numbers of a list
@@ -41,9 +46,37 @@ module _ (p : List ProgTransform) (config : ConfigValue) (depth : ℕ) (numbers 
       subst (λ q. outcome_in (row numbers ∷ call_at q config depth 0 (row numbers ∷ [])) (made_cell x) ≡ Value (sum_to numbers x)) same
       (sums (length numbers) small.some small.few numbers refl small.small config valid_too depth x below ∙ ap Value (sum_taken numbers 0 (x + 1) (omega (arith, below))))
 
-  pub none_trapped : (t : ProgTransform) → slice_get p 0 ≡ Some t → first_trapped (row numbers ∷ call_at p config depth 0 (row numbers ∷ [])) (made_cells t (length numbers ∷ [])) ≡ None
-  none_trapped t at =
-      let is : roll ≡ t = same_Some _ _ (sym (subst (λ q. slice_get q 0 ≡ Some roll) same roll_there) ∙ at) in
-      subst (λ u. first_trapped (row numbers ∷ call_at p config depth 0 (row numbers ∷ [])) (made_cells u (length numbers ∷ [])) ≡ None) is
-      (subst (λ q. first_trapped (row numbers ∷ call_at q config depth 0 (row numbers ∷ [])) (made_cells roll (length numbers ∷ [])) ≡ None) same
-      (untrapped (length numbers) small.some small.few numbers refl small.small config valid_too depth))
+  pub none_trapped : (cells : List Cell) → first_trapped (row numbers ∷ call_at p config depth 0 (row numbers ∷ [])) cells ≡ None
+  none_trapped cells =
+      subst (λ q. first_trapped (row numbers ∷ call_at q config depth 0 (row numbers ∷ [])) cells ≡ None) same
+      (untrapped (length numbers) small.some small.few numbers refl small.small config valid_too depth cells)
+
+-- ---- the product
+all_small : (numbers : List ℤ) → All (λ z. unsigned_abs z ≤ 9) numbers → AllByRecursion IsNine (map Value numbers)
+all_small [] h = tt
+all_small (z ∷ numbers) h = (h 0 z (omega arith), all_small numbers (λ k d below. h (suc k) d (omega (arith, below))))
+
+small_given : (n : ℕ) (numbers : List ℤ) → IsSmallMatrix n numbers → IsGiven n n (matrix n numbers)
+small_given n numbers small = record { width = refl; height = refl; whole = length-map numbers Value ∙ small.all; nine = all_small numbers small.small }
+
+module _ (p : List ProgTransform) (config : ConfigValue) (depth n : ℕ) (left right : List ℤ) (a : IsTextAccepted (text_of 0) p) (said : config_read p (demo_config 0) ≡ Ok config)
+    (some : 1 ≤ n) (few : n ≤ 256) (deep : n ≤ 2 ^ depth) (of_left : IsSmallMatrix n left) (of_right : IsSmallMatrix n right) where
+  same_product : program 0 ≡ p
+  same_product = one_program (text_of 0) (program 0) p multiply_accepted a
+
+  said_too : config_read (program 0) (demo_config 0) ≡ Ok config
+  said_too = subst (λ q. config_read q (demo_config 0) ≡ Ok config) (sym same_product) said
+
+  numbers_alone : AllMatrices IsNumber (matrix n left ∷ matrix n right ∷ call_at (program 0) config depth 1 (matrix n left ∷ matrix n right ∷ []))
+  numbers_alone = (
+    each_mapped IsNumber Value (λ z. tt) left,
+    (
+      each_mapped IsNumber Value (λ z. tt) right,
+      square_untrapped config said_too (read_is_valid (program 0) (demo_config 0) config said_too) n some few depth deep (matrix n left) (matrix n right) (small_given n left of_left) (small_given n right of_right),
+    ),
+  )
+
+  pub no_cell_trapped : (cells : List Cell) → first_trapped (matrix n left ∷ matrix n right ∷ call_at p config depth 1 (matrix n left ∷ matrix n right ∷ [])) cells ≡ None
+  no_cell_trapped cells =
+      subst (λ q. first_trapped (matrix n left ∷ matrix n right ∷ call_at q config depth 1 (matrix n left ∷ matrix n right ∷ [])) cells ≡ None) same_product
+      (none_trapped_of (matrix n left ∷ matrix n right ∷ call_at (program 0) config depth 1 (matrix n left ∷ matrix n right ∷ [])) numbers_alone cells)

@@ -1,10 +1,9 @@
 -- Matrices whose cells are numbers, and of them those whose numbers are from -9 to 9.
-use Rattle.std.proofs.Common.{◌≡◌, ◌∙◌, refl, ap, ℕ, zero, suc, ◌+◌, ◌*◌, ◌≤◌, nat_lt, Bool, true, false, ◌&&◌, List, [], ◌∷◌, ◌++◌, map, take, drop, slice_get, Option, Some, None, ℤ, unsigned_abs, arith}
+use Rattle.std.proofs.Common.{◌≡◌, refl, ℕ, zero, suc, ◌+◌, ◌*◌, ◌≤◌, nat_lt, Bool, true, false, ◌&&◌, List, [], ◌∷◌, ◌++◌, map, take, drop, slice_get, None, unsigned_abs}
 use Rattle.std.specs.Prelude.{if◌then◌else◌, slice_index_or, unwrap_or}
 use Rattle.std.specs.List.{AllByRecursion}
 use Rattle.pb_values.specs.declared.outcome.Outcome.{Outcome}
 use Rattle.pb_values.specs.declared.outcome.Outcome.TheVariants.{Value, Trapped}
-use Rattle.pb_values.specs.declared.outcome.Trap.{Trap}
 use Rattle.pb_model.specs.Calls.{Outcomes, first_trapped, in_matrices, no_outcome, or_trapped, outcome_in}
 use Rattle.pb_model.specs.Cells.{Cell}
 use Rattle.pb_model.specs.Equations.{first_trap, number_in}

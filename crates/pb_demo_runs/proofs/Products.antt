@@ -1,11 +1,10 @@
 -- A run of the product traps no cell.
-use Rattle.std.proofs.Common.{◌≡◌, ◌∙◌, refl, sym, ap, ap₂, subst, inl, inr, ◌⊎◌, ℕ, zero, suc, ◌+◌, ◌-◌, ◌*◌, ◌/◌, ◌^◌, ◌≤◌, ◌<◌, nat_lt, Bool, true, false, List, [], ◌∷◌, ◌++◌, length, map, take, drop, slice_get, Option, Some, None, Ok, ℤ, pos, arith}
+use Rattle.std.proofs.Common.{◌≡◌, ◌∙◌, refl, sym, ap, ap₂, subst, inl, inr, ℕ, zero, suc, ◌+◌, ◌-◌, ◌*◌, ◌/◌, ◌^◌, ◌≤◌, ◌<◌, Bool, true, false, List, [], ◌∷◌, ◌++◌, length, map, take, drop, slice_get, Option, Some, Ok, pos, arith}
 use Rattle.std.specs.Prelude.{if◌then◌else◌, unwrap_or}
 use Rattle.std.specs.Prelude.{◌==◌}
 use Rattle.std.specs.List.{All as ListAll, AllByRecursion, Contains, zip}
 use Rattle.std.specs.Option.{option_map_or}
 use Rattle.std.proofs.lemmas.Bool.{cases_lt}
-use Rattle.std.proofs.lemmas.Bool.Decides.{nat_tests}
 use Rattle.std.proofs.lemmas.Int.{ints}
 use Rattle.std.proofs.lemmas.List.{append-nil, length-append, length-drop, length-map, length-take-le}
 use Rattle.pb_linear.specs.Numbers.{value_before}
@@ -43,7 +42,7 @@ use Rattle.pb_demo_runs.proofs.Choice.{chosen_is, high_picks, low_picks, picks, 
 use Rattle.pb_demo_runs.proofs.Dots.{area_count, is_number, pair_of, reads_count}
 use Rattle.pb_demo_runs.proofs.Halves.{calls_are, dotting, dotting_there, enters, halving, halving_there, lower, lower_fits, reads_are, sizes_are, upper, upper_fits, written_there}
 use Rattle.pb_demo_runs.proofs.Made.{made_numbers}
-use Rattle.pb_demo_runs.proofs.Nines.{All, Holds, IsNine, IsNumber, at_any, each_dropped, each_joined, each_taken, each_weaker}
+use Rattle.pb_demo_runs.proofs.Nines.{All, Holds, IsNine, IsNumber, at_any, each_dropped, each_joined, each_taken}
 use Rattle.pb_demo_runs.proofs.Places.{IsLow, is_made, reads_low}
 use Rattle.pb_demo_runs.proofs.Roll.{nth_read}
 use Rattle.pb_demo_runs.proofs.Settled.{as_rule}

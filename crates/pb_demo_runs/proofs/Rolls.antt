@@ -1,21 +1,20 @@
 -- The run of the rolling sum.
 use Rattle.std.proofs.Common.{◌≡◌, refl, sym, ◌∙◌, ap, subst, ℕ, zero, suc, ◌+◌, ◌-◌, ◌*◌, ◌≤◌, ◌<◌, nat_lt, true, List, [], ◌∷◌, ◌++◌, length, map, get_or, slice_get, Some, None, ℤ, pos, unsigned_abs, arith}
-use Rattle.std.specs.List.{All, Contains, range_with_len}
+use Rattle.std.specs.List.{All as ListAll, Contains, range_with_len}
 use Rattle.std.proofs.lemmas.Int.{ints}
 use Rattle.std.proofs.lemmas.Bool.Decides.{nat_tests}
 use Rattle.std.proofs.lemmas.List.{append-nil, length-map}
 use Rattle.std.proofs.lemmas.Option.{none-some, same_Some}
-use Rattle.pb_base.proofs.ListLemmas.{in_map}
+use Rattle.pb_base.proofs.ListLemmas.{in_map, map_in, range_in}
 use Rattle.pb_linear.specs.Numbers.{exact_value, value_before}
 use Rattle.pb_linear.specs.Sizes.{InRange, leasts_of}
 use Rattle.pb_linear.specs.declared.sizes.TheConstants.{SIZE_TOP}
-use Rattle.pb_values.specs.declared.outcome.Outcome.{Outcome}
 use Rattle.pb_values.specs.declared.outcome.Outcome.TheVariants.{Value}
 use Rattle.pb_program.specs.Configs.{ConfigValue, IsValid}
 use Rattle.pb_program.specs.Forms.{DeclValue}
 use Rattle.pb_program.specs.WellFormed.{IsWellFormed}
-use Rattle.pb_model.specs.Calls.{IsSettled, Outcomes, first_trapped, in_matrices, call_of, made_cells, or_trapped, outcome_in}
-use Rattle.pb_model.specs.Cells.{IsCell, natural}
+use Rattle.pb_model.specs.Calls.{IsSettled, Outcomes, first_trapped, in_matrices, call_of, made_cells, outcome_in}
+use Rattle.pb_model.specs.Cells.{Cell, IsCell, natural}
 use Rattle.pb_model.specs.Chosen.{chosen_rule}
 use Rattle.pb_model.specs.Lawful.{IsLawful}
 use Rattle.pb_model.proofs.ChosenLemmas.{chosen_lawful}
@@ -36,6 +35,8 @@ use Rattle.pb_demo.proofs.Found.{formed}
 use Rattle.pb_demo.proofs.Sound.{decl_or, roll, roll_leasts}
 use Rattle.pb_demo.proofs.Trees.{program}
 use Rattle.pb_demo_runs.proofs.Roll.{AreNine, row_of, sigma, the_cell}
+use Rattle.pb_demo_runs.proofs.Made.{made_numbers}
+use Rattle.pb_demo_runs.proofs.Nines.{All, IsNumber, each_mapped, none_trapped_of}
 use Rattle.pb_demo_runs.proofs.Settled.{all_sums, given_cell, length_range}
 
 abbrev pub made : DeclValue
@@ -85,15 +86,8 @@ in_range k len x low high = (x - k, omega (arith, low, high, length_range k len)
     at k (suc len) zero d below = omega arith
     at k (suc len) (suc i) d below = at (k + 1) len i d (omega (arith, below)) ∙ omega arith
 
--- numbers aren't trapped
-none_first : (ms : List Outcomes) (f : ℕ → ℤ) (k len : ℕ) → ((x : ℕ) → k ≤ x → x < k + len → outcome_in ms (the_cell x) ≡ Value (f x)) → first_trapped ms (map the_cell (range_with_len k len)) ≡ None
-none_first ms f k zero each = refl
-none_first ms f k (suc len) each =
-    ap (λ (o : Outcome). or_trapped (the_cell k) o (first_trapped ms (map the_cell (range_with_len (k + 1) len)))) (each k (omega arith) (omega arith))
-    ∙ none_first ms f (k + 1) len (λ x low high. each x (omega (arith, low)) (omega (arith, high)))
-
 -- ---- its matrices
-module _ (n : ℕ) (some : 1 ≤ n) (few : n ≤ SIZE_TOP) (vs : List ℤ) (count : length vs ≡ n) (small : All (λ z. unsigned_abs z ≤ 9) vs) where
+module _ (n : ℕ) (some : 1 ≤ n) (few : n ≤ SIZE_TOP) (vs : List ℤ) (count : length vs ≡ n) (small : ListAll (λ z. unsigned_abs z ≤ 9) vs) where
   abbrev pub line : Outcomes
   line = record { width = n; height = 1; cells = map Value vs }
 
@@ -164,7 +158,19 @@ module _ (n : ℕ) (some : 1 ≤ n) (few : n ≤ SIZE_TOP) (vs : List ℤ) (coun
     pub sums : (x : ℕ) → x < n → outcome_in ((line ∷ []) ++ made_by_it) (the_cell x) ≡ Value (sigma a 0 (x + 1))
     sums = all_sums config (plans_at (program 1) config depth 0 roll (n ∷ [])) n few ((line ∷ []) ++ made_by_it) a nine (given_at made_by_it) settled made_in lawful_at
 
-    pub untrapped : first_trapped ((line ∷ []) ++ made_by_it) (made_cells roll (n ∷ [])) ≡ None
-    untrapped =
-        ap (first_trapped ((line ∷ []) ++ made_by_it)) (cells_are n)
-        ∙ none_first ((line ∷ []) ++ made_by_it) (λ x. sigma a 0 (x + 1)) 0 n (λ x low high. sums x (omega (arith, high)))
+    -- all that it makes are numbers
+    made_is : made_by_it ≡ call_of config (plans_at (program 1) config depth 0 roll (n ∷ [])) 0 roll (n ∷ []) (line ∷ [])
+    made_is = call_is (program 1) config depth 0 roll (line ∷ []) roll_there ∙ ap (λ (sizes : List ℕ). call_of config (plans_at (program 1) config depth 0 roll sizes) 0 roll sizes (line ∷ [])) sizes_are
+
+    each_number : (c : Cell) → Contains (made_cells roll (n ∷ [])) c → IsNumber (outcome_in ((line ∷ []) ++ made_by_it) c)
+    each_number c has =
+        let x = map_in the_cell (range_with_len 0 n) c (subst (λ cs. Contains cs c) (cells_are n) has) in
+        subst (λ q. IsNumber (outcome_in ((line ∷ []) ++ made_by_it) q)) x.2 (subst IsNumber (sym (sums x.0 (range_in n x.0 x.1))) tt)
+
+    made_alone : All IsNumber made_by_it
+    made_alone =
+        subst (All IsNumber) (sym made_is)
+        (made_numbers config (plans_at (program 1) config depth 0 roll (n ∷ [])) 0 roll (n ∷ []) (line ∷ []) (sym one_input) (λ c has. subst (λ (ms : List Outcomes). IsNumber (outcome_in ((line ∷ []) ++ ms) c)) made_is (each_number c has)))
+
+    pub untrapped : (cells : List Cell) → first_trapped ((line ∷ []) ++ made_by_it) cells ≡ None
+    untrapped = none_trapped_of ((line ∷ []) ++ made_by_it) (each_mapped IsNumber Value (λ z. tt) vs, made_alone)

@@ -1,5 +1,5 @@
--- A row of small numbers, and the sums of its first ones.
-use Rattle.std.specs.Prelude.{ℕ, ◌+◌, ◌≤◌, ℤ, pos, ◌+ℤ◌, unsigned_abs, List, [], ◌∷◌, length, map, take}
+-- Rows and square matrices of small numbers, and the sums of the first ones of a row.
+use Rattle.std.specs.Prelude.{◌≡◌, ℕ, ◌+◌, ◌*◌, ◌≤◌, ℤ, pos, ◌+ℤ◌, unsigned_abs, List, [], ◌∷◌, length, map, take}
 use Rattle.std.specs.List.{All}
 use Rattle.pb_values.specs.declared.outcome.Outcome.TheVariants.{Value}
 use Rattle.pb_linear.specs.declared.sizes.TheConstants.{SIZE_TOP}
@@ -27,3 +27,12 @@ sum_to numbers x = sum_of (take (x + 1) numbers)
 -- a cell of the matrix after `to`
 abbrev pub made_cell : ℕ → Cell
 made_cell x = record { matrix = 1; x = x; y = 0 }
+
+-- a square one, row by row
+abbrev pub matrix : ℕ → List ℤ → Outcomes
+matrix n numbers = record { width = n; height = n; cells = map Value numbers }
+
+-- each is from -9 to 9, and there are as many as such a matrix has cells
+pub record IsSmallMatrix (n : ℕ) (numbers : List ℤ) : Type 0 where
+  pub all : length numbers ≡ n * n
+  pub small : All (λ z. unsigned_abs z ≤ 9) numbers

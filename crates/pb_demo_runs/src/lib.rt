@@ -1,10 +1,11 @@
-//! What the runs of the demonstration make, whatever rules a configuration chooses.
+//! What the runs of the demonstration make.
 //!
-//! In: definitions alone. The program of the rolling sum, a valid configuration, and a row of small numbers (`Sums`). The theorem is a law:
-//! each cell that is made is the sum of the numbers up to it, and none is trapped (`a_rolling_sum_is_made`). Of the product of matrices
-//! nothing is said yet.
+//! In: definitions alone. The programs of the rolling sum and of the product, valid configurations, and rows and square matrices of
+//! small numbers (`Sums`). The theorems are laws. Each cell of a rolling sum is the sum of the numbers up to it, whatever rules a
+//! configuration chooses, and none is trapped (`a_rolling_sum_is_made`). No cell of a product is trapped by the rules that the
+//! configuration of the demonstration chooses (`a_product_traps_no_cell`).
 #![tactic(auto)]
 
 mod laws;
 
-pub use laws::a_rolling_sum_is_made;
+pub use laws::{a_product_traps_no_cell, a_rolling_sum_is_made};

@@ -5,4 +5,4 @@ pub returns-clause-sums : goal.returns-clause-sums
 returns-clause-sums c = sum_is
 
 pub returns-clause-untrapped : goal.returns-clause-untrapped
-returns-clause-untrapped c = none_trapped
+returns-clause-untrapped c = λ p config depth numbers cells a valid small. none_trapped p config depth numbers a valid small cells
