@@ -1,32 +1,27 @@
 -- Both runs of the demonstration have few calls, sides and cells.
-use Rattle.std.proofs.Common.{◌≡◌, ◌∙◌, refl, sym, ap, ap₂, subst, inl, inr, ◌⊎◌, ℕ, zero, suc, ◌+◌, ◌-◌, ◌*◌, ◌/◌, ◌^◌, ◌≤◌, ◌<◌, nat_lt, ℤ, pos, Bool, true, false, ◌&&◌, List, [], ◌∷◌, map, drop, filter, slice_get, Option, Some, None, Ok, arith}
-use Rattle.std.specs.Prelude.{◌==◌, if◌then◌else◌, int_le, max}
-use Rattle.std.specs.List.{Contains, enumerate_from, list_any, range_with_len}
+use Rattle.std.proofs.Common.{◌≡◌, ◌∙◌, refl, sym, ap, ap₂, subst, inl, inr, ◌⊎◌, ℕ, zero, suc, ◌+◌, ◌-◌, ◌*◌, ◌/◌, ◌^◌, ◌≤◌, ◌<◌, ℤ, pos, Bool, true, false, List, [], ◌∷◌, map, drop, Option, Some, None, Ok, arith}
+use Rattle.std.specs.Prelude.{◌==◌, if◌then◌else◌}
+use Rattle.std.specs.List.{Contains, list_any}
 use Rattle.std.specs.Option.{option_map_or}
 use Rattle.std.proofs.lemmas.Bool.{cases_lt}
-use Rattle.std.proofs.lemmas.Int.{ints}
-use Rattle.std.proofs.lemmas.List.{append-nil}
 use Rattle.std.proofs.Math.Nat.{add-mul, mul-add, mul-le-mul, mul-le-mul_left}
-use Rattle.pb_base.proofs.ListLemmas.{filter_in, flat_in, in_head, in_tail, map_in, range_in}
-use Rattle.pb_linear.specs.Numbers.{exact_value}
+use Rattle.pb_base.proofs.ListLemmas.{in_head, in_tail}
 use Rattle.pb_config.specs.Reading.{config_read}
-use Rattle.pb_program.specs.Areas.{from_start}
 use Rattle.pb_program.specs.Configs.{ConfigValue}
 use Rattle.pb_program.specs.Forms.{DeclValue}
 use Rattle.pb_program.specs.Plans.{PlanCallValue}
 use Rattle.pb_program.specs.Trees.{ProgRule, ProgTransform}
-use Rattle.pb_model.specs.Calls.{made_cells, matrix_cells}
-use Rattle.pb_model.specs.Cells.{Cell, cells_of, natural, numbers_of}
+use Rattle.pb_model.specs.Calls.{made_cells}
+use Rattle.pb_model.specs.Cells.{Cell}
 use Rattle.pb_model.specs.Chosen.{chosen_rule}
 use Rattle.pb_recursion.specs.Counts.{Counted, Counter, all_of, both, call_count, chosen_plans, count_at, instance_count, matrix_of, nothing, one_count, one_more, plan_count, run_count}
-use Rattle.pb_recursion.specs.Plans.{argument_sides}
 use Rattle.pb_recursion.specs.Shapes.{Sides, sides_of_decl, sizes_from}
 use Rattle.pb_counts.specs.Limits.{AreFew}
 use Rattle.pb_grammar.specs.Want.{after_mark, expression, conjunction, compared, total, product, name_token, dimensions}
 use Rattle.pb_demo.specs.Demonstrations.{demo_config}
 use Rattle.pb_demo.proofs.Entries.{roll_there}
 use Rattle.pb_demo.proofs.Product.{written}
-use Rattle.pb_demo.proofs.Sound.{decl_or, roll}
+use Rattle.pb_demo.proofs.Sound.{roll}
 use Rattle.pb_demo.proofs.Trees.{program}
 use Rattle.pb_demo_runs.proofs.Choice.{chosen_is, high_picks, low_picks, picks, small_picks}
 use Rattle.pb_demo_runs.proofs.Halves.{calls_are, halving, lower, lower_fits, lower_given, sizes_are, upper, upper_fits, upper_given, written_there}
@@ -192,9 +187,9 @@ module _ (config : ConfigValue) (said : config_read (program 0) (demo_config 0) 
       record { calls = omega (arith, all.calls, few); side = omega (arith, all.side); cells = omega (arith, all.cells, most, squares) }
 
 -- ---- the rolling sum
-no_plan : (config : ConfigValue) (sizes : List ℕ) → chosen_plans config 0 roll sizes ≡ []
+no_plan : (config : ConfigValue) (ks : List ℕ) → chosen_plans config 0 roll ks ≡ []
 unfolding after_mark expression conjunction compared total product name_token dimensions chosen_plans
-no_plan config sizes = refl
+no_plan config ks = refl
 
 roll_sizes : (n : ℕ) → sizes_from roll ((pos n, pos 1) ∷ []) ≡ n ∷ []
 unfolding after_mark expression conjunction compared total product name_token dimensions sizes_from

@@ -1,5 +1,5 @@
 -- What is made at once in a call of the product, at sizes (n, h, n).
-use Rattle.std.proofs.Common.{◌≡◌, ◌∙◌, refl, sym, ap, subst, inl, inr, ◌⊎◌, ℕ, zero, suc, ◌+◌, ◌*◌, ◌≤◌, ◌<◌, ℤ, pos, negsuc, ◌≤ℤ◌, Bool, true, false, List, [], ◌∷◌, ◌++◌, length, map, filter, slice_get, slice_index, Option, Some, None, Ok, arith}
+use Rattle.std.proofs.Common.{◌≡◌, ◌∙◌, refl, sym, ap, subst, inl, inr, ◌⊎◌, ℕ, ◌*◌, ◌≤◌, ◌<◌, ℤ, pos, negsuc, ◌≤ℤ◌, Bool, true, false, List, [], ◌∷◌, ◌++◌, length, map, filter, slice_get, slice_index, Option, Some, None, Ok, arith}
 use Rattle.std.specs.Int.{div_ceil}
 use Rattle.std.specs.List.{AllByRecursion, Contains, enumerate_from, list_any}
 use Rattle.std.proofs.lemmas.Bool.{and_parts, cases_lt, eqb-true}
@@ -7,13 +7,11 @@ use Rattle.std.proofs.lemmas.Bool.Decides.{nat_tests}
 use Rattle.std.proofs.lemmas.Int.{ints}
 use Rattle.std.proofs.lemmas.Grind.{div_ceil_times}
 use Rattle.std.proofs.Math.Nat.{mul-le-mul, mul-le-mul_right}
-use Rattle.std.proofs.lemmas.Option.{none-some, same_Some}
 use Rattle.std.specs.Prelude.{nat_lt, ◌==◌, if◌then◌else◌}
 use Rattle.std.proofs.lemmas.List.{append-nil, length-map}
 use Rattle.std.proofs.lemmas.List.FromFn.{length-map-range_with_len}
 use Rattle.pb_base.proofs.ListLemmas.{filter_in, flat_in, in_cases, in_head, in_none, in_tail, map_in}
 use Rattle.pb_linear.specs.Form.{value}
-use Rattle.pb_linear.specs.Numbers.{exact_value, value_before}
 use Rattle.pb_linear.specs.Sizes.{InRange, leasts_of}
 use Rattle.pb_linear.specs.declared.boxes.Sign.{Sign}
 use Rattle.pb_values.specs.declared.rect.Rect.{Rect}
@@ -21,7 +19,6 @@ use Rattle.pb_graph.specs.Layerings.{LayerValue}
 use Rattle.pb_graph.specs.Nodes.{NodeValue}
 use Rattle.pb_config.specs.Reading.{config_read}
 use Rattle.pb_program.specs.Configs.{ConfigValue}
-use Rattle.pb_program.specs.Forms.{DeclValue}
 use Rattle.pb_program.specs.WellFormed.{IsWellFormed}
 use Rattle.pb_model.specs.Cells.{natural}
 use Rattle.pb_model.specs.Chosen.{chosen_rule}

@@ -5,3 +5,4 @@ pub mod Links
 pub mod Products
 pub mod Rolls
 pub mod Counts
+pub mod Found

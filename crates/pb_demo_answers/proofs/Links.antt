@@ -1,6 +1,6 @@
 -- Steps have few links where most of them read inputs alone.
-use Rattle.std.proofs.Common.{◌≡◌, ◌∙◌, refl, sym, ap, subst, inl, inr, ℕ, zero, suc, ◌+◌, ◌*◌, ◌≤◌, ◌<◌, Bool, true, false, ◌&&◌, not, List, [], ◌∷◌, length, map, filter, slice_get, Some, None, arith}
-use Rattle.std.specs.Prelude.{◌==◌, slice_index_or}
+use Rattle.std.proofs.Common.{◌≡◌, ◌∙◌, refl, sym, ap, subst, ℕ, zero, suc, ◌+◌, ◌*◌, ◌≤◌, Bool, true, false, ◌&&◌, not, List, [], ◌∷◌, length, map, filter, slice_get, Some, arith}
+use Rattle.std.specs.Prelude.{◌==◌}
 use Rattle.std.specs.List.{AllByRecursion, list_any, range_with_len, sum_by}
 use Rattle.std.proofs.Math.Nat.{mul-le-mul}
 use Rattle.std.proofs.lemmas.Bool.Decides.{nat_tests}
@@ -9,7 +9,7 @@ use Rattle.std.proofs.lemmas.List.Sums.{sum_by-cons}
 use Rattle.std.proofs.lemmas.List.FromFn.{length-range_with_len}
 use Rattle.std.proofs.lemmas.Option.{none-some, same_Some}
 use Rattle.pb_links.specs.Links.{link_count, precedes, predecessors}
-use Rattle.pb_links.specs.Spots.{boxes_of as boxes_at, meets, overlaps, parts_of as parts_at}
+use Rattle.pb_links.specs.Spots.{boxes_of as boxes_at, overlaps, parts_of as parts_at}
 use Rattle.pb_links.specs.declared.places.Spot.{Spot}
 use Rattle.pb_runs.specs.Steps.{Step, boxes_of, by_copy, by_job, by_trap, parts_of, places_of}
 use Rattle.pb_demo_answers.proofs.Lists.{kept_fewer, none_kept}

@@ -1,10 +1,8 @@
 -- The product has few tasks and links.
-use Rattle.std.proofs.Common.{◌≡◌, ◌∙◌, refl, sym, ap, subst, inl, inr, ◌⊎◌, ℕ, zero, suc, ◌+◌, ◌-◌, ◌*◌, ◌/◌, ◌^◌, ◌≤◌, ◌<◌, nat_lt, pos, Bool, true, false, List, [], ◌∷◌, length, map, slice_get, Some, Ok, arith}
-use Rattle.std.specs.Prelude.{if◌then◌else◌}
+use Rattle.std.proofs.Common.{◌≡◌, refl, subst, inl, inr, ◌⊎◌, ℕ, zero, suc, ◌+◌, ◌-◌, ◌*◌, ◌/◌, ◌^◌, ◌≤◌, ◌<◌, pos, List, [], ◌∷◌, length, map, slice_get, Some, Ok, arith}
 use Rattle.std.specs.List.{AllZip}
 use Rattle.std.proofs.Math.Nat.{mul-le-mul}
 use Rattle.std.proofs.lemmas.Bool.{cases_lt}
-use Rattle.std.proofs.lemmas.Bool.Decides.{nat_tests}
 use Rattle.pb_config.specs.Reading.{config_read}
 use Rattle.pb_program.specs.Configs.{ConfigValue}
 use Rattle.pb_check.specs.Orders.{AnalysisValue, AreFound, IsAnalysis}
@@ -15,13 +13,13 @@ use Rattle.pb_taskgraph.specs.declared.limits.TheConstants.{MOST_LINKS, MOST_TAS
 use Rattle.pb_views.specs.declared.seat.Seat.{Seat}
 use Rattle.pb_views.specs.Seats.{sides_of_seat}
 use Rattle.pb_runs.specs.Steps.{Step, places_of}
-use Rattle.pb_runs.specs.Unrolled.{Met, after_matrices, nothing_met, seats_from, unroll, unrolled_run}
+use Rattle.pb_runs.specs.Unrolled.{Met, after_matrices, nothing_met, unroll, unrolled_run}
 use Rattle.pb_demo.specs.Demonstrations.{demo_config}
 use Rattle.pb_demo.proofs.Accepted.{pair}
 use Rattle.pb_demo.proofs.Product.{written}
 use Rattle.pb_demo.proofs.Sound.{add}
 use Rattle.pb_demo.proofs.Trees.{program}
-use Rattle.pb_demo_runs.proofs.Choice.{high_picks, low_picks, picks, small_picks}
+use Rattle.pb_demo_runs.proofs.Choice.{high_picks, low_picks, small_picks}
 use Rattle.pb_demo_answers.proofs.Jobs.{one_span}
 use Rattle.pb_demo_answers.proofs.Links.{links_most}
 use Rattle.pb_demo_answers.proofs.Steps.{AreFew, few_more, halving_few, leaf_few, same_sides}

@@ -1,12 +1,12 @@
 -- The rolling sum has few tasks and links: at most one task a cell.
-use Rattle.std.proofs.Common.{◌≡◌, ◌∙◌, refl, sym, ap, ap₂, subst, inl, inr, ◌⊎◌, ℕ, zero, suc, ◌+◌, ◌-◌, ◌*◌, ◌≤◌, ◌<◌, nat_lt, ℤ, pos, ◌<ℤ◌, Bool, true, false, ◌&&◌, List, [], ◌∷◌, ◌++◌, length, map, filter, slice_get, Option, Some, None, arith}
-use Rattle.std.specs.Prelude.{◌==◌, max, min, get_or}
-use Rattle.std.specs.List.{All, AllByRecursion, AllZip, Contains, enumerate_from, list_any, range_with_len, sum_by}
+use Rattle.std.proofs.Common.{◌≡◌, ◌∙◌, refl, sym, ap, ap₂, subst, inl, inr, ◌⊎◌, ℕ, zero, suc, ◌-◌, ◌*◌, ◌≤◌, ◌<◌, nat_lt, pos, ◌<ℤ◌, Bool, true, false, List, [], ◌∷◌, ◌++◌, length, map, filter, slice_get, Option, Some, None, arith}
+use Rattle.std.specs.Prelude.{get_or}
+use Rattle.std.specs.List.{AllByRecursion, AllZip, Contains, enumerate_from, list_any, range_with_len}
 use Rattle.std.specs.Option.{option_map_or}
 use Rattle.std.proofs.lemmas.Bool.{and_parts, cases_lt}
 use Rattle.std.proofs.lemmas.Bool.Decides.{nat_tests}
 use Rattle.std.proofs.lemmas.Int.{ints}
-use Rattle.std.proofs.lemmas.List.{length-append, length-map}
+use Rattle.std.proofs.lemmas.List.{length-map}
 use Rattle.std.proofs.lemmas.List.FromFn.{length-range_with_len}
 use Rattle.std.proofs.lemmas.List.Elements.{All-map}
 use Rattle.std.proofs.lemmas.List.Sums.{sum_by-le}
@@ -15,7 +15,6 @@ use Rattle.std.proofs.Math.Nat.{mul-le-mul}
 use Rattle.pb_base.proofs.ListLemmas.{at_in, filter_in, flat_in, in_at, in_filter, in_map, in_range, in_tail, map_in}
 use Rattle.pb_linear.specs.Numbers.{exact_value}
 use Rattle.pb_linear.specs.Sizes.{InRange, leasts_of}
-use Rattle.pb_linear.specs.declared.sizes.TheConstants.{SIZE_TOP}
 use Rattle.pb_links.specs.Links.{link_count, precedes, predecessors}
 use Rattle.pb_taskgraph.specs.declared.limits.TheConstants.{MOST_LINKS, MOST_TASKS}
 use Rattle.pb_values.specs.declared.rect.Rect.{Rect}
@@ -24,11 +23,11 @@ use Rattle.pb_graph.specs.Nodes.{NodeValue}
 use Rattle.pb_program.specs.Configs.{ConfigValue, IsValid}
 use Rattle.pb_program.specs.Forms.{DeclValue}
 use Rattle.pb_program.specs.Trees.{ProgTransform}
-use Rattle.pb_model.specs.Cells.{Cell, IsCell}
+use Rattle.pb_model.specs.Cells.{Cell}
 use Rattle.pb_check.specs.Orders.{AnalysisValue, AreFound, IsAnalysis}
 use Rattle.pb_check.specs.Ranked.{IsMadeCell}
 use Rattle.pb_frame.specs.Choices.{IsInstance}
-use Rattle.pb_frame.specs.Frames.{HoldsCell, JobValue, block_job, block_parts, blocks, chosen_wides, cut_by, has_block, has_place, in_layer, is_block_part, is_in_layer, layer_jobs, parts_of, squares, wide_job, within}
+use Rattle.pb_frame.specs.Frames.{HoldsCell, JobValue, block_job, blocks, chosen_wides, cut_by, has_block, has_place, in_layer, is_block_part, is_in_layer, layer_jobs, parts_of, squares, wide_job, within}
 use Rattle.pb_frame.specs.declared.part.FramePart.{FramePart}
 use Rattle.pb_frame.proofs.ListLemmas.{as_long}
 use Rattle.pb_frame.proofs.PartLemmas.{of_part}
@@ -37,7 +36,7 @@ use Rattle.pb_plan.proofs.MadeLemmas.{made_by, made_cell, made_once}
 use Rattle.pb_recursion.specs.Shapes.{Sides, sizes_from}
 use Rattle.pb_views.specs.declared.seat.Seat.{Seat}
 use Rattle.pb_views.specs.Seats.{sides_of_seat}
-use Rattle.pb_runs.specs.Steps.{Instance, Step, by_job, places_of}
+use Rattle.pb_runs.specs.Steps.{Instance, Step, places_of}
 use Rattle.pb_runs.specs.Unrolled.{Done, Met, Unroll, Unrolled, after_call, after_matrices, deeper_unroll, found_for, instance_of, job_done, jobs_done, no_unrolled, nothing_met, own_sides, seats_from, unroll, unroll_one, unrolled_at, unrolled_of, unrolled_run}
 use Rattle.pb_grammar.specs.Want.{after_mark, expression, conjunction, compared, total, product, name_token, dimensions}
 use Rattle.pb_demo.proofs.Accepted.{roll_accepted}

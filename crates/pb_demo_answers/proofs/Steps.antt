@@ -1,11 +1,8 @@
 -- The steps of a call of the product, at sizes (n, h, n): how many there are, and what they make and read.
-use Rattle.std.proofs.Common.{◌≡◌, ◌∙◌, refl, sym, ap, ap₂, subst, inl, inr, ℕ, zero, suc, ◌+◌, ◌-◌, ◌*◌, ◌/◌, ◌^◌, ◌≤◌, ◌<◌, nat_lt, ℤ, pos, Bool, true, false, List, [], ◌∷◌, ◌++◌, length, map, filter, slice_get, Option, Some, None, Ok, arith}
+use Rattle.std.proofs.Common.{◌≡◌, ◌∙◌, refl, sym, ap, ap₂, subst, ℕ, zero, suc, ◌+◌, ◌-◌, ◌*◌, ◌/◌, ◌≤◌, ◌<◌, pos, Bool, true, false, List, [], ◌∷◌, ◌++◌, length, map, filter, slice_get, Option, Some, None, Ok, arith}
 use Rattle.std.specs.Prelude.{if◌then◌else◌}
 use Rattle.std.specs.List.{AllByRecursion, flat_map, zip}
 use Rattle.std.specs.Option.{option_map_or}
-use Rattle.std.proofs.lemmas.Bool.{cases_lt}
-use Rattle.std.proofs.lemmas.Bool.Decides.{nat_tests}
-use Rattle.std.proofs.lemmas.Int.{ints}
 use Rattle.std.proofs.lemmas.List.{length-append, map-append}
 use Rattle.std.proofs.lemmas.List.Elements.{filter-append}
 use Rattle.pb_linear.specs.Numbers.{value_before}
@@ -13,7 +10,6 @@ use Rattle.pb_linear.specs.declared.boxes.Sign.{Sign}
 use Rattle.pb_links.specs.declared.places.Spot.{Spot}
 use Rattle.pb_values.specs.declared.rect.Rect.{Rect}
 use Rattle.pb_config.specs.Reading.{config_read}
-use Rattle.pb_program.specs.declared.plan.Slot.{Slot}
 use Rattle.pb_program.specs.declared.plan.Slot.TheVariants as slot
 use Rattle.pb_program.specs.declared.view.ReadView.{ReadView}
 use Rattle.pb_program.specs.declared.view.ReadView.TheVariants as view
@@ -30,16 +26,16 @@ use Rattle.pb_recursion.specs.Plans.{Names, named, names_of_reads, no_cell}
 use Rattle.pb_recursion.specs.Shapes.{Sides, sizes_from}
 use Rattle.pb_views.specs.declared.seat.Seat.{Seat}
 use Rattle.pb_views.specs.Seats.{is_turning, no_seat, part_seat, sides_of_seat}
-use Rattle.pb_runs.specs.Steps.{Instance, Step, boxes_of, by_copy, by_job, by_trap, parts_of, seat_in, through}
-use Rattle.pb_runs.specs.Unrolled.{Done, Met, Played, Unroll, Unrolled, after_call, after_matrices, copies_of, copy_step, deeper_unroll, found_for, given_back, instance_of, is_part_of, job_done, jobs_done, no_unrolled, output_parts, output_rect, own_sides, plan_done, plan_played, played, seats_from, unroll, unroll_one, unrolled_at, unrolled_by, unrolled_of, view_seat}
+use Rattle.pb_runs.specs.Steps.{Instance, Step, boxes_of, by_job, parts_of, seat_in, through}
+use Rattle.pb_runs.specs.Unrolled.{Done, Met, Played, Unroll, Unrolled, after_call, after_matrices, copies_of, copy_step, deeper_unroll, found_for, given_back, instance_of, is_part_of, job_done, jobs_done, no_unrolled, output_parts, output_rect, own_sides, plan_done, played, unroll, unroll_one, unrolled_at, unrolled_by, unrolled_of, view_seat}
 use Rattle.pb_runs.proofs.SeatLemmas.{part_across, part_down}
 use Rattle.pb_demo.specs.Demonstrations.{demo_config}
 use Rattle.pb_demo.proofs.Product.{written}
 use Rattle.pb_demo.proofs.Trees.{program}
 use Rattle.pb_demo_runs.proofs.Choice.{picks}
 use Rattle.pb_demo_runs.proofs.Roll.{nth_out, nth_read}
-use Rattle.pb_demo_runs.proofs.Halves.{calls_are, halving, halving_there, lower, lower_fits, sizes_are, upper, upper_fits, written_there}
-use Rattle.pb_demo_answers.proofs.Jobs.{IsHalving, IsLeaf, IsPiece, halving_count, halving_jobs, jobs, leaf_count, leaf_jobs, one_span}
+use Rattle.pb_demo_runs.proofs.Halves.{calls_are, halving, lower, lower_fits, sizes_are, upper, upper_fits, written_there}
+use Rattle.pb_demo_answers.proofs.Jobs.{IsHalving, IsLeaf, IsPiece, halving_count, halving_jobs, jobs, leaf_count, leaf_jobs}
 
 -- ---- steps that read inputs alone, and others
 abbrev pub is_linked : Step → Bool
