@@ -4,11 +4,13 @@ use Rattle.std.specs.Str.Parse.{digits_value}
 use Rattle.std.proofs.lemmas.Bool.Decides.{nat_tests}
 use Rattle.std.proofs.lemmas.Option.{none-some, same_Some}
 use Rattle.pb_syntax.proofs.TestLemmas.{and_parts, if_parts}
-use Rattle.pb_check.specs.Orders.{AnalysisValue}
+use Rattle.pb_check.specs.Orders.{AnalysisValue, AreFound}
 use Rattle.pb_front.specs.Reading.{IsRefused}
 use Rattle.pb_check.specs.Accepting.{IsTextAccepted}
 use Rattle.pb_demo.specs.Demonstrations.{Takes, demo_config, demo_transform}
+use Rattle.pb_config.specs.Reading.{config_read}
 use Rattle.pb_demo.proofs.Found.{accepted, formed, takes, valid}
+use Rattle.pb_demo_answers.proofs.Found.{untrapped, within}
 use Rattle.pb_entry.specs.Entering.{Enters}
 use Rattle.pb_entry.specs.Fitting.{AreUnfit}
 use Rattle.pb_entry.proofs.LawLemmas.{not_both as unfit_apart}
@@ -18,7 +20,7 @@ use Rattle.pb_gen.specs.Texts.{text_of}
 use Rattle.pb_matrix.specs.Value.{MatrixValue}
 use Rattle.pb_matrix.specs.declared.matrix.MatrixRefusal.{MatrixRefusal}
 use Rattle.pb_matrix.specs.declared.matrix.MatrixRefusal.TheVariants as fault
-use Rattle.pb_model.specs.Calls.{TrappedCell}
+use Rattle.pb_model.specs.Calls.{TrappedCell, made_cells}
 use Rattle.pb_names.specs.Transforms.{IsRefused as HasBadNames}
 use Rattle.pb_outside.specs.Shelf.{Files}
 use Rattle.pb_program.specs.Configs.{ConfigValue}
@@ -28,6 +30,8 @@ use Rattle.pb_syntax.specs.Trees.{TransformTree}
 use Rattle.pb_syntax.specs.declared.refusal.Refusal.{Refusal}
 use Rattle.pb_values.specs.declared.outcome.Kind.{Kind}
 use Rattle.pb_values.specs.declared.outcome.Kind.TheVariants as trap
+use Rattle.pb_unroll.specs.Answers.{results_of, unless_trapped}
+use Rattle.pb_unroll.specs.Handed.{given_as}
 use Rattle.pb_words.specs.Files.{file_words}
 use Rattle.pb_words.specs.Line.{Asks, IsInside, Line, demo}
 use Rattle.pb_words.specs.Ranges.{IsWithin}
@@ -40,14 +44,14 @@ use Rattle.pb_top.specs.Check.{Printed, Text, its_canonical, its_report}
 use Rattle.pb_top.specs.Demos.{DemoAnswers, DemoRun, HasText, Summarizes, demo_name, summary_reply}
 use Rattle.pb_top.specs.Ends.{Ends, IsAnswered}
 use Rattle.pb_top.specs.Reply.{IsFaultyInput, Reply, refusal_reply}
-use Rattle.pb_top.specs.Runs.{AfterAccept, AfterAcceptWith, AfterConfigWith, AfterFit, AfterInputs, Configures, FindsTransform, Fits, Fitting, IsWithin as HasFew, ReadsInput, RunReplies, RunsProgram, answer_reply, run_answer, trap_status}
+use Rattle.pb_top.specs.Runs.{AfterAccept, AfterAcceptWith, AfterConfigWith, AfterFit, AfterInputs, Configures, FindsTransform, Fits, Fitting, IsWithin as HasFew, ReadsInput, RunReplies, RunsProgram, answer_reply, call_matrices, run_answer, trap_status}
 use Rattle.pb_top.specs.Sinks.{ShelfChange, SinkChange}
 use Rattle.pb_top.specs.Statuses.{check_statuses, demo_statuses, run_statuses, statuses, tune_statuses, usage_statuses}
 use Rattle.pb_top.specs.Steps.{Accepts, AfterProgram, Each, OfProgram, Reads, Refuses, RefusesProgram, Resolves, Takes as TakesFiles, TakesFile, Then}
 use Rattle.pb_top.specs.Tunes.{FindsNamed, Tunes, TunesProgram}
 use Rattle.pb_top.specs.declared.reply.Status.TheVariants.{File, Program}
 use Rattle.pb_top.proofs.LawLemmas.{fault_or_not}
-use Rattle.pb_top.proofs.UnrefusedLemmas.{accepted_has, never_both, some_same}
+use Rattle.pb_top.proofs.UnrefusedLemmas.{accepted_has, never_both, not_too_large, some_same}
 
 abbrev HasOne : List ℕ → Reply → Type 0
 HasOne ns reply = Contains ns reply.status
@@ -168,18 +172,6 @@ tunes_has name up_to =
 abbrev DemoHas : Reply → Type 0
 DemoHas = HasOne demo_statuses
 
-demo_trap_has : (kind : Kind) (line : List ℕ) → DemoHas (refusal_reply (trap_status kind) line)
-demo_trap_has trap.Overflow line = (2, omega arith, refl)
-demo_trap_has trap.DivideByZero line = (2, omega arith, refl)
-demo_trap_has trap.OutOfView line = (2, omega arith, refl)
-demo_trap_has trap.LoopLimit line = (2, omega arith, refl)
-demo_trap_has trap.BadShape line = (2, omega arith, refl)
-demo_trap_has trap.DepthEnded line = (3, omega arith, refl)
-
-summary_has : (name : List ℕ) (r : Fitting) (answer : Result (List MatrixValue) TrappedCell) → DemoHas (summary_reply name r answer)
-summary_has name r (Ok matrices) = (0, omega arith, refl)
-summary_has name r (Err cell) = demo_trap_has cell.trap.kind (trap_line r.program r.number cell)
-
 -- a size that can be asked for
 abbrev CanBeDrawn : ℕ → Type 0
 CanBeDrawn size = IsWithin 1 256 size
@@ -187,14 +179,6 @@ CanBeDrawn size = IsWithin 1 256 size
 module _ (which seed size : ℕ) where
   abbrev called : List ℕ
   called = demo_transform which
-
-  demo_within : (r : Fitting) (reply : Reply) → HasFew r called (Err reply) → DemoHas reply
-  demo_within r reply (why, large, is) = subst DemoHas (sym is) (1, omega arith, refl)
-
-  demo_fitting : (r : Fitting) (reply : Reply) → AfterFit called 64 16 (Summarizes (demo_name which)) r reply → DemoHas reply
-  demo_fitting r =
-      then_has DemoHas (HasFew r called) (λ u. Summarizes (demo_name which) r) (demo_within r)
-      (λ u reply is. subst DemoHas (sym is) (summary_has (demo_name which) r (run_answer r)))
 
   module _ (p : List ProgTransform) (a : IsTextAccepted (text_of which) p) (drawn : CanBeDrawn size) where
     abbrev inputs : List MatrixValue
@@ -209,20 +193,36 @@ module _ (which seed size : ℕ) where
         let it : t ≡ taken.transform = some_same t taken.transform (sym at ∙ ap (slice_get p) (sym same) ∙ taken.there) in
         unfit_apart taken.transform inputs taken.sizes why taken.bound (subst (λ x. AreUnfit x inputs why) it unfit)
 
-    demo_inputs : (found : List AnalysisValue) (config : ConfigValue) (number : ℕ) → Enters p called (length inputs) number → (reply : Reply)
-        → AfterInputs called 64 16 (Summarizes (demo_name which)) p found config number inputs reply → DemoHas reply
-    demo_inputs found config number enters reply (t, at, inl (sizes, bound, after)) = demo_fitting _ reply after
-    demo_inputs found config number enters reply (t, at, inr stop) = absurd (demo_fits number enters t at reply stop)
+    -- where the configuration is the stated one
+    module _ (found : List AnalysisValue) (are : AreFound p found) (config : ConfigValue) (said : config_read p (demo_config which) ≡ Ok config) where
+      demo_summary : (r : Fitting) (answer : Result (List MatrixValue) TrappedCell) → (results : List MatrixValue) → answer ≡ Ok results → DemoHas (summary_reply (demo_name which) r answer)
+      demo_summary r answer results e = subst (λ o. DemoHas (summary_reply (demo_name which) r o)) (sym e) (0, omega arith, refl)
 
-    demo_named : (found : List AnalysisValue) (config : ConfigValue) (reply : Reply) → AfterConfigWith called 64 16 (Summarizes (demo_name which)) p found inputs config reply → DemoHas reply
-    demo_named found config reply (inl (number, enters, after)) = demo_inputs found config number enters reply after
-    demo_named found config reply (inr (why, cannot, is)) = absurd (enters_or_not p called (formed (text_of which) p a) (length inputs) taken.number why taken.enters cannot)
+      module _ (number : ℕ) (enters : Enters p called (length inputs) number) (t : ProgTransform) (sizes : List ℕ) where
+        abbrev fitting : Fitting
+        fitting = record { program = p; found = found; config = config; number = number; transform = t; inputs = inputs; sizes = sizes; depth = 64; grain = 16 }
 
-    demo_accept : (found : List AnalysisValue) (reply : Reply) → AfterAcceptWith called 64 16 (Summarizes (demo_name which)) p found (Some (demo_config which)) inputs reply → DemoHas reply
-    demo_accept found reply (inl (config, said, after)) = demo_named found config reply after
-    demo_accept found reply (inr (why, bad, is)) = absurd (let said = (valid which p a).1 in never_both said bad)
+        answered : run_answer fitting ≡ Ok (results_of t (call_matrices fitting))
+        answered = ap (λ (o : Option TrappedCell). unless_trapped o (results_of t (call_matrices fitting))) (untrapped which seed size p a drawn.0 drawn.1 config number said enters (made_cells t sizes))
 
-    demo_accepted : (tree : List TransformTree) (found : List AnalysisValue) (reply : Reply) → AfterAcceptWith called 64 16 (Summarizes (demo_name which)) p found (Some (demo_config which)) inputs reply → DemoHas reply
+        demo_fitting : (reply : Reply) → AfterFit called 64 16 (Summarizes (demo_name which)) fitting reply → DemoHas reply
+        demo_fitting reply (inl (u, few, is)) = subst DemoHas (sym is) (demo_summary fitting (run_answer fitting) (results_of t (call_matrices fitting)) answered)
+        demo_fitting reply (inr (why, large, is)) =
+            absurd (not_too_large p found config 16 64 number (given_as inputs) (within which seed size p a drawn.0 drawn.1 found config number are said enters) why large)
+
+      demo_inputs : (number : ℕ) → Enters p called (length inputs) number → (reply : Reply) → AfterInputs called 64 16 (Summarizes (demo_name which)) p found config number inputs reply → DemoHas reply
+      demo_inputs number enters reply (t, at, inl (sizes, bound, after)) = demo_fitting number enters t sizes reply after
+      demo_inputs number enters reply (t, at, inr stop) = absurd (demo_fits number enters t at reply stop)
+
+      demo_named : (reply : Reply) → AfterConfigWith called 64 16 (Summarizes (demo_name which)) p found inputs config reply → DemoHas reply
+      demo_named reply (inl (number, enters, after)) = demo_inputs number enters reply after
+      demo_named reply (inr (why, cannot, is)) = absurd (enters_or_not p called (formed (text_of which) p a) (length inputs) taken.number why taken.enters cannot)
+
+    demo_accept : (found : List AnalysisValue) → AreFound p found → (reply : Reply) → AfterAcceptWith called 64 16 (Summarizes (demo_name which)) p found (Some (demo_config which)) inputs reply → DemoHas reply
+    demo_accept found are reply (inl (config, said, after)) = demo_named found are config said reply after
+    demo_accept found are reply (inr (why, bad, is)) = absurd (let said = (valid which p a).1 in never_both said bad)
+
+    demo_accepted : (tree : List TransformTree) (found : List AnalysisValue) → AreFound p found → (reply : Reply) → AfterAcceptWith called 64 16 (Summarizes (demo_name which)) p found (Some (demo_config which)) inputs reply → DemoHas reply
     demo_accepted tree found = demo_accept found
 
   demo_run_has : CanBeDrawn size → (reply : Reply) → DemoRun which seed size reply → DemoHas reply
@@ -289,14 +289,14 @@ has_write_fault Check = (3, omega arith, refl)
 has_write_fault Choices = (3, omega arith, refl)
 has_write_fault (Run workers depth grain pool trace) = (8, omega arith, refl)
 has_write_fault (Tune up_to) = (4, omega arith, refl)
-has_write_fault (Demo seed size workers) = (4, omega arith, refl)
+has_write_fault (Demo seed size workers) = (1, omega arith, refl)
 
 has_no_memory : (ask : Ask) → Contains (statuses ask) 11
 has_no_memory Check = (4, omega arith, refl)
 has_no_memory Choices = (4, omega arith, refl)
 has_no_memory (Run workers depth grain pool trace) = (9, omega arith, refl)
 has_no_memory (Tune up_to) = (5, omega arith, refl)
-has_no_memory (Demo seed size workers) = (5, omega arith, refl)
+has_no_memory (Demo seed size workers) = (2, omega arith, refl)
 
 module _ (words : List (List ℕ)) (shelf : ShelfChange) (out err : SinkChange) (status : ℕ) (ends : Ends words shelf out err status) where
   module _ (ask : Ask) (place : ℕ) (line : Line words ask place) where

@@ -12,10 +12,9 @@ run_statuses = 0 ∷ 3 ∷ 4 ∷ 5 ∷ 6 ∷ 7 ∷ 8 ∷ 9 ∷ 10 ∷ 11 ∷ 14 
 abbrev pub tune_statuses : List ℕ
 tune_statuses = 0 ∷ 3 ∷ 5 ∷ 9 ∷ 10 ∷ 11 ∷ 14 ∷ []
 
--- it takes no file; its programs are accepted, its configurations valid, and its matrices fit. That neither of its runs is too large or
--- trapped isn't proved, so those statuses of a run stand here too
+-- it takes no file; its programs are accepted, its configurations valid, its matrices fit, and neither of its runs is too large or trapped
 abbrev pub demo_statuses : List ℕ
-demo_statuses = 0 ∷ 6 ∷ 7 ∷ 8 ∷ 10 ∷ 11 ∷ []
+demo_statuses = 0 ∷ 10 ∷ 11 ∷ []
 
 abbrev pub statuses : Ask → List ℕ
 statuses Check = check_statuses
