@@ -26,6 +26,7 @@ use Rattle.pb_demo.proofs.Trees.{program}
 use Rattle.pb_demo_runs.proofs.Choice.{chosen_is, high_picks, low_picks, picks, small_picks}
 use Rattle.pb_demo_runs.proofs.Halves.{calls_are, halving, lower, lower_fits, lower_given, sizes_are, upper, upper_fits, upper_given, written_there}
 use Rattle.pb_demo_runs.proofs.Rolls.{made, sides_of_made}
+use Rattle.pb_demo_runs.proofs.Lists.{if_true}
 use Rattle.pb_demo_runs.proofs.Places.{is_made, matrix_is, nth_decl}
 
 -- at most so many calls and cells, and no side over 256
@@ -45,9 +46,6 @@ below_nothing = record { calls = omega arith; side = omega arith; cells = omega 
 
 below_matrix : (w h : ℕ) → w ≤ 256 → h ≤ 256 → IsBelow 0 (w * h) (matrix_of (pos w, pos h))
 below_matrix w h wide high = record { calls = omega arith; side = omega (arith, wide, high); cells = omega arith }
-
-if_true : {A : Type 0} (b : Bool) (x y : A) → b ≡ true → (if b then x else y) ≡ x
-if_true b x y e = rw e refl
 
 no_other : (f : Cell → ℕ) (k : ℕ) (cs : List Cell) → ((c : Cell) → Contains cs c → (f c == k) ≡ false) → list_any (λ c. f c == k) cs ≡ false
 no_other f k [] each = refl
@@ -209,8 +207,8 @@ module _ (config : ConfigValue) (n : ℕ) (few : n ≤ 256) where
   roll_one : (deeper : Option Counter) → IsBelow 1 n (one_count (program 1) config deeper 0 ((pos n, pos 1) ∷ []))
   roll_one deeper =
       let is : one_count (program 1) config deeper 0 ((pos n, pos 1) ∷ []) ≡ instance_count (program 1) config deeper 0 roll (n ∷ []) =
-          ap (λ (o : Option ProgTransform). option_map_or (λ t. instance_count (program 1) config deeper 0 t (sizes_from t ((pos n, pos 1) ∷ []))) o nothing) roll_there
-          ∙ ap (λ (ks : List ℕ). instance_count (program 1) config deeper 0 roll ks) (roll_sizes n) in
+      ap (λ (o : Option ProgTransform). option_map_or (λ t. instance_count (program 1) config deeper 0 t (sizes_from t ((pos n, pos 1) ∷ []))) o nothing) roll_there
+      ∙ ap (λ (ks : List ℕ). instance_count (program 1) config deeper 0 roll ks) (roll_sizes n) in
       subst (IsBelow 1 n) (sym is)
       (subst (λ (ms : List Counted). IsBelow 1 n (both (both one_more (all_of ms)) (all_of (map (plan_count (program 1) roll (n ∷ []) deeper) (chosen_plans config 0 roll (n ∷ [])))))) (sym (roll_sides n))
       (subst (λ (ps : List (ℕ × ProgRule)). IsBelow 1 n (both (both one_more (both (matrix_of (sides_of_decl (n ∷ []) made)) nothing)) (all_of (map (plan_count (program 1) roll (n ∷ []) deeper) ps)))) (sym (no_plan config (n ∷ [])))

@@ -19,7 +19,6 @@ use Rattle.pb_graph.specs.Layerings.{LayerValue}
 use Rattle.pb_graph.specs.Nodes.{NodeValue}
 use Rattle.pb_config.specs.Reading.{config_read}
 use Rattle.pb_program.specs.Configs.{ConfigValue}
-use Rattle.pb_program.specs.WellFormed.{IsWellFormed}
 use Rattle.pb_model.specs.Cells.{natural}
 use Rattle.pb_model.specs.Chosen.{chosen_rule}
 use Rattle.pb_model.specs.Lawful.{lawful}
@@ -33,19 +32,16 @@ use Rattle.pb_frame.specs.declared.part.FramePart.{FramePart}
 use Rattle.pb_plan.specs.Made.{jobs_for}
 use Rattle.pb_frame.proofs.SpanLemmas.{side_serves, spans_few}
 use Rattle.pb_frame.proofs.PartLemmas.{corner_in, corner_made, nodes_are, of_part, one_part}
-use Rattle.pb_gen.specs.Texts.{text_of}
 use Rattle.pb_demo.specs.Demonstrations.{demo_config}
 use Rattle.pb_demo.proofs.Accepted.{multiply_accepted}
-use Rattle.pb_demo.proofs.Found.{formed}
 use Rattle.pb_demo.proofs.Product.{written}
 use Rattle.pb_demo.proofs.Trees.{program}
-use Rattle.pb_demo_answers.proofs.Lists.{each_in, greatest_most, kept_fewer, none_kept, only_one, pairs_count}
+use Rattle.pb_demo_answers.proofs.Lists.{each_in, greatest_most, kept_fewer, none_kept, only_one}
 use Rattle.pb_demo_runs.proofs.Choice.{chosen_is, columns_lawful, picks}
 use Rattle.pb_demo_runs.proofs.Halves.{written_there}
+use Rattle.pb_demo_runs.proofs.Lists.{pairs_count}
+use Rattle.pb_demo_runs.proofs.Products.{well}
 use Rattle.pb_demo_runs.proofs.Places.{matrix_is}
-
-well : IsWellFormed (program 0)
-well = formed (text_of 0) (program 0) multiply_accepted
 
 module _ (a : AnalysisValue) (is : IsAnalysis written a) (config : ConfigValue) (said : config_read (program 0) (demo_config 0) ≡ Ok config) (n h : ℕ) (some : 1 ≤ n) (few : n ≤ 256) (tall : 1 ≤ h) (low : h ≤ n) where
   abbrev pub sizes : List ℕ
@@ -111,7 +107,7 @@ module _ (a : AnalysisValue) (is : IsAnalysis written a) (config : ConfigValue) 
       let across : (corner_of o.node sizes).x < n = omega (arith, ints, made.cell.before_x, sides.1) in
       let down : (corner_of o.node sizes).y < h = omega (arith, ints, made.cell.before_y, sides.2) in
       let may = subst (λ (m : ℕ). Contains (lawful written sizes (record { matrix = m; x = (corner_of o.node sizes).x; y = (corner_of o.node sizes).y })) 2) (sym o.matrix)
-          (columns_lawful n h (corner_of o.node sizes).x (corner_of o.node sizes).y across down two) in
+      (columns_lawful n h (corner_of o.node sizes).x (corner_of o.node sizes).y across down two) in
       let held : IsIn a.nodes sizes (corner_of o.node sizes) part.node = record { node = o.node; there = o.there; matrix = refl; inside = corner_in 1 written a sizes instance part.node o.node o.there o.own } in
       lawful_among (program 0) 1 written sizes well multiply_accepted.sound written_there (corner_of o.node sizes) made.cell a.nodes (nodes_are 1 written a sizes instance) part.node held 2 may
 

@@ -1,7 +1,7 @@
 -- Lists that are made number by number, and how long they are.
-use Rattle.std.proofs.Common.{◌≡◌, ◌∙◌, refl, sym, inl, inr, ◌⊎◌, ℕ, ◌+◌, ◌*◌, ◌≤◌, ◌<◌, Bool, true, false, List, [], ◌∷◌, length, map, filter, arith}
+use Rattle.std.proofs.Common.{◌≡◌, ◌∙◌, refl, sym, inl, inr, ◌⊎◌, ℕ, ◌+◌, ◌≤◌, ◌<◌, Bool, true, false, List, [], ◌∷◌, length, map, filter, arith}
 use Rattle.std.specs.List.{AllByRecursion, Contains, enumerate_from, flat_map}
-use Rattle.std.proofs.lemmas.List.{append-nil, length-append, length-map}
+use Rattle.std.proofs.lemmas.List.{append-nil}
 use Rattle.pb_base.proofs.ListLemmas.{in_head, in_tail}
 use Rattle.pb_frame.specs.Frames.{greatest}
 
@@ -40,10 +40,6 @@ module _ {A B : Type 0} (f : ℕ × A → List B) (apart : (l m : ℕ × A) → 
       by : (l : List B) → f (k, x) ≡ l → length (flat_map f (enumerate_from (k + 1) xs)) ≤ bound → length (flat_map f (enumerate_from k (x ∷ xs))) ≤ bound
       by [] e later = rw e later
       by (y ∷ ys) e later = let rest = none_after (k, x) y ys e xs (k + 1) (omega arith) in rw (rest, append-nil (f (k, x))) (each (k, x))
-
-pub pairs_count : {A B C : Type 0} (g : A → B → C) (ys : List B) (xs : List A) → length (flat_map (λ x. map (g x) ys) xs) ≡ length xs * length ys
-pairs_count g ys [] = omega arith
-pairs_count g ys (x ∷ xs) = let rest = pairs_count g ys xs in omega (arith, rest, length-append (map (g x) ys) (flat_map (λ x. map (g x) ys) xs), length-map ys (g x))
 
 pub greatest_most : {A : Type 0} (f : A → ℕ) (most : ℕ) (xs : List A) → ((x : A) → Contains xs x → f x ≤ most) → greatest (map f xs) ≤ most
 greatest_most f most [] each = omega arith

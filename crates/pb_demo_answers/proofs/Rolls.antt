@@ -41,12 +41,9 @@ use Rattle.pb_runs.specs.Unrolled.{Done, Met, Unroll, Unrolled, after_call, afte
 use Rattle.pb_grammar.specs.Want.{after_mark, expression, conjunction, compared, total, product, name_token, dimensions}
 use Rattle.pb_demo.proofs.Accepted.{roll_accepted}
 use Rattle.pb_demo.proofs.Entries.{roll_there}
-use Rattle.pb_demo.proofs.Found.{formed}
-use Rattle.pb_gen.specs.Texts.{text_of}
-use Rattle.pb_program.specs.WellFormed.{IsWellFormed}
 use Rattle.pb_demo.proofs.Sound.{roll, roll_is, roll_leasts}
 use Rattle.pb_demo.proofs.Trees.{program}
-use Rattle.pb_demo_runs.proofs.Rolls.{made, made_there, no_third, one_input, sides_of_made}
+use Rattle.pb_demo_runs.proofs.Rolls.{made, made_there, no_third, one_input, sides_of_made, well}
 use Rattle.pb_demo_answers.proofs.Lists.{each_in, kept_fewer}
 use Rattle.pb_demo_answers.proofs.Steps.{same_sides}
 
@@ -63,9 +60,6 @@ some_of p (x ∷ xs) e = by (p x) refl (some_of p xs)
     by true passed later = (x, (0, omega arith, refl), passed)
     by false failed later = let rest = later (rw failed at e) in (rest.0, in_tail x rest.0 xs rest.1, rest.2)
 
-roll_well : IsWellFormed (program 1)
-roll_well = formed (text_of 1) (program 1) roll_accepted
-
 module _ (a : AnalysisValue) (is : IsAnalysis roll a) (config : ConfigValue) (valid : IsValid (program 1) config) (n : ℕ) (some : 1 ≤ n) (few : n ≤ 256) where
   abbrev sizes : List ℕ
   sizes = n ∷ []
@@ -74,7 +68,7 @@ module _ (a : AnalysisValue) (is : IsAnalysis roll a) (config : ConfigValue) (va
   range = subst (λ l. InRange l sizes) (sym roll_leasts) (some, omega (arith, few), tt)
 
   abbrev instance : IsInstance 0 roll a sizes
-  instance = record { program = program 1; well_formed = roll_well; sound = roll_accepted.sound; there = roll_there; found = is; in_range = range }
+  instance = record { program = program 1; well_formed = well; sound = roll_accepted.sound; there = roll_there; found = is; in_range = range }
 
   abbrev jobs : List JobValue
   jobs = jobs_for config 0 roll a sizes 16
@@ -213,7 +207,7 @@ few_links ss =
     let numbers = length-range_with_len 0 (length (map places_of ss)) in
     let lists = length-map (range_with_len 0 (length (map places_of ss))) (predecessors (map places_of ss)) in
     let each = All-map (λ (l : List ℕ). length l ≤ length ss) (predecessors (map places_of ss)) (range_with_len 0 (length (map places_of ss)))
-        (λ k d below. omega (arith, kept_fewer (λ u. precedes (map places_of ss) u (get_or (range_with_len 0 (length (map places_of ss))) k d)) (range_with_len 0 (length (map places_of ss))), numbers, tasks)) in
+    (λ k d below. omega (arith, kept_fewer (λ u. precedes (map places_of ss) u (get_or (range_with_len 0 (length (map places_of ss))) k d)) (range_with_len 0 (length (map places_of ss))), numbers, tasks)) in
     let most = sum_by-le length (length ss) (map (predecessors (map places_of ss)) (range_with_len 0 (length (map places_of ss)))) each in
     omega (arith, most, ap (λ (k : ℕ). k * length ss) (lists ∙ numbers ∙ tasks))
 

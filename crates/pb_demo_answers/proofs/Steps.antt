@@ -33,6 +33,7 @@ use Rattle.pb_demo.specs.Demonstrations.{demo_config}
 use Rattle.pb_demo.proofs.Product.{written}
 use Rattle.pb_demo.proofs.Trees.{program}
 use Rattle.pb_demo_runs.proofs.Choice.{picks}
+use Rattle.pb_demo_runs.proofs.Lists.{each_joined, each_weaker, if_true}
 use Rattle.pb_demo_runs.proofs.Roll.{nth_out, nth_read}
 use Rattle.pb_demo_runs.proofs.Halves.{calls_are, halving, lower, lower_fits, sizes_are, upper, upper_fits, written_there}
 use Rattle.pb_demo_answers.proofs.Jobs.{IsHalving, IsLeaf, IsPiece, halving_count, halving_jobs, jobs, leaf_count, leaf_jobs}
@@ -59,16 +60,12 @@ pub record AreFew (own linked : ℕ) (steps : List Step) : Type 0 where
   pub made : AllByRecursion (λ s. AreHigh (parts_of s)) steps
   pub read : AllByRecursion OfInputs steps
 
-all_append : {A : Type 0} (P : A → Type 0) (xs ys : List A) → AllByRecursion P xs → AllByRecursion P ys → AllByRecursion P (xs ++ ys)
-all_append P [] ys h k = k
-all_append P (x ∷ xs) ys h k = (h.0, all_append P xs ys h.1 k)
-
 few_append : (a b c d : ℕ) (xs ys : List Step) → AreFew a b xs → AreFew c d ys → AreFew (a + c) (b + d) (xs ++ ys)
 few_append a b c d xs ys f g = record {
   all = omega (arith, length-append xs ys, f.all, g.all);
   others = omega (arith, ap length (filter-append is_linked xs ys), length-append (filter is_linked xs) (filter is_linked ys), f.others, g.others);
-  made = all_append (λ s. AreHigh (parts_of s)) xs ys f.made g.made;
-  read = all_append OfInputs xs ys f.read g.read;
+  made = each_joined (λ s. AreHigh (parts_of s)) xs ys f.made g.made;
+  read = each_joined OfInputs xs ys f.read g.read;
 }
 
 pub few_more : (a b c d : ℕ) (xs : List Step) → AreFew a b xs → a ≤ c → b ≤ d → AreFew c d xs
@@ -85,7 +82,7 @@ seat_sides v s r e =
 
 all_mapped : {A B C : Type 0} (P : C → Type 0) (f : B → C) (g : A → List B) (xs : List A) → AllByRecursion (λ x. AllByRecursion P (map f (g x))) xs → AllByRecursion P (map f (flat_map g xs))
 all_mapped P f g [] h = tt
-all_mapped P f g (x ∷ xs) h = subst (AllByRecursion P) (sym (map-append f (g x) (flat_map g xs))) (all_append P (map f (g x)) (map f (flat_map g xs)) h.0 (all_mapped P f g xs h.1))
+all_mapped P f g (x ∷ xs) h = subst (AllByRecursion P) (sym (map-append f (g x) (flat_map g xs))) (each_joined P (map f (g x)) (map f (flat_map g xs)) h.0 (all_mapped P f g xs h.1))
 
 all_over : {A B : Type 0} (P : A → Type 0) (Q : B → Type 0) (f : A → B) → ((x : A) → P x → Q (f x)) → (xs : List A) → AllByRecursion P xs → AllByRecursion Q (map f xs)
 all_over P Q f each [] h = tt
@@ -101,13 +98,6 @@ all_kept P p (x ∷ xs) h = by (p x) refl (all_kept P p xs h.1)
 
 pub same_sides : {a b c d : ℕ} → a ≡ c → b ≡ d → (let p : Sides = (pos a, pos b) in p) ≡ (let p : Sides = (pos c, pos d) in p)
 same_sides e f = cc
-
-if_true : {A : Type 0} (b : Bool) (x y : A) → b ≡ true → (if b then x else y) ≡ x
-if_true b x y e = rw e refl
-
-all_each_of : {A : Type 0} (P Q : A → Type 0) → ((x : A) → P x → Q x) → (xs : List A) → AllByRecursion P xs → AllByRecursion Q xs
-all_each_of P Q each [] h = tt
-all_each_of P Q each (x ∷ xs) h = (each x h.0, all_each_of P Q each xs h.1)
 
 module _ (found : List AnalysisValue) (a : AnalysisValue) (found_there : slice_get found 1 ≡ Some a) (is : IsAnalysis written a) (config : ConfigValue) (said : config_read (program 0) (demo_config 0) ≡ Ok config) (n : ℕ) (some : 1 ≤ n) (few : n ≤ 256) where
   abbrev unrolled : ℕ → List Seat → Met → Unrolled
@@ -163,9 +153,12 @@ module _ (found : List AnalysisValue) (a : AnalysisValue) (found_there : slice_g
         all = omega arith;
         others = omega arith;
         made = (all_over IsOne (λ (s : Spot). 2 ≤ s.base) (λ part. through i (spot_of a.nodes part)) high_part job.parts l.parts, tt);
-        read = (subst (λ (o : Option ℕ). AreLow (map (through i) (boxes_by written sizes o job.parts))) (sym l.rule)
-            (all_mapped (λ (s : Spot). s.base < 2) (through i) (part_boxes written sizes) job.parts
-            (all_each_of IsOne (λ (part : FramePart). AreLow (map (through i) (part_boxes written sizes part))) (λ part p. low_part part (p.3 ∙ leaf)) job.parts l.parts)), tt);
+        read = (
+          subst (λ (o : Option ℕ). AreLow (map (through i) (boxes_by written sizes o job.parts))) (sym l.rule)
+              (all_mapped (λ (s : Spot). s.base < 2) (through i) (part_boxes written sizes) job.parts
+              (each_weaker IsOne (λ (part : FramePart). AreLow (map (through i) (part_boxes written sizes part))) (λ part p. low_part part (p.3 ∙ leaf)) job.parts l.parts)),
+          tt,
+        );
       }
 
       leaf_done : (deeper : Option Unroll) (js : List JobValue) (k : Met) → AllByRecursion (IsLeaf a is config said n h some few tall low leaf) js

@@ -22,6 +22,7 @@ use Rattle.pb_grammar.specs.Want.{after_mark, expression, conjunction, compared,
 use Rattle.pb_demo.specs.Demonstrations.{demo_config}
 use Rattle.pb_demo.proofs.Product.{written}
 use Rattle.pb_demo.proofs.Trees.{program}
+use Rattle.pb_demo_runs.proofs.Lists.{both_true}
 use Rattle.pb_demo_runs.proofs.Roll.{rule_or}
 
 -- ---- the configuration
@@ -72,9 +73,6 @@ nth_rule k = rule_or (slice_get written.rules k)
 or_last : (b : Bool) → (not b || nat_le 0 0) ≡ true
 or_last true = refl
 or_last false = refl
-
-both_true : (a b : Bool) → a ≡ true → b ≡ true → (a && b) ≡ true
-both_true a b p q = rw (p, q) refl
 
 and_true : (a b : Bool) → b ≡ true → (a && b) ≡ a
 and_true true b e = e

@@ -1,6 +1,6 @@
 -- A cell of the product by its rule for single cells, at sizes (n, h, n): the dot product of a row and a column is a number.
-use Rattle.std.proofs.Common.{◌≡◌, ◌∙◌, refl, sym, ap, ap₂, subst, ℕ, zero, suc, ◌+◌, ◌-◌, ◌*◌, ◌≤◌, true, List, [], ◌∷◌, ◌++◌, length, map, take, drop, Option, Result, Ok, ℤ, pos, ◌+ℤ◌, ◌-ℤ◌, ◌*ℤ◌, unsigned_abs, arith}
-use Rattle.std.specs.List.{AllByRecursion, flat_map, range_with_len}
+use Rattle.std.proofs.Common.{◌≡◌, ◌∙◌, refl, sym, ap, ap₂, subst, ℕ, ◌+◌, ◌-◌, ◌*◌, ◌≤◌, true, List, [], ◌∷◌, ◌++◌, length, map, take, drop, Option, Result, Ok, ℤ, pos, ◌+ℤ◌, ◌-ℤ◌, ◌*ℤ◌, unsigned_abs, arith}
+use Rattle.std.specs.List.{AllByRecursion}
 use Rattle.std.proofs.Math.Nat.{mul-le-mul}
 use Rattle.std.proofs.lemmas.Int.{ints, unsigned_abs-mul}
 use Rattle.std.proofs.lemmas.Bool.Decides.{nat_tests}
@@ -20,7 +20,9 @@ use Rattle.pb_views.proofs.CellLemmas.{numbers_are}
 use Rattle.pb_grammar.specs.Want.{after_mark, expression, conjunction, compared, total, product, name_token, dimensions}
 use Rattle.pb_demo.proofs.Product.{written}
 use Rattle.pb_demo_runs.proofs.Halves.{dotting}
-use Rattle.pb_demo_runs.proofs.Nines.{IsNine, IsNumber, each_dropped, each_taken, no_trap_among, numbers_nine}
+use Rattle.pb_demo_runs.proofs.Lists.{each_dropped, each_taken, pairs_count}
+use Rattle.pb_demo_runs.proofs.Nines.{IsNine, IsNumber, no_trap_among, numbers_nine}
+use Rattle.pb_demo_runs.proofs.Settled.{length_range}
 use Rattle.pb_demo_runs.proofs.Roll.{checked_small, nth_out, nth_read, place_extent}
 
 abbrev AreSmall : List ℤ → Type 0
@@ -40,11 +42,10 @@ all_products (v ∷ vs) [] t k a b low few = (t, refl)
 all_products (v ∷ vs) (w ∷ ws) t k a b low few =
     let p = product_small v w a.0 b.0 in
     let next : unsigned_abs (t +ℤ v *ℤ w) ≤ 81 * (k + 1) = omega (arith, sum_small t (v *ℤ w) (81 * k) 81 low p) in
-    let rest = all_products vs ws (t +ℤ v *ℤ w) (k + 1) a.1 b.1 next (omega (arith, few)) in
-    (
+    let rest = all_products vs ws (t +ℤ v *ℤ w) (k + 1) a.1 b.1 next (omega (arith, few)) in (
       rest.0,
       ap (λ (r : Result ℤ Kind). if_ok r (λ p. if_ok (checked_result (t +ℤ p)) (λ next. products next vs ws))) (checked_small (v *ℤ w) (omega (arith, p)))
-      ∙ ap (λ (r : Result ℤ Kind). if_ok r (λ next. products next vs ws)) (checked_small (t +ℤ v *ℤ w) (omega (arith, next, few))) ∙ rest.1,
+          ∙ ap (λ (r : Result ℤ Kind). if_ok r (λ next. products next vs ws)) (checked_small (t +ℤ v *ℤ w) (omega (arith, next, few))) ∙ rest.1,
     )
 
 dotted : (vs ws : List ℤ) → AreSmall vs → AreSmall ws → length vs ≡ length ws → length vs ≤ 256 → (s : ℤ) × (dot_product vs ws ≡ Ok s)
@@ -54,20 +55,15 @@ dotted vs ws a b same few =
     (it.0, rw e it.1)
 
 -- ---- how many cells an area has
-rows_count : {A : Type 0} (f : ℕ → ℕ → A) (xs ys : List ℕ) → length (flat_map (λ y. map (λ x. f x y) xs) ys) ≡ length xs * length ys
-rows_count f xs [] = omega arith
-rows_count f xs (y ∷ ys) = let rest = rows_count f xs ys in omega (arith, rest, length-append (map (λ x. f x y) xs) (flat_map (λ y. map (λ x. f x y) xs) ys), length-map xs (λ x. f x y))
-
-length_range : (k len : ℕ) → length (range_with_len k len) ≡ len
-length_range k zero = refl
-length_range k (suc len) = ap suc (length_range (k + 1) len)
+swap : (a b : ℕ) → a * b ≡ b * a
+swap a b = grind arith
 
 pub area_count : (m : ℕ) (a : Area) (x0 x1 y0 y1 : ℕ) → pos x0 ≡ a.x.low → pos x1 ≡ a.x.high → pos y0 ≡ a.y.low → pos y1 ≡ a.y.high → x0 ≤ x1 → y0 ≤ y1 → length (cells_of m a) ≡ (x1 - x0) * (y1 - y0)
 unfolding cells_of
 area_count m a x0 x1 y0 y1 left right low high across down =
     let xs = numbers_are a.x x0 x1 left right across in
     let ys = numbers_are a.y y0 y1 low high down in
-    rows_count (λ x y. (let c : Cell = record { matrix = m; x = x; y = y } in c)) (numbers_of a.x) (numbers_of a.y)
+    pairs_count (λ y x. (let c : Cell = record { matrix = m; x = x; y = y } in c)) (numbers_of a.x) (numbers_of a.y) ∙ swap (length (numbers_of a.y)) (length (numbers_of a.x))
     ∙ ap₂ (λ (u v : ℕ). u * v) (ap length xs ∙ length_range x0 (x1 - x0)) (ap length ys ∙ length_range y0 (y1 - y0))
 
 -- ---- the rule

@@ -18,7 +18,8 @@ use Rattle.pb_demo.proofs.Accepted.{multiply_accepted, roll_accepted}
 use Rattle.pb_demo.proofs.Trees.{program}
 use Rattle.pb_demo_runs.specs.Sums.{IsSmallMatrix, IsSmallRow, made_cell, matrix, row, sum_of, sum_to}
 use Rattle.pb_demo_runs.proofs.Roll.{sigma, sigma_more, sigma_none}
-use Rattle.pb_demo_runs.proofs.Nines.{All as AllMatrices, IsNine, IsNumber, each_mapped, none_trapped_of}
+use Rattle.pb_demo_runs.proofs.Lists.{each_mapped}
+use Rattle.pb_demo_runs.proofs.Nines.{All as AllMatrices, IsNine, IsNumber, none_trapped_of}
 use Rattle.pb_demo_runs.proofs.Products.{IsGiven, square_untrapped}
 use Rattle.pb_demo_runs.proofs.Rolls.{sums, untrapped}
 

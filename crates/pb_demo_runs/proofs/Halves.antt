@@ -1,5 +1,5 @@
 -- The plan that halves the rows of a product: its calls, and what they are given, at sizes (n, h, n).
-use Rattle.std.proofs.Common.{◌≡◌, ◌∙◌, refl, ap, ap₂, subst, ℕ, ◌+◌, ◌-◌, ◌/◌, ◌≤◌, Bool, true, false, ◌&&◌, List, [], ◌∷◌, map, take, drop, slice_get, Option, Some, ℤ, pos, arith}
+use Rattle.std.proofs.Common.{◌≡◌, ◌∙◌, refl, ap, ap₂, subst, ℕ, ◌+◌, ◌-◌, ◌/◌, ◌≤◌, true, false, ◌&&◌, List, [], ◌∷◌, map, take, drop, slice_get, Option, Some, ℤ, pos, arith}
 use Rattle.std.specs.Prelude.{nat_le}
 use Rattle.std.specs.Option.{option_map_or}
 use Rattle.std.proofs.lemmas.Int.{ints}
@@ -16,6 +16,7 @@ use Rattle.pb_grammar.specs.Want.{after_mark, expression, conjunction, compared,
 use Rattle.pb_demo.proofs.Entries.{multiply_there}
 use Rattle.pb_demo.proofs.Product.{is_written, written}
 use Rattle.pb_demo.proofs.Trees.{program}
+use Rattle.pb_demo_runs.proofs.Lists.{both_true}
 use Rattle.pb_demo_runs.proofs.Choice.{nth_rule}
 
 abbrev pub dotting : ProgRule
@@ -48,9 +49,6 @@ two_sides e f = cc
 
 one_equal : {a p : Sides} → a ≡ p → a ∷ [] ≡ p ∷ []
 one_equal e = cc
-
-both_true : (a b : Bool) → a ≡ true → b ≡ true → (a && b) ≡ true
-both_true a b p q = rw (p, q) refl
 
 two_equal : {a b p q : Sides} → a ≡ p → b ≡ q → a ∷ b ∷ [] ≡ p ∷ q ∷ []
 two_equal e f = cc

@@ -1,3 +1,4 @@
+pub mod Lists
 pub mod Roll
 pub mod Choice
 pub mod Halves

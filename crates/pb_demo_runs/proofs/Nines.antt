@@ -1,5 +1,5 @@
 -- Matrices whose cells are numbers, and of them those whose numbers are from -9 to 9.
-use Rattle.std.proofs.Common.{◌≡◌, refl, ℕ, zero, suc, ◌+◌, ◌*◌, ◌≤◌, nat_lt, Bool, true, false, ◌&&◌, List, [], ◌∷◌, ◌++◌, map, take, drop, slice_get, None, unsigned_abs}
+use Rattle.std.proofs.Common.{◌≡◌, refl, ℕ, zero, suc, ◌+◌, ◌*◌, ◌≤◌, nat_lt, Bool, true, false, ◌&&◌, List, [], ◌∷◌, map, slice_get, None, unsigned_abs}
 use Rattle.std.specs.Prelude.{if◌then◌else◌, slice_index_or, unwrap_or}
 use Rattle.std.specs.List.{AllByRecursion}
 use Rattle.pb_values.specs.declared.outcome.Outcome.{Outcome}
@@ -23,28 +23,6 @@ Holds P m = AllByRecursion P m.cells
 
 abbrev pub All : (Outcome → Type 0) → List Outcomes → Type 0
 All P ms = AllByRecursion (Holds P) ms
-
-pub each_weaker : {A : Type 0} (P Q : A → Type 0) → ((x : A) → P x → Q x) → (xs : List A) → AllByRecursion P xs → AllByRecursion Q xs
-each_weaker P Q weaker [] h = tt
-each_weaker P Q weaker (x ∷ xs) h = (weaker x h.0, each_weaker P Q weaker xs h.1)
-
-pub each_mapped : {A B : Type 0} (P : B → Type 0) (f : A → B) → ((x : A) → P (f x)) → (xs : List A) → AllByRecursion P (map f xs)
-each_mapped P f each [] = tt
-each_mapped P f each (x ∷ xs) = (each x, each_mapped P f each xs)
-
-pub each_joined : {A : Type 0} (P : A → Type 0) (xs ys : List A) → AllByRecursion P xs → AllByRecursion P ys → AllByRecursion P (xs ++ ys)
-each_joined P [] ys h k = k
-each_joined P (x ∷ xs) ys h k = (h.0, each_joined P xs ys h.1 k)
-
-pub each_taken : {A : Type 0} (P : A → Type 0) (n : ℕ) (xs : List A) → AllByRecursion P xs → AllByRecursion P (take n xs)
-each_taken P zero xs h = tt
-each_taken P (suc n) [] h = tt
-each_taken P (suc n) (x ∷ xs) h = (h.0, each_taken P n xs h.1)
-
-pub each_dropped : {A : Type 0} (P : A → Type 0) (n : ℕ) (xs : List A) → AllByRecursion P xs → AllByRecursion P (drop n xs)
-each_dropped P zero xs h = h
-each_dropped P (suc n) [] h = tt
-each_dropped P (suc n) (x ∷ xs) h = each_dropped P n xs h.1
 
 -- ---- what stands in such matrices
 module _ (P : Outcome → Type 0) (none : P no_outcome) where

@@ -16,7 +16,7 @@ use Rattle.pb_model.specs.Calls.{made_cells, matrix_cells}
 use Rattle.pb_model.specs.Cells.{Cell, cells_of, cells_of_view, natural, numbers_of, reads}
 use Rattle.pb_demo.proofs.Product.{written}
 use Rattle.pb_demo.proofs.Sound.{decl_or}
-use Rattle.pb_demo_runs.proofs.Nines.{each_joined, each_mapped}
+use Rattle.pb_demo_runs.proofs.Lists.{each_joined, each_mapped}
 
 -- the one matrix that it makes
 pub matrix_is : (n h m : ℕ) (d : DeclValue) → 2 ≤ m → slice_get written.matrices m ≡ Some d → (m ≡ 2) × (exact_value d.w (n ∷ h ∷ n ∷ []) ≡ pos n) × (exact_value d.h (n ∷ h ∷ n ∷ []) ≡ pos h)

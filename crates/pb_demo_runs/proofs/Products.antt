@@ -42,7 +42,8 @@ use Rattle.pb_demo_runs.proofs.Choice.{chosen_is, high_picks, low_picks, picks, 
 use Rattle.pb_demo_runs.proofs.Dots.{area_count, is_number, pair_of, reads_count}
 use Rattle.pb_demo_runs.proofs.Halves.{calls_are, dotting, dotting_there, enters, halving, halving_there, lower, lower_fits, reads_are, sizes_are, upper, upper_fits, written_there}
 use Rattle.pb_demo_runs.proofs.Made.{made_numbers}
-use Rattle.pb_demo_runs.proofs.Nines.{All, Holds, IsNine, IsNumber, at_any, each_dropped, each_joined, each_taken}
+use Rattle.pb_demo_runs.proofs.Lists.{each_dropped, each_joined, each_taken, if_true}
+use Rattle.pb_demo_runs.proofs.Nines.{All, Holds, IsNine, IsNumber, at_any}
 use Rattle.pb_demo_runs.proofs.Places.{IsLow, is_made, reads_low}
 use Rattle.pb_demo_runs.proofs.Roll.{nth_read}
 use Rattle.pb_demo_runs.proofs.Settled.{as_rule}
@@ -83,9 +84,6 @@ outputs_number t sizes m each c k (o ∷ outs) = by (output_holds t.matrices siz
     by true x y later = at_any IsNumber tt (m (slot.Out k)) x y (each k)
     by false x y later = later
 
-if_true : {A : Type 0} (b : Bool) (x y : A) → b ≡ true → (if b then x else y) ≡ x
-if_true b x y e = rw e refl
-
 -- ---- matrices that are given: all their cells are there, from -9 to 9
 pub record IsGiven (w h : ℕ) (m : Outcomes) : Type 0 where
   pub width : m.width ≡ w
@@ -109,7 +107,7 @@ seen_nine : (f : Cell → Outcome) → ((c : Cell) → IsLow c → IsNine (f c))
 seen_nine f each [] h = tt
 seen_nine f each (c ∷ cs) h = (each c h.0, seen_nine f each cs h.1)
 
-well : IsWellFormed (program 0)
+pub well : IsWellFormed (program 0)
 well = formed (text_of 0) (program 0) multiply_accepted
 
 ordered : IsOrdered written

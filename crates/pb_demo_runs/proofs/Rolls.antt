@@ -36,7 +36,8 @@ use Rattle.pb_demo.proofs.Sound.{decl_or, roll, roll_leasts}
 use Rattle.pb_demo.proofs.Trees.{program}
 use Rattle.pb_demo_runs.proofs.Roll.{AreNine, row_of, sigma, the_cell}
 use Rattle.pb_demo_runs.proofs.Made.{made_numbers}
-use Rattle.pb_demo_runs.proofs.Nines.{All, IsNumber, each_mapped, none_trapped_of}
+use Rattle.pb_demo_runs.proofs.Lists.{each_mapped}
+use Rattle.pb_demo_runs.proofs.Nines.{All, IsNumber, none_trapped_of}
 use Rattle.pb_demo_runs.proofs.Settled.{all_sums, given_cell, length_range}
 
 abbrev pub made : DeclValue
@@ -86,6 +87,12 @@ in_range k len x low high = (x - k, omega (arith, low, high, length_range k len)
     at k (suc len) zero d below = omega arith
     at k (suc len) (suc i) d below = at (k + 1) len i d (omega (arith, below)) ∙ omega arith
 
+pub well : IsWellFormed (program 1)
+well = formed (text_of 1) (program 1) roll_accepted
+
+ordered : IsOrdered roll
+ordered = all_at IsOrdered (program 1) 0 roll roll_accepted.sound.ordered roll_there
+
 -- ---- its matrices
 module _ (n : ℕ) (some : 1 ≤ n) (few : n ≤ SIZE_TOP) (vs : List ℤ) (count : length vs ≡ n) (small : ListAll (λ z. unsigned_abs z ≤ 9) vs) where
   abbrev pub line : Outcomes
@@ -134,12 +141,6 @@ module _ (n : ℕ) (some : 1 ≤ n) (few : n ≤ SIZE_TOP) (vs : List ℤ) (coun
 
   -- ---- its run
   module _ (config : ConfigValue) (valid : IsValid (program 1) config) (depth : ℕ) where
-    well : IsWellFormed (program 1)
-    well = formed (text_of 1) (program 1) roll_accepted
-
-    ordered : IsOrdered roll
-    ordered = all_at IsOrdered (program 1) 0 roll roll_accepted.sound.ordered roll_there
-
     lawful_at : (x : ℕ) → x < n → IsLawful roll (n ∷ []) (the_cell x) (chosen_rule config 0 roll (n ∷ []) (the_cell x))
     lawful_at x below =
         chosen_lawful (program 1) config 0 roll (n ∷ []) (the_cell x) valid
