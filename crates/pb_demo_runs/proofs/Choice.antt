@@ -122,7 +122,7 @@ module _ (n h x y : ℕ) (across : x < n) (down : y < h) where
 
   zeroth_applies : Applies written.matrices (nth_rule 0) sizes (pos x) (pos y)
   unfolding value_before
-  zeroth_applies = (omega (arith, ints), (omega (arith, ints, across), (omega (arith, ints), (omega (arith, ints, down), (omega (arith, ints), (omega (arith, ints, down), (omega (arith, ints), (omega (arith, ints, across), tt))))))))
+  zeroth_applies = grind (arith, ints, across, down)
 
   zeroth : can_make written.matrices sizes cell (nth_rule 0) ≡ true
   zeroth = (can_test written.matrices sizes cell (nth_rule 0)).1 (record { writes = refl; applies = zeroth_applies })
@@ -131,7 +131,7 @@ module _ (n h x y : ℕ) (across : x < n) (down : y < h) where
     first_applies : Applies written.matrices (nth_rule 1) sizes (pos x) (pos y)
     unfolding value_before
     first_applies =
-        (omega (arith, ints), (omega (arith, ints), (omega (arith, ints), (omega (arith, ints), (omega (arith, ints), (omega (arith, ints), (omega (arith, ints), (omega (arith, ints), (omega (arith, ints), (omega (arith, ints), (omega (arith, ints), (omega (arith, ints), (omega (arith, ints), (omega (arith, ints), (omega (arith, ints), (omega (arith, ints), (omega (arith, ints), (omega (arith, ints), (omega (arith, ints), (omega (arith, ints), (omega (arith, ints), (omega (arith, ints), (omega (arith, ints), (omega (arith, ints), (omega (arith, ints, wide), tt)))))))))))))))))))))))))
+        grind (arith, ints, wide)
 
     first : can_make written.matrices sizes cell (nth_rule 1) ≡ true
     unfolding value_before
@@ -143,7 +143,7 @@ module _ (n h x y : ℕ) (across : x < n) (down : y < h) where
     second_applies : Applies written.matrices (nth_rule 2) sizes (pos x) (pos y)
     unfolding value_before
     second_applies =
-        (omega (arith, ints), (omega (arith, ints), (omega (arith, ints), (omega (arith, ints), (omega (arith, ints), (omega (arith, ints), (omega (arith, ints), (omega (arith, ints), (omega (arith, ints), (omega (arith, ints), (omega (arith, ints), (omega (arith, ints), (omega (arith, ints), (omega (arith, ints), (omega (arith, ints), (omega (arith, ints), (omega (arith, ints), (omega (arith, ints), (omega (arith, ints), (omega (arith, ints), (omega (arith, ints), (omega (arith, ints), (omega (arith, ints), (omega (arith, ints), (omega (arith, ints, wide), tt)))))))))))))))))))))))))
+        grind (arith, ints, wide)
 
     second_writes : (x < n / 2) ⊎ (n / 2 ≤ x) → list_any (output_holds written.matrices sizes cell) (nth_rule 2).outs ≡ true
     unfolding value_before
@@ -156,7 +156,7 @@ module _ (n h x y : ℕ) (across : x < n) (down : y < h) where
   third_applies : 2 ≤ h → Applies written.matrices (nth_rule 3) sizes (pos x) (pos y)
   unfolding value_before
   third_applies tall =
-      (omega (arith, ints), (omega (arith, ints), (omega (arith, ints), (omega (arith, ints), (omega (arith, ints), (omega (arith, ints), (omega (arith, ints), (omega (arith, ints), (omega (arith, ints), (omega (arith, ints), (omega (arith, ints), (omega (arith, ints), (omega (arith, ints), (omega (arith, ints), (omega (arith, ints), (omega (arith, ints), (omega (arith, ints), (omega (arith, ints), (omega (arith, ints), (omega (arith, ints), (omega (arith, ints), (omega (arith, ints), (omega (arith, ints), (omega (arith, ints), (omega (arith, ints, tall), tt)))))))))))))))))))))))))
+      grind (arith, ints, tall)
 
   third_writes : (y < h / 2) ⊎ (h / 2 ≤ y) → list_any (output_holds written.matrices sizes cell) (nth_rule 3).outs ≡ true
   unfolding value_before

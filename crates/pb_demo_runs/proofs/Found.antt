@@ -19,7 +19,7 @@ use Rattle.pb_demo.proofs.Trees.{program}
 use Rattle.pb_demo_runs.specs.Sums.{IsSmallMatrix, IsSmallRow, made_cell, matrix, row, sum_of, sum_to}
 use Rattle.pb_demo_runs.proofs.Roll.{sigma, sigma_more, sigma_none}
 use Rattle.pb_demo_runs.proofs.Lists.{each_mapped}
-use Rattle.pb_demo_runs.proofs.Nines.{All as AllMatrices, IsNine, IsNumber, none_trapped_of}
+use Rattle.pb_demo_runs.proofs.Nines.{AllHold, IsNine, IsNumber, none_trapped_of}
 use Rattle.pb_demo_runs.proofs.Products.{IsGiven, square_untrapped}
 use Rattle.pb_demo_runs.proofs.Rolls.{sums, untrapped}
 
@@ -68,7 +68,7 @@ module _ (p : List ProgTransform) (config : ConfigValue) (depth n : ℕ) (left r
   said_too : config_read (program 0) (demo_config 0) ≡ Ok config
   said_too = subst (λ q. config_read q (demo_config 0) ≡ Ok config) (sym same_product) said
 
-  numbers_alone : AllMatrices IsNumber (matrix n left ∷ matrix n right ∷ call_at (program 0) config depth 1 (matrix n left ∷ matrix n right ∷ []))
+  numbers_alone : AllHold IsNumber (matrix n left ∷ matrix n right ∷ call_at (program 0) config depth 1 (matrix n left ∷ matrix n right ∷ []))
   numbers_alone = (
     each_mapped IsNumber Value (λ z. tt) left,
     (

@@ -11,7 +11,7 @@ use Rattle.pb_program.specs.Trees.{ProgTransform}
 use Rattle.pb_model.specs.Calls.{Outcomes, Plans, call_of, cell_outcome, cells_from, made_cells, made_from, matrix_cells, no_outcome, outcome_in}
 use Rattle.pb_model.specs.Cells.{Cell}
 use Rattle.pb_model.proofs.CallLemmas.{here_is}
-use Rattle.pb_demo_runs.proofs.Nines.{All, IsNumber}
+use Rattle.pb_demo_runs.proofs.Nines.{AllHold, IsNumber}
 
 each_of : {A B : Type 0} (P : B → Type 0) (f : A → B) (xs : List A) → ((x : A) → Contains xs x → P (f x)) → AllByRecursion P (map f xs)
 each_of P f [] each = tt
@@ -21,14 +21,14 @@ module _ (config : ConfigValue) (plans : Plans) (number : ℕ) (t : ProgTransfor
   abbrev own : Cell → Outcome
   own = cell_outcome config plans number t sizes ins
 
-  from_numbers : (m : ℕ) (ds : List DeclValue) → ((c : Cell) → Contains (cells_from sizes m ds) c → IsNumber (own c)) → All IsNumber (made_from config plans number t sizes ins m ds)
+  from_numbers : (m : ℕ) (ds : List DeclValue) → ((c : Cell) → Contains (cells_from sizes m ds) c → IsNumber (own c)) → AllHold IsNumber (made_from config plans number t sizes ins m ds)
   from_numbers m [] each = tt
   from_numbers m (d ∷ ds) each = (
     each_of IsNumber own (matrix_cells sizes m d) (λ c has. each c (Contains-append_left (matrix_cells sizes m d) (cells_from sizes (m + 1) ds) c has)),
     from_numbers (m + 1) ds (λ c has. each c (Contains-append_right (matrix_cells sizes m d) (cells_from sizes (m + 1) ds) c has)),
   )
 
-  pub made_numbers : length ins ≡ t.inputs → ((c : Cell) → Contains (made_cells t sizes) c → IsNumber (outcome_in (ins ++ call_of config plans number t sizes ins) c)) → All IsNumber (call_of config plans number t sizes ins)
+  pub made_numbers : length ins ≡ t.inputs → ((c : Cell) → Contains (made_cells t sizes) c → IsNumber (outcome_in (ins ++ call_of config plans number t sizes ins) c)) → AllHold IsNumber (call_of config plans number t sizes ins)
   unfolding call_of made_cells
   made_numbers room each =
       from_numbers t.inputs (drop t.inputs t.matrices)

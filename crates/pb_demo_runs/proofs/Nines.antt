@@ -21,8 +21,8 @@ IsNine (Trapped t) = ⊥
 abbrev pub Holds : (Outcome → Type 0) → Outcomes → Type 0
 Holds P m = AllByRecursion P m.cells
 
-abbrev pub All : (Outcome → Type 0) → List Outcomes → Type 0
-All P ms = AllByRecursion (Holds P) ms
+abbrev pub AllHold : (Outcome → Type 0) → List Outcomes → Type 0
+AllHold P ms = AllByRecursion (Holds P) ms
 
 -- ---- what stands in such matrices
 module _ (P : Outcome → Type 0) (none : P no_outcome) where
@@ -38,17 +38,17 @@ module _ (P : Outcome → Type 0) (none : P no_outcome) where
       by true = or_none g.cells (y * g.width + x) h
       by false = none
 
-  any_matrix : (ms : List Outcomes) (k : ℕ) → All P ms → Holds P (slice_index_or ms k no_grid)
+  any_matrix : (ms : List Outcomes) (k : ℕ) → AllHold P ms → Holds P (slice_index_or ms k no_grid)
   any_matrix [] k h = tt
   any_matrix (m ∷ ms) zero h = h.0
   any_matrix (m ∷ ms) (suc k) h = any_matrix ms k h.1
 
-  pub outcome_any : (ms : List Outcomes) (c : Cell) → All P ms → P (outcome_in ms c)
+  pub outcome_any : (ms : List Outcomes) (c : Cell) → AllHold P ms → P (outcome_in ms c)
   unfolding in_matrices
   outcome_any ms c h = at_any (slice_index_or ms c.matrix no_grid) c.x c.y (any_matrix ms c.matrix h)
 
 -- no cell of them is trapped
-pub none_trapped_of : (ms : List Outcomes) → All IsNumber ms → (cells : List Cell) → first_trapped ms cells ≡ None
+pub none_trapped_of : (ms : List Outcomes) → AllHold IsNumber ms → (cells : List Cell) → first_trapped ms cells ≡ None
 none_trapped_of ms numbers [] = refl
 none_trapped_of ms numbers (c ∷ cells) = by (outcome_in ms c) (outcome_any IsNumber tt ms c numbers) (none_trapped_of ms numbers cells)
   where

@@ -2,7 +2,7 @@
 use Rattle.std.proofs.Common.{◌≡◌, ◌∙◌, refl, sym, ap, ap₂, subst, inl, inr, ℕ, zero, suc, ◌+◌, ◌-◌, ◌*◌, ◌/◌, ◌^◌, ◌≤◌, ◌<◌, Bool, true, false, List, [], ◌∷◌, ◌++◌, length, map, take, drop, slice_get, Option, Some, Ok, pos, arith}
 use Rattle.std.specs.Prelude.{if◌then◌else◌, unwrap_or}
 use Rattle.std.specs.Prelude.{◌==◌}
-use Rattle.std.specs.List.{All as ListAll, AllByRecursion, Contains, zip}
+use Rattle.std.specs.List.{All, AllByRecursion, Contains, zip}
 use Rattle.std.specs.Option.{option_map_or}
 use Rattle.std.proofs.lemmas.Bool.{cases_lt}
 use Rattle.std.proofs.lemmas.Int.{ints}
@@ -43,7 +43,7 @@ use Rattle.pb_demo_runs.proofs.Dots.{area_count, is_number, pair_of, reads_count
 use Rattle.pb_demo_runs.proofs.Halves.{calls_are, dotting, dotting_there, enters, halving, halving_there, lower, lower_fits, reads_are, sizes_are, upper, upper_fits, written_there}
 use Rattle.pb_demo_runs.proofs.Made.{made_numbers}
 use Rattle.pb_demo_runs.proofs.Lists.{each_dropped, each_joined, each_taken, if_true}
-use Rattle.pb_demo_runs.proofs.Nines.{All, Holds, IsNine, IsNumber, at_any}
+use Rattle.pb_demo_runs.proofs.Nines.{AllHold, Holds, IsNine, IsNumber, at_any}
 use Rattle.pb_demo_runs.proofs.Places.{IsLow, is_made, reads_low}
 use Rattle.pb_demo_runs.proofs.Roll.{nth_read}
 use Rattle.pb_demo_runs.proofs.Settled.{as_rule}
@@ -72,7 +72,7 @@ named_outs ((slot.Out j, m) ∷ ns) h k = by (j == k) h.0 (named_outs ns h.1 k)
     by true here later = here
     by false here later = later
 
-zip_outs : (k : ℕ) (ms : List Outcomes) → All IsNumber ms → AllByRecursion OutHolds (zip (slot.Out k ∷ []) ms)
+zip_outs : (k : ℕ) (ms : List Outcomes) → AllHold IsNumber ms → AllByRecursion OutHolds (zip (slot.Out k ∷ []) ms)
 zip_outs k [] h = tt
 zip_outs k (m ∷ ms) h = (h.0, tt)
 
@@ -115,7 +115,7 @@ ordered = all_at IsOrdered (program 0) 1 written multiply_accepted.sound.ordered
 
 module _ (config : ConfigValue) (said : config_read (program 0) (demo_config 0) ≡ Ok config) (valid : IsValid (program 0) config) (n : ℕ) (some : 1 ≤ n) (few : n ≤ 256) where
   abbrev Untrapped : ℕ → ℕ → Type 0
-  Untrapped d h = (a b : Outcomes) → IsGiven n h a → IsGiven n n b → All IsNumber (call_at (program 0) config d 1 (a ∷ b ∷ []))
+  Untrapped d h = (a b : Outcomes) → IsGiven n h a → IsGiven n n b → AllHold IsNumber (call_at (program 0) config d 1 (a ∷ b ∷ []))
 
   -- ---- a call, whose cells are numbers if each cell's equation gives one
   module _ (d h : ℕ) (tall : 1 ≤ h) (low : h ≤ n) (a b : Outcomes) (of_a : IsGiven n h a) (of_b : IsGiven n n b) where
@@ -131,7 +131,7 @@ module _ (config : ConfigValue) (said : config_read (program 0) (demo_config 0) 
     sizes_same : sizes_given written ins ≡ sizes
     sizes_same = ap (sizes_from written) sides_are ∙ sizes_are n h
 
-    all_whole : ListAll IsWhole ins
+    all_whole : All IsWhole ins
     all_whole = all_of IsWhole ins (of_a.whole, (of_b.whole, tt))
 
     abbrev plans : Plans
@@ -152,8 +152,8 @@ module _ (config : ConfigValue) (said : config_read (program 0) (demo_config 0) 
     abbrev seen_by : ProgRule → Cell → List Outcome
     seen_by r c = map (outcome_in (ins ++ made)) (reads written.matrices sizes c r)
 
-    all_numbers : ((c : Cell) → Contains (made_cells written sizes) c → IsNumber (cell_equation config plans 1 written sizes c (map (outcome_in (ins ++ made)) (cell_reads config plans 1 written sizes c)))) → All IsNumber (call_at (program 0) config d 1 ins)
-    all_numbers each = subst (All IsNumber) (sym made_is) (made_numbers config plans 1 written sizes ins refl (λ c has. subst IsNumber (sym (settled.equation c has)) (each c has)))
+    all_numbers : ((c : Cell) → Contains (made_cells written sizes) c → IsNumber (cell_equation config plans 1 written sizes c (map (outcome_in (ins ++ made)) (cell_reads config plans 1 written sizes c)))) → AllHold IsNumber (call_at (program 0) config d 1 ins)
+    all_numbers each = subst (AllHold IsNumber) (sym made_is) (made_numbers config plans 1 written sizes ins refl (λ c has. subst IsNumber (sym (settled.equation c has)) (each c has)))
 
     chosen_of : (c : Cell) → Contains (made_cells written sizes) c → chosen_rule config 1 written sizes c ≡ picks n h
     chosen_of c has = let it = is_made n h c has in ap (chosen_rule config 1 written sizes) it.0 ∙ chosen_is config said n h low c.x c.y it.1 it.2
@@ -162,7 +162,7 @@ module _ (config : ConfigValue) (said : config_read (program 0) (demo_config 0) 
     seen_small r views c = seen_nine (outcome_in (ins ++ made)) (low_nine a b made of_a.nine of_b.nine) (reads written.matrices sizes c r) (reads_low written.matrices sizes c r views)
 
     -- by the rule for single cells
-    pub dots_untrapped : picks n h ≡ 0 → All IsNumber (call_at (program 0) config d 1 ins)
+    pub dots_untrapped : picks n h ≡ 0 → AllHold IsNumber (call_at (program 0) config d 1 ins)
     dots_untrapped leaf = all_numbers (λ c has.
         let it = is_made n h c has in
         let count : (x y : ℕ) → c ≡ record { matrix = 2; x = x; y = y } → length (seen_by dotting c) ≡ n + n = λ x y e. length-map (reads written.matrices sizes c dotting) (outcome_in (ins ++ made)) ∙ ap (λ (q : Cell). length (reads written.matrices sizes q dotting)) e ∙ reads_count n h x y few in
@@ -172,7 +172,7 @@ module _ (config : ConfigValue) (said : config_read (program 0) (demo_config 0) 
 
     -- ---- by the plan that halves rows
     module _ (plan : picks n h ≡ 3) (two : 2 ≤ h) (deeper : Call) (c : Cell) (seen : List Outcome) (nine : AllByRecursion IsNine seen) (count : length seen ≡ n * (h / 2) + n * (h - h / 2) + n * n)
-        (of_upper : (x y : Outcomes) → IsGiven n (h / 2) x → IsGiven n n y → All IsNumber (deeper 1 (x ∷ y ∷ []))) (of_lower : (x y : Outcomes) → IsGiven n (h - h / 2) x → IsGiven n n y → All IsNumber (deeper 1 (x ∷ y ∷ []))) where
+        (of_upper : (x y : Outcomes) → IsGiven n (h / 2) x → IsGiven n n y → AllHold IsNumber (deeper 1 (x ∷ y ∷ []))) (of_lower : (x y : Outcomes) → IsGiven n (h - h / 2) x → IsGiven n n y → AllHold IsNumber (deeper 1 (x ∷ y ∷ []))) where
       abbrev after_first : List Outcome
       after_first = drop (n * (h / 2)) seen
 
@@ -215,13 +215,13 @@ module _ (config : ConfigValue) (said : config_read (program 0) (demo_config 0) 
       past_upper [] k = refl
       past_upper (m ∷ ms) k = refl
 
-      upper_numbers : All IsNumber (make upper (first ∷ third ∷ []))
-      upper_numbers = subst (All IsNumber) (sym (if_true _ _ _ (upper_fits n h some few two low))) (each_dropped (Holds IsNumber) _ (deeper 1 (first ∷ third ∷ [])) (of_upper first third first_given third_given))
+      upper_numbers : AllHold IsNumber (make upper (first ∷ third ∷ []))
+      upper_numbers = subst (AllHold IsNumber) (sym (if_true _ _ _ (upper_fits n h some few two low))) (each_dropped (Holds IsNumber) _ (deeper 1 (first ∷ third ∷ [])) (of_upper first third first_given third_given))
 
-      lower_numbers : (gs : List Outcomes) → gs ≡ second ∷ third ∷ [] → All IsNumber (make lower gs)
+      lower_numbers : (gs : List Outcomes) → gs ≡ second ∷ third ∷ [] → AllHold IsNumber (make lower gs)
       lower_numbers gs e =
-          subst (All IsNumber) (sym (if_true _ _ _ (lower_fits n h some few two low)))
-          (each_dropped (Holds IsNumber) _ (deeper 1 gs) (subst (λ ms. All IsNumber (deeper 1 ms)) (sym e) (of_lower second third second_given third_given)))
+          subst (AllHold IsNumber) (sym (if_true _ _ _ (lower_fits n h some few two low)))
+          (each_dropped (Holds IsNumber) _ (deeper 1 gs) (subst (λ ms. AllHold IsNumber (deeper 1 ms)) (sym e) (of_lower second third second_given third_given)))
 
       abbrev both_names : Names Outcomes
       both_names = after_calls no_grid make (upper ∷ lower ∷ []) names

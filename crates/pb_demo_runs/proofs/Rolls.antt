@@ -1,6 +1,6 @@
 -- The run of the rolling sum.
 use Rattle.std.proofs.Common.{◌≡◌, refl, sym, ◌∙◌, ap, subst, ℕ, zero, suc, ◌+◌, ◌-◌, ◌*◌, ◌≤◌, ◌<◌, nat_lt, true, List, [], ◌∷◌, ◌++◌, length, map, get_or, slice_get, Some, None, ℤ, pos, unsigned_abs, arith}
-use Rattle.std.specs.List.{All as ListAll, Contains, range_with_len}
+use Rattle.std.specs.List.{All, Contains, range_with_len}
 use Rattle.std.proofs.lemmas.Int.{ints}
 use Rattle.std.proofs.lemmas.Bool.Decides.{nat_tests}
 use Rattle.std.proofs.lemmas.List.{append-nil, length-map}
@@ -37,7 +37,7 @@ use Rattle.pb_demo.proofs.Trees.{program}
 use Rattle.pb_demo_runs.proofs.Roll.{AreNine, row_of, sigma, the_cell}
 use Rattle.pb_demo_runs.proofs.Made.{made_numbers}
 use Rattle.pb_demo_runs.proofs.Lists.{each_mapped}
-use Rattle.pb_demo_runs.proofs.Nines.{All, IsNumber, none_trapped_of}
+use Rattle.pb_demo_runs.proofs.Nines.{AllHold, IsNumber, none_trapped_of}
 use Rattle.pb_demo_runs.proofs.Settled.{all_sums, given_cell, length_range}
 
 abbrev pub made : DeclValue
@@ -94,7 +94,7 @@ ordered : IsOrdered roll
 ordered = all_at IsOrdered (program 1) 0 roll roll_accepted.sound.ordered roll_there
 
 -- ---- its matrices
-module _ (n : ℕ) (some : 1 ≤ n) (few : n ≤ SIZE_TOP) (vs : List ℤ) (count : length vs ≡ n) (small : ListAll (λ z. unsigned_abs z ≤ 9) vs) where
+module _ (n : ℕ) (some : 1 ≤ n) (few : n ≤ SIZE_TOP) (vs : List ℤ) (count : length vs ≡ n) (small : All (λ z. unsigned_abs z ≤ 9) vs) where
   abbrev pub line : Outcomes
   line = record { width = n; height = 1; cells = map Value vs }
 
@@ -168,9 +168,9 @@ module _ (n : ℕ) (some : 1 ≤ n) (few : n ≤ SIZE_TOP) (vs : List ℤ) (coun
         let x = map_in the_cell (range_with_len 0 n) c (subst (λ cs. Contains cs c) (cells_are n) has) in
         subst (λ q. IsNumber (outcome_in ((line ∷ []) ++ made_by_it) q)) x.2 (subst IsNumber (sym (sums x.0 (range_in n x.0 x.1))) tt)
 
-    made_alone : All IsNumber made_by_it
+    made_alone : AllHold IsNumber made_by_it
     made_alone =
-        subst (All IsNumber) (sym made_is)
+        subst (AllHold IsNumber) (sym made_is)
         (made_numbers config (plans_at (program 1) config depth 0 roll (n ∷ [])) 0 roll (n ∷ []) (line ∷ []) (sym one_input) (λ c has. subst (λ (ms : List Outcomes). IsNumber (outcome_in ((line ∷ []) ++ ms) c)) made_is (each_number c has)))
 
     pub untrapped : (cells : List Cell) → first_trapped ((line ∷ []) ++ made_by_it) cells ≡ None
